@@ -1,0 +1,15 @@
+pub mod Choices
+pub mod Contents
+pub mod Numbers
+pub mod RunFacts
+pub mod ByteFacts
+pub mod Names
+pub mod Explained
+pub mod Integers
+pub mod Strings
+pub mod Signs
+pub mod Pieces
+pub mod Again
+pub mod Files
+pub mod FileLaws
+pub mod Longest

@@ -1,0 +1,7 @@
+pub mod Bytes
+pub mod Letters
+pub mod Runs
+pub mod Spelling
+pub mod Faults
+pub mod Reading
+pub mod Laws
