@@ -1,0 +1,251 @@
+-- Readings of the parts of statements, and of the statements with no statement in them.
+use Rattle.std.proofs.Common.{◌≡◌, ℕ, Bool, true, false, not, ◌⊎◌, inl, inr, if◌then◌else◌, List, [], ◌∷◌, ◌++◌, Option, Some, None, nat_eq, refl, sym, ap, ◌∙◌}
+use Rattle.std.proofs.lemmas.Bool.{and_parts, and_from}
+use Rattle.herm_readers.specs.Reader.{Rule, Reads, ahead}
+use Rattle.herm_readers.specs.Combinators.{passes, one, one_rule, many_fits, many_spelling, separated_spelling, separated_ends}
+use Rattle.herm_readers.specs.Laws.{IsTestFor}
+use Rattle.herm_readers.proofs.Simple.{one_reads}
+use Rattle.herm_readers.proofs.Readings.{Reading, nothing_more, turned, with_next, both, led_by, closed_by, either_of, separated_by, separated_end}
+use Rattle.herm_syntax.specs.Symbols.{Symbol, Keyword, Sign, is, kw_exception, comma}
+use Rattle.herm_syntax.specs.Trees.{Letters, Path, Atom, Transfer, Move, Unite, Dissolve, Wrap, Insert, Connect, Send, Receive, Touch, New, Discard, Reveal, Find, Remove, Get}
+use Rattle.herm_syntax.specs.Spelling.{path, transfer, between, touch, find}
+use Rattle.herm_syntax.specs.Fitting.{first_path_fits, touched_fits}
+use Rattle.herm_syntax.specs.Reading.{name_rule, read_name, part_rule, read_part, path_rule, path_ends, read_path, component_path_ends, atom_rule, read_atom}
+use Rattle.herm_syntax.specs.ReadStatements.{pick_transfer, pick_touch, pick_find, is_transfer, is_touch, is_find, read_first_path, read_touched, listed_of, Plain}
+use Rattle.herm_syntax.proofs.Names.{keyword_test, sign_test, name_reads, part_reads}
+use Rattle.herm_syntax.proofs.Paths.{path_reads, component_path_reads, atom_reads}
+
+-- Keywords and signs before and behind a reading.
+abbrev pub keyword_then : {A : Type 0} → ℕ → Reading Symbol A → Reading Symbol A
+keyword_then n r = led_by (Keyword n) (is (Keyword n)) (keyword_test n) r
+
+abbrev pub sign_then : {A : Type 0} → ℕ → Reading Symbol A → Reading Symbol A
+sign_then n r = led_by (Sign n) (is (Sign n)) (sign_test n) r
+
+abbrev pub then_sign : {A : Type 0} → ℕ → Reading Symbol A → Reading Symbol A
+then_sign n r = closed_by (Sign n) (is (Sign n)) (sign_test n) r
+
+abbrev pub in_braces_r : {A : Type 0} → Reading Symbol A → Reading Symbol A
+in_braces_r r = sign_then 2 (then_sign 3 r)
+
+abbrev pub in_parens_r : {A : Type 0} → Reading Symbol A → Reading Symbol A
+in_parens_r r = sign_then 0 (then_sign 1 r)
+
+abbrev pub end_r : Reading Symbol (Unit {0})
+end_r = sign_then 7 nothing_more
+
+abbrev pub name_r : Reading Symbol Letters
+name_r = record { rule = name_rule; read = read_name; reads = name_reads }
+
+abbrev pub part_r : Reading Symbol Letters
+part_r = record { rule = part_rule; read = read_part; reads = part_reads }
+
+abbrev pub path_r : Reading Symbol Path
+path_r = record { rule = path_rule; read = read_path; reads = path_reads }
+
+abbrev pub atom_r : Reading Symbol Atom
+atom_r = record { rule = atom_rule; read = read_atom; reads = atom_reads }
+
+-- Items with commas, none where the closing sign stands at once.
+module _ {A : Type 0} (n : ℕ) (item : Reading Symbol A) where
+  abbrev pub listed_parts : Reading Symbol (Unit {0} ⊎ List A)
+  listed_parts = either_of (is (Sign n)) nothing_more (separated_by comma (is comma) (sign_test 6) item)
+
+  abbrev pub listed_ends : List A → Option Symbol → Bool
+  listed_ends [] beyond = listed_parts.rule.ends (inl tt) beyond
+  listed_ends (a ∷ items) beyond = listed_parts.rule.ends (inr (a ∷ items)) beyond
+
+  abbrev pub listed_rule : Rule Symbol (List A)
+  listed_rule = record { fits = many_fits item.rule.fits; spelling = separated_spelling comma item.rule.spelling; ends = listed_ends }
+
+  pub listed_fits : (found : Unit {0} ⊎ List A) → listed_parts.rule.fits found ≡ true → many_fits item.rule.fits (listed_of found) ≡ true
+  listed_fits (inl none) f = refl
+  listed_fits (inr []) f = absurd (cc)
+  listed_fits (inr (a ∷ items)) f = f
+
+  pub listed_spelled : (found : Unit {0} ⊎ List A) → listed_parts.rule.fits found ≡ true → separated_spelling comma item.rule.spelling (listed_of found) ≡ listed_parts.rule.spelling found
+  listed_spelled (inl none) f = refl
+  listed_spelled (inr []) f = refl
+  listed_spelled (inr (a ∷ items)) f = refl
+
+  pub listed_ended : (found : Unit {0} ⊎ List A) (beyond : Option Symbol) → listed_parts.rule.fits found ≡ true → listed_ends (listed_of found) beyond ≡ listed_parts.rule.ends found beyond
+  listed_ended (inl none) beyond f = refl
+  listed_ended (inr []) beyond f = absurd (cc)
+  listed_ended (inr (a ∷ items)) beyond f = refl
+
+  pub listed_back : (items : List A) → many_fits item.rule.fits items ≡ true → (found : Unit {0} ⊎ List A) × (listed_parts.rule.fits found ≡ true) × (listed_of found ≡ items)
+  listed_back [] f = (inl tt, refl, refl)
+  listed_back (a ∷ items) f = (inr (a ∷ items), f, refl)
+
+  abbrev pub listed_r : Reading Symbol (List A)
+  listed_r = turned listed_of listed_rule listed_parts (record { fits = listed_fits; spelling = listed_spelled; ends = listed_ended; back = listed_back })
+
+-- A list ends in front of its closing sign, where no item begins with it.
+pub listed_end : {A : Type 0} → (n : ℕ) (item : Reading Symbol A) → nat_eq n 6 ≡ false → ((a : A) (more : List Symbol) (beyond : Option Symbol) → item.rule.fits a ≡ true → passes (is (Sign n)) (ahead (item.rule.spelling a ++ more) beyond) ≡ false) →
+    ((a : A) → item.rule.fits a ≡ true → item.rule.ends a (Some comma) ≡ true) → ((a : A) → item.rule.fits a ≡ true → item.rule.ends a (Some (Sign n)) ≡ true) →
+    (items : List A) → many_fits item.rule.fits items ≡ true → listed_ends n item items (Some (Sign n)) ≡ true
+listed_end n item other leads before last [] f = and_from (is (Sign n) (Sign n)) true (sign_test n).passed refl
+listed_end n item other leads before last (a ∷ items) f =
+    let fit = and_parts (item.rule.fits a) (many_fits item.rule.fits items) f in
+    and_from (not (passes (is (Sign n)) (ahead (separated_spelling comma item.rule.spelling (a ∷ items)) (Some (Sign n))))) (separated_ends comma (is comma) item.rule (a ∷ items) (Some (Sign n)))
+    (ap not (leads a (many_spelling (λ b. comma ∷ item.rule.spelling b) items) (Some (Sign n)) fit.0))
+    (separated_end comma (is comma) (sign_test 6) item.rule (Some (Sign n)) other before last (a ∷ items) f)
+
+-- A keyword that stands for a value.
+pub picked_if : {A : Type 0} → (n : ℕ) (v : A) (symbol : A → Symbol) → symbol v ≡ Keyword n → (x : Symbol) (tree : A) (rest : Option A) (b : Bool) → is (Keyword n) x ≡ b → (if b then Some v else rest) ≡ Some tree →
+    (rest ≡ Some tree → x ≡ symbol tree) → x ≡ symbol tree
+picked_if n v symbol s x tree rest true p e more =
+    let same : v ≡ tree = cc in
+    (keyword_test n).alone x p ∙ (sym s ∙ ap symbol same)
+picked_if n v symbol s x tree rest false p e more = more e
+
+pub transfer_from : (x : Symbol) (tree : Transfer) → pick_transfer x ≡ Some tree → x ≡ transfer tree
+transfer_from x tree e =
+    picked_if 30 Move transfer refl x tree (if is (Keyword 55) x then Some Unite else (if is (Keyword 9) x then Some Dissolve else (if is (Keyword 61) x then Some Wrap else (if is (Keyword 24) x then Some Insert else (if is (Keyword 5) x then Some Connect else (if is (Keyword 47) x then Some Send else (if is (Keyword 41) x then Some Receive else None))))))) (is (Keyword 30) x) refl e (λ e0.
+    picked_if 55 Unite transfer refl x tree (if is (Keyword 9) x then Some Dissolve else (if is (Keyword 61) x then Some Wrap else (if is (Keyword 24) x then Some Insert else (if is (Keyword 5) x then Some Connect else (if is (Keyword 47) x then Some Send else (if is (Keyword 41) x then Some Receive else None)))))) (is (Keyword 55) x) refl e0 (λ e1.
+    picked_if 9 Dissolve transfer refl x tree (if is (Keyword 61) x then Some Wrap else (if is (Keyword 24) x then Some Insert else (if is (Keyword 5) x then Some Connect else (if is (Keyword 47) x then Some Send else (if is (Keyword 41) x then Some Receive else None))))) (is (Keyword 9) x) refl e1 (λ e2.
+    picked_if 61 Wrap transfer refl x tree (if is (Keyword 24) x then Some Insert else (if is (Keyword 5) x then Some Connect else (if is (Keyword 47) x then Some Send else (if is (Keyword 41) x then Some Receive else None)))) (is (Keyword 61) x) refl e2 (λ e3.
+    picked_if 24 Insert transfer refl x tree (if is (Keyword 5) x then Some Connect else (if is (Keyword 47) x then Some Send else (if is (Keyword 41) x then Some Receive else None))) (is (Keyword 24) x) refl e3 (λ e4.
+    picked_if 5 Connect transfer refl x tree (if is (Keyword 47) x then Some Send else (if is (Keyword 41) x then Some Receive else None)) (is (Keyword 5) x) refl e4 (λ e5.
+    picked_if 47 Send transfer refl x tree (if is (Keyword 41) x then Some Receive else None) (is (Keyword 47) x) refl e5 (λ e6.
+    picked_if 41 Receive transfer refl x tree None (is (Keyword 41) x) refl e6 (λ e7.
+    absurd (cc)))))))))
+
+pub transfer_back : (tree : Transfer) → pick_transfer (transfer tree) ≡ Some tree
+transfer_back Move = refl
+transfer_back Unite = refl
+transfer_back Dissolve = refl
+transfer_back Wrap = refl
+transfer_back Insert = refl
+transfer_back Connect = refl
+transfer_back Send = refl
+transfer_back Receive = refl
+
+abbrev pub transfer_r : Reading Symbol Transfer
+transfer_r = record {
+  rule = one_rule (λ tree. true) transfer;
+  read = one pick_transfer;
+  reads = one_reads (λ tree. true) transfer pick_transfer (record { example = Move; example_fits = refl; from = λ x tree e. (refl, transfer_from x tree e); back = λ tree f. transfer_back tree });
+}
+
+pub touch_from : (x : Symbol) (tree : Touch) → pick_touch x ≡ Some tree → x ≡ touch tree
+touch_from x tree e =
+    picked_if 31 New touch refl x tree (if is (Keyword 8) x then Some Discard else (if is (Keyword 45) x then Some Reveal else None)) (is (Keyword 31) x) refl e (λ e0.
+    picked_if 8 Discard touch refl x tree (if is (Keyword 45) x then Some Reveal else None) (is (Keyword 8) x) refl e0 (λ e1.
+    picked_if 45 Reveal touch refl x tree None (is (Keyword 45) x) refl e1 (λ e2.
+    absurd (cc))))
+
+pub touch_back : (tree : Touch) → pick_touch (touch tree) ≡ Some tree
+touch_back New = refl
+touch_back Discard = refl
+touch_back Reveal = refl
+
+abbrev pub touch_r : Reading Symbol Touch
+touch_r = record {
+  rule = one_rule (λ tree. true) touch;
+  read = one pick_touch;
+  reads = one_reads (λ tree. true) touch pick_touch (record { example = New; example_fits = refl; from = λ x tree e. (refl, touch_from x tree e); back = λ tree f. touch_back tree });
+}
+
+pub find_from : (x : Symbol) (tree : Find) → pick_find x ≡ Some tree → x ≡ find tree
+find_from x tree e =
+    picked_if 43 Remove find refl x tree (if is (Keyword 18) x then Some Get else None) (is (Keyword 43) x) refl e (λ e0.
+    picked_if 18 Get find refl x tree None (is (Keyword 18) x) refl e0 (λ e1.
+    absurd (cc)))
+
+pub find_back : (tree : Find) → pick_find (find tree) ≡ Some tree
+find_back Remove = refl
+find_back Get = refl
+
+abbrev pub find_r : Reading Symbol Find
+find_r = record {
+  rule = one_rule (λ tree. true) find;
+  read = one pick_find;
+  reads = one_reads (λ tree. true) find pick_find (record { example = Remove; example_fits = refl; from = λ x tree e. (refl, find_from x tree e); back = λ tree f. find_back tree });
+}
+
+-- The word between two paths.
+pub between_test : (t : Transfer) → IsTestFor (between t) (is (between t))
+between_test Move = keyword_test 51
+between_test Unite = keyword_test 16
+between_test Dissolve = keyword_test 25
+between_test Wrap = keyword_test 1
+between_test Insert = keyword_test 25
+between_test Connect = keyword_test 51
+between_test Send = keyword_test 51
+between_test Receive = keyword_test 16
+
+-- The path behind the first word, by that word.
+abbrev pub first_path_ends : Transfer → Path → Option Symbol → Bool
+first_path_ends Move p beyond = path_ends p beyond
+first_path_ends Unite p beyond = component_path_ends p beyond
+first_path_ends Dissolve p beyond = component_path_ends p beyond
+first_path_ends Wrap p beyond = path_ends p beyond
+first_path_ends Insert p beyond = path_ends p beyond
+first_path_ends Connect p beyond = path_ends p beyond
+first_path_ends Send p beyond = path_ends p beyond
+first_path_ends Receive p beyond = path_ends p beyond
+
+abbrev pub first_path_rule : Transfer → Rule Symbol Path
+first_path_rule t = record { fits = first_path_fits t; spelling = path; ends = first_path_ends t }
+
+pub first_path_reads : (t : Transfer) → Reads (first_path_rule t) (read_first_path t)
+first_path_reads Move = path_reads
+first_path_reads Unite = component_path_reads
+first_path_reads Dissolve = component_path_reads
+first_path_reads Wrap = path_reads
+first_path_reads Insert = path_reads
+first_path_reads Connect = path_reads
+first_path_reads Send = path_reads
+first_path_reads Receive = path_reads
+
+abbrev pub touched_ends : Touch → Path → Option Symbol → Bool
+touched_ends New p beyond = path_ends p beyond
+touched_ends Discard p beyond = path_ends p beyond
+touched_ends Reveal p beyond = component_path_ends p beyond
+
+abbrev pub touched_rule : Touch → Rule Symbol Path
+touched_rule t = record { fits = touched_fits t; spelling = path; ends = touched_ends t }
+
+pub touched_reads : (t : Touch) → Reads (touched_rule t) (read_touched t)
+touched_reads New = path_reads
+touched_reads Discard = path_reads
+touched_reads Reveal = component_path_reads
+
+abbrev pub first_path_r : Transfer → Reading Symbol Path
+first_path_r t = record { rule = first_path_rule t; read = read_first_path t; reads = first_path_reads t }
+
+abbrev pub touched_r : Touch → Reading Symbol Path
+touched_r t = record { rule = touched_rule t; read = read_touched t; reads = touched_reads t }
+
+-- The statements with no statement in them.
+abbrev pub two_paths_r : Reading Symbol (Transfer × (Path × Path))
+two_paths_r = with_next transfer_r (λ t. both (first_path_r t) (led_by (between t) (is (between t)) (between_test t) (then_sign 7 path_r)))
+
+abbrev pub one_path_r : Reading Symbol (Touch × Path)
+one_path_r = with_next touch_r (λ t. then_sign 7 (touched_r t))
+
+abbrev pub keyed_r : Reading Symbol (Find × (Path × (Path × (List Atom × Unit {0}))))
+keyed_r = both find_r (both path_r (keyword_then 16 (both path_r (sign_then 4 (both (separated_by comma (is comma) (sign_test 6) atom_r) (sign_then 5 end_r))))))
+
+abbrev pub unwrap_r : Reading Symbol (Path × (Letters × Path))
+unwrap_r = keyword_then 56 (both path_r (keyword_then 1 (both name_r (keyword_then 25 (then_sign 7 path_r)))))
+
+abbrev pub call_r : Reading Symbol (Path × (List Atom × Unit {0}))
+call_r = keyword_then 2 (both path_r (sign_then 0 (both (listed_r 1 atom_r) (sign_then 1 end_r))))
+
+abbrev pub return_r : Reading Symbol (Path × (Letters ⊎ Unit {0}))
+return_r = keyword_then 44 (both path_r (either_of (is kw_exception) (keyword_then 13 (then_sign 7 name_r)) end_r))
+
+abbrev pub create_r : Reading Symbol (Path × Letters)
+create_r = keyword_then 6 (both path_r (keyword_then 33 (then_sign 7 name_r)))
+
+abbrev pub raise_r : Reading Symbol Letters
+raise_r = keyword_then 39 (then_sign 7 name_r)
+
+abbrev pub leave_r : Reading Symbol (Unit {0})
+leave_r = keyword_then 27 end_r
+
+abbrev pub plain_r : Reading Symbol Plain
+plain_r = either_of is_transfer two_paths_r (either_of is_touch one_path_r (either_of is_find keyed_r (either_of (is (Keyword 56)) unwrap_r (either_of (is (Keyword 2)) call_r
+    (either_of (is (Keyword 44)) return_r (either_of (is (Keyword 6)) create_r (either_of (is (Keyword 39)) raise_r leave_r)))))))
