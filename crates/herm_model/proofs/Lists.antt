@@ -1,0 +1,111 @@
+-- Lemmas on lists that compute on the first element.
+use Rattle.std.proofs.Common.{◌≡◌, ℕ, suc, length, List, [], ◌∷◌, ◌++◌, map, flat_map, Bool, true, false, ◌&&◌, ◌||◌, ◌⊎◌, inl, inr, IsTrue, refl, sym, ap, subst, true≢false}
+use Rattle.herm_model.specs.Lists.{IsIn, every, numbered}
+
+abbrev is_cons : {X : Type 0} → List X → Bool
+is_cons [] = false
+is_cons (x ∷ xs) = true
+
+abbrev head_or : {X : Type 0} → X → List X → X
+head_or d [] = d
+head_or d (x ∷ xs) = x
+
+abbrev tail : {X : Type 0} → List X → List X
+tail [] = []
+tail (x ∷ xs) = xs
+
+pub cons-not_nil : {A X : Type 0} (x : X) (xs : List X) → x ∷ xs ≡ [] → A
+cons-not_nil x xs e = absurd (true≢false (ap is_cons e))
+
+pub cons-head : {X : Type 0} {x y : X} {xs ys : List X} → x ∷ xs ≡ y ∷ ys → x ≡ y
+cons-head {x = x} e = ap (head_or x) e
+
+pub cons-tail : {X : Type 0} {x y : X} {xs ys : List X} → x ∷ xs ≡ y ∷ ys → xs ≡ ys
+cons-tail e = ap tail e
+
+pub in-append_left : {X : Type 0} (x : X) (xs ys : List X) → IsIn x xs → IsIn x (xs ++ ys)
+in-append_left x [] ys h = absurd h
+in-append_left x (z ∷ xs) ys (inl e) = inl e
+in-append_left x (z ∷ xs) ys (inr h) = inr (in-append_left x xs ys h)
+
+pub in-append_right : {X : Type 0} (x : X) (xs ys : List X) → IsIn x ys → IsIn x (xs ++ ys)
+in-append_right x [] ys h = h
+in-append_right x (z ∷ xs) ys h = inr (in-append_right x xs ys h)
+
+pub in-append_cases : {X : Type 0} (x : X) (xs ys : List X) → IsIn x (xs ++ ys) → IsIn x xs ⊎ IsIn x ys
+in-append_cases x [] ys h = inr h
+in-append_cases x (z ∷ xs) ys (inl e) = inl (inl e)
+in-append_cases x (z ∷ xs) ys (inr h) = again (in-append_cases x xs ys h)
+  where
+    again : IsIn x xs ⊎ IsIn x ys → IsIn x (z ∷ xs) ⊎ IsIn x ys
+    again (inl a) = inl (inr a)
+    again (inr b) = inr b
+
+pub in-append_more : {X : Type 0} (x : X) (xs ys zs : List X) → (IsIn x ys → IsIn x zs) → IsIn x (xs ++ ys) → IsIn x (xs ++ zs)
+in-append_more x [] ys zs f h = f h
+in-append_more x (w ∷ xs) ys zs f (inl e) = inl e
+in-append_more x (w ∷ xs) ys zs f (inr h) = inr (in-append_more x xs ys zs f h)
+
+pub in-map : {X Y : Type 0} (f : X → Y) (x : X) (xs : List X) → IsIn x xs → IsIn (f x) (map f xs)
+in-map f x [] h = h
+in-map f x (z ∷ xs) (inl e) = inl (ap f e)
+in-map f x (z ∷ xs) (inr h) = inr (in-map f x xs h)
+
+pub in-map_from : {X Y : Type 0} (f : X → Y) (y : Y) (xs : List X) → IsIn y (map f xs) → (x : X) × IsIn x xs × (y ≡ f x)
+in-map_from f y [] h = absurd h
+in-map_from f y (z ∷ xs) (inl e) = (z, inl refl, e)
+in-map_from f y (z ∷ xs) (inr h) = let r = in-map_from f y xs h in (r.0, inr r.1, r.2)
+
+pub in-flat_map : {X Y : Type 0} (f : X → List Y) (x : X) (y : Y) (xs : List X) → IsIn x xs → IsIn y (f x) → IsIn y (flat_map f xs)
+in-flat_map f x y [] h k = absurd h
+in-flat_map f x y (z ∷ xs) (inl e) k = in-append_left y (f z) (flat_map f xs) (subst (λ w. IsIn y (f w)) e k)
+in-flat_map f x y (z ∷ xs) (inr h) k = in-append_right y (f z) (flat_map f xs) (in-flat_map f x y xs h k)
+
+pub in-flat_map_from : {X Y : Type 0} (f : X → List Y) (y : Y) (xs : List X) → IsIn y (flat_map f xs) → (x : X) × IsIn x xs × IsIn y (f x)
+in-flat_map_from f y [] h = absurd h
+in-flat_map_from {X} f y (z ∷ xs) h = by (in-flat_map_from f y xs) (in-append_cases y (f z) (flat_map f xs) h)
+  where
+    by : (IsIn y (flat_map f xs) → (x : X) × IsIn x xs × IsIn y (f x)) → IsIn y (f z) ⊎ IsIn y (flat_map f xs) → (x : X) × IsIn x (z ∷ xs) × IsIn y (f x)
+    by again (inl a) = (z, inl refl, a)
+    by again (inr b) = let r = again b in (r.0, inr r.1, r.2)
+
+pub not_true : {A : Type 0} → IsTrue false → A
+not_true h = absurd (true≢false (sym h))
+
+pub and-both : (a b : Bool) → IsTrue (a && b) → IsTrue a × IsTrue b
+and-both true b h = (refl, h)
+and-both false b h = not_true h
+
+pub both-and : (a b : Bool) → IsTrue a → IsTrue b → IsTrue (a && b)
+both-and true b h k = k
+both-and false b h k = h
+
+pub or-either : (a b : Bool) → IsTrue (a || b) → IsTrue a ⊎ IsTrue b
+or-either true b h = inl refl
+or-either false b h = inr h
+
+pub or-left : (a b : Bool) → IsTrue a → IsTrue (a || b)
+or-left true b h = refl
+or-left false b h = not_true h
+
+pub or-right : (a b : Bool) → IsTrue b → IsTrue (a || b)
+or-right true b h = refl
+or-right false b h = h
+
+pub every-in : {X : Type 0} (test : X → Bool) (x : X) (xs : List X) → IsTrue (every test xs) → IsIn x xs → IsTrue (test x)
+every-in test x [] h i = absurd i
+every-in test x (z ∷ xs) h (inl e) = subst (λ w. IsTrue (test w)) (sym e) (and-both (test z) _ h).0
+every-in test x (z ∷ xs) h (inr i) = every-in test x xs (and-both (test z) _ h).1 i
+
+pub in-every : {X : Type 0} (test : X → Bool) (xs : List X) → ((x : X) → IsIn x xs → IsTrue (test x)) → IsTrue (every test xs)
+in-every test [] h = refl
+in-every test (z ∷ xs) h = both-and (test z) _ (h z (inl refl)) (in-every test xs (λ x i. h x (inr i)))
+
+pub numbered-in : {X : Type 0} (i k : ℕ) (x : X) (xs : List X) → IsIn (i, x) (numbered k xs) → IsIn x xs
+numbered-in i k x [] h = h
+numbered-in {X} i k x (z ∷ xs) (inl e) = inl (ap (λ (p : ℕ × X). p.1) e)
+numbered-in i k x (z ∷ xs) (inr h) = inr (numbered-in i (suc k) x xs h)
+
+pub length-map : {X Y : Type 0} (f : X → Y) (xs : List X) → length (map f xs) ≡ length xs
+length-map f [] = refl
+length-map f (x ∷ xs) = ap suc (length-map f xs)

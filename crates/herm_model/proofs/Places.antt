@@ -1,0 +1,266 @@
+-- What is at a path behind a change at another, and the weight of the names that are there.
+use Rattle.std.proofs.Common.{◌≡◌, ◌≢◌, ◌⊎◌, inl, inr, ◌<◌, ℕ, zero, suc, ◌+◌, List, [], ◌∷◌, ◌++◌, map, flat_map, Bool, true, false, cond, not, ◌||◌, Option, Some, None, option_map, nat_eq, IsTrue, refl, sym, ap, ap₂, subst, length, length-append, append_assoc, ◌∙◌, arith, true≢false}
+use Rattle.std.proofs.lemmas.Bool.{eq-eqb, eqb-true, ltb-true}
+use Rattle.herm_model.specs.Lists.{weight, range, list_of}
+use Rattle.herm_model.specs.Paths.{Path, are_apart}
+use Rattle.herm_model.specs.Values.{Kind, Cell, cell, Parts, no_parts, gap, part, part_at, place, set_part, size, opens, inside, cell_at, has_place, behind_gaps, readable_of, read_at, change_readable, change_behind, change_from, change_at, a_variant, a_record, a_callmessage, change_inside, change_part, set_at, names_of, names_in, count, count_in, copy_from, copy_in}
+use Rattle.herm_model.specs.Finalising.{waits, finalised, finalised_in, pending, pending_in}
+use Rattle.herm_model.proofs.Lists.{not_true}
+use Rattle.herm_model.proofs.Renaming.{map-append}
+
+apart-cases : (i j : ℕ) (p q : Path) → IsTrue (not (nat_eq i j) || are_apart p q) → (i ≢ j) ⊎ ((i ≡ j) × IsTrue (are_apart p q))
+apart-cases i j p q h = by (nat_eq i j) refl h
+  where
+    by : (b : Bool) → nat_eq i j ≡ b → IsTrue (not b || are_apart p q) → (i ≢ j) ⊎ ((i ≡ j) × IsTrue (are_apart p q))
+    by true e k = inr (eqb-true i j e, k)
+    by false e k = inl (λ s. true≢false (sym (eq-eqb i j s) ∙ e))
+
+module _ {N : Type 0} where
+  part_at-place_zero : (o : Option (Cell N)) (ps : Parts N) → part_at zero (place o ps) ≡ o
+  part_at-place_zero None ps = refl
+  part_at-place_zero (Some c) ps = refl
+
+  part_at-place_suc : (j : ℕ) (o : Option (Cell N)) (ps : Parts N) → part_at (suc j) (place o ps) ≡ part_at j ps
+  part_at-place_suc j None ps = refl
+  part_at-place_suc j (Some c) ps = refl
+
+  pub part_at-set_same : (i : ℕ) (o : Option (Cell N)) (ps : Parts N) → i < size ps → part_at i (set_part i o ps) ≡ o
+  part_at-set_same i o no_parts h = absurd (omega arith)
+  part_at-set_same zero o (gap ps) h = part_at-place_zero o ps
+  part_at-set_same zero o (part c ps) h = part_at-place_zero o ps
+  part_at-set_same (suc i) o (gap ps) h = part_at-set_same i o ps (omega arith)
+  part_at-set_same (suc i) o (part c ps) h = part_at-set_same i o ps (omega arith)
+
+  pub part_at-set_other : (i j : ℕ) (o : Option (Cell N)) (ps : Parts N) → i ≢ j → part_at j (set_part i o ps) ≡ part_at j ps
+  part_at-set_other i j o no_parts d = refl
+  part_at-set_other zero zero o (gap ps) d = absurd (d refl)
+  part_at-set_other zero zero o (part c ps) d = absurd (d refl)
+  part_at-set_other zero (suc j) o (gap ps) d = part_at-place_suc j o ps
+  part_at-set_other zero (suc j) o (part c ps) d = part_at-place_suc j o ps
+  part_at-set_other (suc i) zero o (gap ps) d = refl
+  part_at-set_other (suc i) zero o (part c ps) d = refl
+  part_at-set_other (suc i) (suc j) o (gap ps) d = part_at-set_other i j o ps (λ e. d (ap suc e))
+  part_at-set_other (suc i) (suc j) o (part c ps) d = part_at-set_other i j o ps (λ e. d (ap suc e))
+
+  pub part_at-change_same : (i : ℕ) (g : Cell N → Cell N) (ps : Parts N) → part_at i (change_part i g ps) ≡ option_map g (part_at i ps)
+  part_at-change_same i g no_parts = refl
+  part_at-change_same zero g (gap ps) = refl
+  part_at-change_same zero g (part c ps) = refl
+  part_at-change_same (suc i) g (gap ps) = part_at-change_same i g ps
+  part_at-change_same (suc i) g (part c ps) = part_at-change_same i g ps
+
+  pub part_at-change_other : (i j : ℕ) (g : Cell N → Cell N) (ps : Parts N) → i ≢ j → part_at j (change_part i g ps) ≡ part_at j ps
+  part_at-change_other i j g no_parts d = refl
+  part_at-change_other zero zero g (gap ps) d = absurd (d refl)
+  part_at-change_other zero zero g (part c ps) d = absurd (d refl)
+  part_at-change_other zero (suc j) g (gap ps) d = refl
+  part_at-change_other zero (suc j) g (part c ps) d = refl
+  part_at-change_other (suc i) zero g (gap ps) d = refl
+  part_at-change_other (suc i) zero g (part c ps) d = refl
+  part_at-change_other (suc i) (suc j) g (gap ps) d = part_at-change_other i j g ps (λ e. d (ap suc e))
+  part_at-change_other (suc i) (suc j) g (part c ps) d = part_at-change_other i j g ps (λ e. d (ap suc e))
+
+  change_part-none : (i : ℕ) (g : Cell N → Cell N) → change_part i g no_parts ≡ no_parts
+  change_part-none i g = refl
+
+  pub set_at-none : (p : Path) (o : Option (Cell N)) → set_at p o no_parts ≡ no_parts
+  set_at-none [] o = refl
+  set_at-none (i ∷ []) o = refl
+  set_at-none (i ∷ j ∷ p) o = refl
+
+  by-opens : (b : Bool) (h : Parts N → Parts N) (ps : Parts N) → h no_parts ≡ no_parts → cond b (cond b (h ps) ps) no_parts ≡ h (cond b ps no_parts)
+  by-opens true h ps e = refl
+  by-opens false h ps e = sym e
+
+  pub inside-change : (h : Parts N → Parts N) (o : Option (Cell N)) → h no_parts ≡ no_parts → inside (option_map (change_inside h) o) ≡ h (inside o)
+  inside-change h None e = sym e
+  inside-change h (Some (cell n k ps)) e = by-opens (opens k) h ps e
+
+  -- below a changed part
+  inside-set : (i j : ℕ) (p : Path) (o : Option (Cell N)) (ps : Parts N) → inside (part_at i (set_at (i ∷ j ∷ p) o ps)) ≡ set_at (j ∷ p) o (inside (part_at i ps))
+  inside-set i j p o ps = ap inside (part_at-change_same i (change_inside (set_at (j ∷ p) o)) ps) ∙ inside-change (set_at (j ∷ p) o) (part_at i ps) (set_at-none (j ∷ p) o)
+
+  pub cell_at-set_same : (p : Path) (o : Option (Cell N)) (ps : Parts N) → IsTrue (has_place ps p) → cell_at p (set_at p o ps) ≡ o
+  cell_at-set_same [] o ps h = not_true h
+  cell_at-set_same (i ∷ []) o ps h = part_at-set_same i o ps (ltb-true i (size ps) h)
+  cell_at-set_same (i ∷ j ∷ p) o ps h = ap (cell_at (j ∷ p)) (inside-set i j p o ps) ∙ cell_at-set_same (j ∷ p) o (inside (part_at i ps)) h
+
+  pub cell_at-set_below : (p : Path) (j : ℕ) (r : Path) (o : Option (Cell N)) (ps : Parts N) → IsTrue (has_place ps p) → cell_at (p ++ j ∷ r) (set_at p o ps) ≡ cell_at (j ∷ r) (inside o)
+  cell_at-set_below [] j r o ps h = not_true h
+  cell_at-set_below (i ∷ []) j r o ps h = ap (λ c. cell_at (j ∷ r) (inside c)) (part_at-set_same i o ps (ltb-true i (size ps) h))
+  cell_at-set_below (i ∷ k ∷ p) j r o ps h = ap (cell_at ((k ∷ p) ++ j ∷ r)) (inside-set i k p o ps) ∙ cell_at-set_below (k ∷ p) j r o (inside (part_at i ps)) h
+
+  pub cell_at-set_above : (i : ℕ) (q : Path) (j : ℕ) (r : Path) (o : Option (Cell N)) (ps : Parts N) → cell_at (i ∷ q) (set_at ((i ∷ q) ++ j ∷ r) o ps) ≡ option_map (change_inside (set_at (j ∷ r) o)) (cell_at (i ∷ q) ps)
+  cell_at-set_above i [] j r o ps = part_at-change_same i (change_inside (set_at (j ∷ r) o)) ps
+  cell_at-set_above i (k ∷ q) j r o ps = ap (cell_at (k ∷ q)) (inside-set i k (q ++ j ∷ r) o ps) ∙ cell_at-set_above k q j r o (inside (part_at i ps))
+
+  pub cell_at-set_apart : (p q : Path) (o : Option (Cell N)) (ps : Parts N) → IsTrue (are_apart p q) → cell_at q (set_at p o ps) ≡ cell_at q ps
+  cell_at-set_apart [] q o ps h = not_true h
+  cell_at-set_apart (i ∷ p) [] o ps h = refl
+  cell_at-set_apart (i ∷ []) (j ∷ q) o ps h = by (apart-cases i j [] q h) q
+    where
+      by : (i ≢ j) ⊎ ((i ≡ j) × IsTrue (are_apart [] q)) → (r : Path) → cell_at (j ∷ r) (set_part i o ps) ≡ cell_at (j ∷ r) ps
+      by (inl d) [] = part_at-set_other i j o ps d
+      by (inl d) (k ∷ r) = ap (λ c. cell_at (k ∷ r) (inside c)) (part_at-set_other i j o ps d)
+      by (inr e) r = not_true e.1
+  cell_at-set_apart (i ∷ k ∷ p) (j ∷ []) o ps h = by (apart-cases i j (k ∷ p) [] h)
+    where
+      by : (i ≢ j) ⊎ ((i ≡ j) × IsTrue (are_apart (k ∷ p) [])) → cell_at (j ∷ []) (set_at (i ∷ k ∷ p) o ps) ≡ cell_at (j ∷ []) ps
+      by (inl d) = part_at-change_other i j (change_inside (set_at (k ∷ p) o)) ps d
+      by (inr e) = not_true e.1
+  cell_at-set_apart (i ∷ k ∷ p) (j ∷ l ∷ q) o ps h = by (apart-cases i j (k ∷ p) (l ∷ q) h) (cell_at-set_apart (k ∷ p) (l ∷ q) o (inside (part_at i ps)))
+    where
+      by : (i ≢ j) ⊎ ((i ≡ j) × IsTrue (are_apart (k ∷ p) (l ∷ q))) → (IsTrue (are_apart (k ∷ p) (l ∷ q)) → cell_at (l ∷ q) (set_at (k ∷ p) o (inside (part_at i ps))) ≡ cell_at (l ∷ q) (inside (part_at i ps))) → cell_at (j ∷ l ∷ q) (set_at (i ∷ k ∷ p) o ps) ≡ cell_at (j ∷ l ∷ q) ps
+      by (inl d) again = ap (λ c. cell_at (l ∷ q) (inside c)) (part_at-change_other i j (change_inside (set_at (k ∷ p) o)) ps d)
+      by (inr e) again = subst (λ m. cell_at (m ∷ l ∷ q) (set_at (i ∷ k ∷ p) o ps) ≡ cell_at (m ∷ l ∷ q) ps) e.0 (ap (cell_at (l ∷ q)) (inside-set i k p o ps) ∙ again e.1)
+
+pub weight-append : {X : Type 0} (w : X → ℕ) (xs ys : List X) → weight w (xs ++ ys) ≡ weight w xs + weight w ys
+weight-append w [] ys = omega arith
+weight-append w (x ∷ xs) ys = omega (arith, weight-append w xs ys)
+
+-- what the names of values weigh
+module _ {N : Type 0} (w : N → ℕ) where
+  abbrev own : Option (Cell N) → ℕ
+  own o = weight w (list_of names_of o)
+
+  abbrev all : Parts N → ℕ
+  all ps = weight w (names_in ps)
+
+  weigh-place : (o : Option (Cell N)) (ps : Parts N) → all (place o ps) ≡ own o + all ps
+  weigh-place None ps = omega arith
+  weigh-place (Some c) ps = weight-append w (names_of c) (names_in ps)
+
+  weigh-set_part : (i : ℕ) (o : Option (Cell N)) (ps : Parts N) → i < size ps → all (set_part i o ps) + own (part_at i ps) ≡ all ps + own o
+  weigh-set_part i o no_parts h = absurd (omega arith)
+  weigh-set_part zero o (gap ps) h = omega (arith, weigh-place o ps)
+  weigh-set_part zero o (part c ps) h = omega (arith, weigh-place o ps, weight-append w (names_of c) (names_in ps))
+  weigh-set_part (suc i) o (gap ps) h = weigh-set_part i o ps (omega arith)
+  weigh-set_part (suc i) o (part c ps) h = omega (arith, weigh-set_part i o ps (omega arith), weight-append w (names_of c) (names_in ps), weight-append w (names_of c) (names_in (set_part i o ps)))
+
+  weigh-change_part : (i a b : ℕ) (g : Cell N → Cell N) (ps : Parts N) → own (option_map g (part_at i ps)) + a ≡ own (part_at i ps) + b → all (change_part i g ps) + a ≡ all ps + b
+  weigh-change_part i a b g no_parts e = e
+  weigh-change_part zero a b g (gap ps) e = omega (arith, e)
+  weigh-change_part zero a b g (part c ps) e = omega (arith, e, weight-append w (names_of c) (names_in ps), weight-append w (names_of (g c)) (names_in ps))
+  weigh-change_part (suc i) a b g (gap ps) e = weigh-change_part i a b g ps e
+  weigh-change_part (suc i) a b g (part c ps) e = omega (arith, weigh-change_part i a b g ps e, weight-append w (names_of c) (names_in ps), weight-append w (names_of c) (names_in (change_part i g ps)))
+
+  weigh-inside : (h : Parts N → Parts N) (a b : ℕ) (o : Option (Cell N)) → h no_parts ≡ no_parts → all (h (inside o)) + a ≡ all (inside o) + b → own (option_map (change_inside h) o) + a ≡ own o + b
+  weigh-inside h a b None e f = subst (λ ps. all ps + a ≡ 0 + b) e f
+  weigh-inside h a b (Some (cell n k ps)) e f = by (opens k) f
+    where
+      by : (t : Bool) → all (h (cond t ps no_parts)) + a ≡ all (cond t ps no_parts) + b → weight w (n ∷ names_in (cond t (h ps) ps)) + a ≡ weight w (n ∷ names_in ps) + b
+      by true f = omega (arith, f)
+      by false f = let z : 0 + a ≡ 0 + b = subst (λ qs. all qs + a ≡ 0 + b) e f in omega (arith, z)
+
+  -- what is set at a path comes in place of what was there
+  pub weigh-set_at : (p : Path) (o : Option (Cell N)) (ps : Parts N) → IsTrue (has_place ps p) → all (set_at p o ps) + own (cell_at p ps) ≡ all ps + own o
+  weigh-set_at [] o ps h = not_true h
+  weigh-set_at (i ∷ []) o ps h = weigh-set_part i o ps (ltb-true i (size ps) h)
+  weigh-set_at (i ∷ j ∷ p) o ps h =
+      weigh-change_part i (own (cell_at (j ∷ p) (inside (part_at i ps)))) (own o) (change_inside (set_at (j ∷ p) o)) ps
+      (weigh-inside (set_at (j ∷ p) o) (own (cell_at (j ∷ p) (inside (part_at i ps)))) (own o) (part_at i ps) (set_at-none (j ∷ p) o) (weigh-set_at (j ∷ p) o (inside (part_at i ps)) h))
+
+  -- what is finalised and what waits are all that was there
+  weigh-own : (b : Bool) (n : N) (k : Kind) (fs : List N) (qs : List (Cell N)) (a : ℕ) → a ≡ weight w fs + weight w (flat_map names_of qs) → w n + a ≡ weight w (cond b [] (n ∷ []) ++ fs) + weight w (flat_map names_of (cond b (cell n k no_parts ∷ []) [] ++ qs))
+  weigh-own true n k fs qs a e = omega (arith, e)
+  weigh-own false n k fs qs a e = omega (arith, e)
+
+  flat_map-append : (xs ys : List (Cell N)) → flat_map names_of (xs ++ ys) ≡ flat_map names_of xs ++ flat_map names_of ys
+  flat_map-append [] ys = refl
+  flat_map-append (x ∷ xs) ys = ap (names_of x ++◌) (flat_map-append xs ys) ∙ sym (append_assoc (names_of x) (flat_map names_of xs) (flat_map names_of ys))
+
+  mutual
+    pub weigh-finalised : (c : Cell N) → weight w (names_of c) ≡ weight w (finalised c) + weight w (flat_map names_of (pending c))
+    weigh-finalised (cell n k ps) = weigh-own (waits k) n k (finalised_in ps) (pending_in ps) (weight w (names_in ps)) (weigh-finalised_in ps)
+
+    pub weigh-finalised_in : (ps : Parts N) → weight w (names_in ps) ≡ weight w (finalised_in ps) + weight w (flat_map names_of (pending_in ps))
+    weigh-finalised_in no_parts = omega arith
+    weigh-finalised_in (gap ps) = weigh-finalised_in ps
+    weigh-finalised_in (part c ps) = omega (arith, weigh-finalised c, weigh-finalised_in ps, weight-append w (names_of c) (names_in ps), weight-append w (finalised c) (finalised_in ps), ap (weight w) (flat_map-append (pending c) (pending_in ps)), weight-append w (flat_map names_of (pending c)) (flat_map names_of (pending_in ps)))
+
+-- the names of a copy are those of the serials from the first on, as many as there are cells
+range-add : (s m n : ℕ) → range s (m + n) ≡ range s m ++ range (s + m) n
+range-add s zero n = let e : s ≡ s + 0 = omega arith in let z : 0 + n ≡ n = omega arith in ap₂ range e z
+range-add s (suc m) n =
+    let e : suc m + n ≡ suc (m + n) = omega arith in
+    let z : suc s + m ≡ s + suc m = omega arith in
+    ap (range s) e ∙ ap (s ∷◌) (range-add (suc s) m n ∙ ap (λ k. range (suc s) m ++ range k n) z)
+
+module _ {N M : Type 0} (name : ℕ → M) where
+  mutual
+    pub names-copy_from : (s : ℕ) (c : Cell N) → names_of (copy_from name s c) ≡ map name (range s (count c))
+    names-copy_from s (cell n k ps) = ap (name s ∷◌) (names-copy_in (suc s) ps)
+
+    pub names-copy_in : (s : ℕ) (ps : Parts N) → names_in (copy_in name s ps) ≡ map name (range s (count_in ps))
+    names-copy_in s no_parts = refl
+    names-copy_in s (gap ps) = names-copy_in s ps
+    names-copy_in s (part c ps) = ap₂ ◌++◌ (names-copy_from s c) (names-copy_in (s + count c) ps) ∙ sym (map-append name (range s (count c)) (range (s + count c) (count_in ps))) ∙ ap (map name) (sym (range-add s (count c) (count_in ps)))
+
+module _ {N : Type 0} where
+  mutual
+    pub length-names_of : (c : Cell N) → length (names_of c) ≡ count c
+    length-names_of (cell n k ps) = omega (arith, length-names_in ps)
+
+    pub length-names_in : (ps : Parts N) → length (names_in ps) ≡ count_in ps
+    length-names_in no_parts = refl
+    length-names_in (gap ps) = length-names_in ps
+    length-names_in (part c ps) = omega (arith, length-append (names_of c) (names_in ps), length-names_of c, length-names_in ps)
+
+-- a change through components
+module _ {N : Type 0} where
+  change_behind_same : (i j : ℕ) (g : Cell N → Cell N) (ps : Parts N) → part_at j (behind_gaps i (change_behind i j g ps)) ≡ option_map g (part_at j (behind_gaps i ps))
+  change_behind_same zero j g ps = part_at-change_same j g ps
+  change_behind_same (suc i) zero g ps = refl
+  change_behind_same (suc i) (suc j) g ps = change_behind_same i j g ps
+
+  abbrev Follows : (List ℕ) → (Cell N → Cell N) → Type 0
+  Follows p g = (i : ℕ) (ps : Parts N) → read_at p (behind_gaps i (change_from p g i ps)) ≡ option_map g (read_at p (behind_gaps i ps))
+
+  read-none : (j : ℕ) (p : Path) (g : Cell N → Cell N) → read_at (j ∷ p) no_parts ≡ option_map g (read_at (j ∷ p) no_parts)
+  read-none j [] g = refl
+  read-none j (k ∷ p) g = read-none k p g
+
+  read-readable : (j : ℕ) (p : Path) (g : Cell N → Cell N) → Follows (j ∷ p) g → (o : Option (Cell N)) → read_at (j ∷ p) (readable_of (option_map (change_readable (change_from (j ∷ p) g)) o)) ≡ option_map g (read_at (j ∷ p) (readable_of o))
+  read-readable j p g again None = read-none j p g
+  read-readable j p g again (Some (cell n (a_variant c) ps)) = again c ps
+  read-readable j p g again (Some (cell n a_record ps)) = again 0 ps
+  read-readable j p g again (Some (cell n (a_callmessage caller call) ps)) = again 0 ps
+  read-readable j p g again (Some (cell n k ps)) = read-none j p g
+
+  read_at-change_from : (p : Path) (g : Cell N → Cell N) → Follows p g
+  read_at-change_from [] g i ps = refl
+  read_at-change_from (j ∷ []) g i ps = change_behind_same i j g ps
+  read_at-change_from (j ∷ k ∷ p) g i ps = ap (λ o. read_at (k ∷ p) (readable_of o)) (change_behind_same i j (change_readable (change_from (k ∷ p) g)) ps) ∙ read-readable k p g (read_at-change_from (k ∷ p) g) (part_at j (behind_gaps i ps))
+
+  pub read_at-change_at : (p : Path) (g : Cell N → Cell N) (ps : Parts N) → read_at p (change_at p g ps) ≡ option_map g (read_at p ps)
+  read_at-change_at p g ps = read_at-change_from p g 0 ps
+
+  module _ (w : N → ℕ) (g : Cell N → Cell N) (a b : ℕ) where
+    weigh-change_behind : (i j : ℕ) (f : Cell N → Cell N) (ps : Parts N) → own w (option_map f (part_at j (behind_gaps i ps))) + a ≡ own w (part_at j (behind_gaps i ps)) + b → all w (change_behind i j f ps) + a ≡ all w ps + b
+    weigh-change_behind zero j f ps e = weigh-change_part w j a b f ps e
+    weigh-change_behind (suc i) zero f ps e = omega (arith, e)
+    weigh-change_behind (suc i) (suc j) f ps e = weigh-change_behind i j f ps e
+
+    abbrev Weighs : List ℕ → Type 0
+    Weighs p = (i : ℕ) (ps : Parts N) → own w (option_map g (read_at p (behind_gaps i ps))) + a ≡ own w (read_at p (behind_gaps i ps)) + b → all w (change_from p g i ps) + a ≡ all w ps + b
+
+    read-no : (j : ℕ) (p : Path) → read_at {N = N} (j ∷ p) no_parts ≡ None
+    read-no j [] = refl
+    read-no j (k ∷ p) = read-no k p
+
+    no-change : (j : ℕ) (p : Path) → own w (option_map g (read_at (j ∷ p) no_parts)) + a ≡ own w (read_at (j ∷ p) no_parts) + b → a ≡ b
+    no-change j p e = let z : 0 + a ≡ 0 + b = subst (λ o. own w (option_map g o) + a ≡ own w o + b) (read-no j p) e in omega (arith, z)
+
+    weigh-readable : (j : ℕ) (p : Path) → Weighs (j ∷ p) → (o : Option (Cell N)) → own w (option_map g (read_at (j ∷ p) (readable_of o))) + a ≡ own w (read_at (j ∷ p) (readable_of o)) + b → own w (option_map (change_readable (change_from (j ∷ p) g)) o) + a ≡ own w o + b
+    weigh-readable j p again None e = let z = no-change j p e in omega (arith, z)
+    weigh-readable j p again (Some (cell n (a_variant c) ps)) e = omega (arith, again c ps e)
+    weigh-readable j p again (Some (cell n a_record ps)) e = omega (arith, again 0 ps e)
+    weigh-readable j p again (Some (cell n (a_callmessage caller call) ps)) e = omega (arith, again 0 ps e)
+    weigh-readable j p again (Some (cell n k ps)) e = let z = no-change j p e in omega (arith, z)
+
+    weigh-change_from : (j : ℕ) (p : Path) → Weighs (j ∷ p)
+    weigh-change_from j [] i ps e = weigh-change_behind i j g ps e
+    weigh-change_from j (k ∷ p) i ps e = weigh-change_behind i j (change_readable (change_from (k ∷ p) g)) ps (weigh-readable k p (weigh-change_from k p) (part_at j (behind_gaps i ps)) e)
+
+    pub weigh-change_at : (j : ℕ) (p : Path) (ps : Parts N) → own w (option_map g (read_at (j ∷ p) ps)) + a ≡ own w (read_at (j ∷ p) ps) + b → all w (change_at (j ∷ p) g ps) + a ≡ all w ps + b
+    weigh-change_at j p ps e = weigh-change_from j p 0 ps e

@@ -1,0 +1,48 @@
+-- Words on lists that compute on the first element.
+use Rattle.std.specs.Prelude.{ℕ, zero, suc, ◌+◌, List, [], ◌∷◌, Bool, true, false, ◌&&◌, ◌||◌, ◌≡◌, ◌⊎◌, Option, Some, None, nat_eq}
+
+-- the element is in the list
+abbrev pub IsIn : {X : Type 0} → X → List X → Type 0
+IsIn x [] = ⊥
+IsIn x (y ∷ ys) = (x ≡ y) ⊎ IsIn x ys
+
+-- each element passes the test
+abbrev pub every : {X : Type 0} → (X → Bool) → List X → Bool
+every test [] = true
+every test (x ∷ xs) = test x && every test xs
+
+-- some element passes the test
+abbrev pub some_of : {X : Type 0} → (X → Bool) → List X → Bool
+some_of test [] = false
+some_of test (x ∷ xs) = test x || some_of test xs
+
+-- the elements with their places, from a first place on
+abbrev pub numbered : {X : Type 0} → ℕ → List X → List (ℕ × X)
+numbered i [] = []
+numbered i (x ∷ xs) = (i, x) ∷ numbered (suc i) xs
+
+-- what a function makes of what an option holds, or a value for none
+abbrev pub with_some : {X Y : Type 0} → Y → (X → Y) → Option X → Y
+with_some y f None = y
+with_some y f (Some x) = f x
+
+-- the list that a function makes of what an option holds
+abbrev pub list_of : {X Y : Type 0} → (X → List Y) → Option X → List Y
+list_of f o = with_some [] f o
+
+-- the two lists of numbers are equal
+abbrev pub same_numbers : List ℕ → List ℕ → Bool
+same_numbers [] [] = true
+same_numbers [] (n ∷ ns) = false
+same_numbers (m ∷ ms) [] = false
+same_numbers (m ∷ ms) (n ∷ ns) = nat_eq m n && same_numbers ms ns
+
+-- the sum of what a function gives at each element
+abbrev pub weight : {X : Type 0} → (X → ℕ) → List X → ℕ
+weight w [] = 0
+weight w (x ∷ xs) = w x + weight w xs
+
+-- so many numbers in order, from a first one on
+abbrev pub range : ℕ → ℕ → List ℕ
+range i zero = []
+range i (suc n) = i ∷ range (suc i) n
