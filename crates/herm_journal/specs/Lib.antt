@@ -1,0 +1,5 @@
+pub mod Actions
+pub mod Places
+pub mod Entries
+pub mod Journals
+pub mod JournalLaws
