@@ -1,0 +1,163 @@
+-- The entries of a run, in order, fit its diaries and histories.
+use Rattle.std.proofs.Common.{◌≡◌, ℕ, suc, ◌<◌, ◌≤◌, List, [], ◌∷◌, ◌++◌, Bool, true, false, cond, ◌&&◌, ◌||◌, ◌⊎◌, inl, inr, Some, None, length, refl, sym, ap, subst, ◌∙◌, arith, true≢false}
+use Rattle.std.specs.Prelude.{nat_eq, nat_lt, slice_get}
+use Rattle.herm_model.specs.Lists.{IsIn}
+use Rattle.herm_journal.specs.Actions.{make_port, make_process, put, take, close, answer, hear}
+use Rattle.herm_journal.specs.Places.{Book, Limits, after}
+use Rattle.herm_journal.specs.Entries.{Text, Place, same_place, Entry, recorded}
+use Rattle.herm_journal.specs.Journals.{IsJournalOf, part_of_process, part_of_place, clock_of_process, clock_of_place, is_maker_of, next_stamp, entry_behind, ordered}
+use Rattle.herm_source.specs.Bodies.{Name}
+use Rattle.herm_source.specs.Exchanges.{CellAction}
+use Rattle.herm_source.specs.Edges.{Code}
+use Rattle.herm_source.specs.States.{wanted, local_step, answered}
+use Rattle.herm_source.specs.Systems.{Modules, System, Moved, Event, steps, acts, Run, run, run_on, step, start, with_entry, with_made, set_process, set_holding, holding_at, act_at, behind_action, own_name, numbered_from_one, done_at, number_of}
+use Rattle.herm_source.specs.Sound.{IsNumbered}
+use Rattle.herm_source.proofs.Events.{some-injective, none-not_some, chain-some, map-some}
+use Rattle.herm_source.proofs.SystemLedger.{cond-some, process-some}
+use Rattle.herm_journal.proofs.Rising.{same-true}
+use Rattle.herm_source.proofs.Numbered.{same-number, BookMoves, book-moves, process-counts, step-numbered, opening-numbered}
+use Rattle.herm_source.proofs.RoundsEnd.{get-past}
+use Rattle.herm_source.proofs.Histories.{place-same}
+use Rattle.herm_source.proofs.Diaries.{set-absent_from_one, made-absent, unmoved-absent}
+use Rattle.herm_source.proofs.Ordered.{Ascends, ascends-more, all-differ, last-more, in-more, kept-ordered, rising-ordered}
+
+-- along a run no entry is later than its clocks, and stamps rise by process and by place
+record IsClocked (modules : Modules) (s : System) (journal : List Entry) : Type 0 where
+  by_process : (f : Entry) → IsIn f journal → f.stamp ≤ clock_of_process f.process journal
+  by_place : (f : Entry) → IsIn f journal → f.stamp ≤ clock_of_place f.place journal
+  process_rises : (p : ℕ) → Ascends (λ (e : Entry). nat_eq e.process p) journal
+  place_rises : (q : Place) → Ascends (λ (e : Entry). same_place e.place q) journal
+  there : (f : Entry) → IsIn f journal → numbered_from_one f.process s.processes ≡ None → ⊥
+  numbered : IsNumbered modules s
+
+-- with one entry more
+module _ (modules : Modules) (s t : System) (journal : List Entry) (e : Entry) (k : IsClocked modules s journal) (stamped : e.stamp ≡ next_stamp journal e.process e.place)
+    (maker : (q : ℕ) → is_maker_of q e.action ≡ true → numbered_from_one q s.processes ≡ None) (here : numbered_from_one e.process t.processes ≡ None → ⊥)
+    (before : (q : ℕ) → numbered_from_one q t.processes ≡ None → numbered_from_one q s.processes ≡ None) (numbered : IsNumbered modules t) where
+  same-clock : (p : ℕ) → e.process ≡ p → clock_of_process p journal < e.stamp
+  same-clock p same = omega (arith, stamped, ap (λ i. clock_of_process i journal) same)
+
+  same-place_clock : (q : Place) → e.place ≡ q → clock_of_place q journal < e.stamp
+  same-place_clock q same = omega (arith, stamped, ap (λ i. clock_of_place i journal) same)
+
+  process-late : (f : Entry) → IsIn f journal → (a b : Bool) → nat_eq e.process f.process ≡ a → is_maker_of f.process e.action ≡ b → f.stamp ≤ cond (a || b) e.stamp (clock_of_process f.process journal)
+  process-late f i true b same m = omega (arith, same-clock f.process (same-number e.process f.process same), k.by_process f i)
+  process-late f i false true same m = absurd (k.there f i (maker f.process m))
+  process-late f i false false same m = k.by_process f i
+
+  place-late : (f : Entry) → IsIn f journal → (a : Bool) → same_place e.place f.place ≡ a → f.stamp ≤ cond a e.stamp (clock_of_place f.place journal)
+  place-late f i true same = omega (arith, same-place_clock f.place (place-same e.place f.place same), k.by_place f i)
+  place-late f i false same = k.by_place f i
+
+  own-late : (q : ℕ) (c : ℕ) → (a : Bool) → a ≡ true → e.stamp ≤ cond a e.stamp c
+  own-late q c true is = omega arith
+  own-late q c false is = absurd (true≢false (sym is))
+
+  or-true : (a b : Bool) → a ≡ true → (a || b) ≡ true
+  or-true true b is = refl
+  or-true false b is = absurd (true≢false (sym is))
+
+  place-itself : (q : Place) → same_place q q ≡ true
+  place-itself (Place.port n) = same-true n
+  place-itself (Place.reply_cell n) = same-true n
+  place-itself Place.book = refl
+
+  all-process : (f : Entry) → IsIn f (journal ++ e ∷ []) → f.stamp ≤ clock_of_process f.process (journal ++ e ∷ [])
+  all-process f i = subst (λ c. f.stamp ≤ c) (sym (last-more (λ x. nat_eq x.process f.process || is_maker_of f.process x.action) 0 journal e)) (by_place (in-more f e journal i))
+    where
+      by_place : IsIn f journal ⊎ (f ≡ e) → f.stamp ≤ cond (nat_eq e.process f.process || is_maker_of f.process e.action) e.stamp (clock_of_process f.process journal)
+      by_place (inl j) = process-late f j (nat_eq e.process f.process) (is_maker_of f.process e.action) refl refl
+      by_place (inr p) = subst (λ (g : Entry). g.stamp ≤ cond (nat_eq e.process g.process || is_maker_of g.process e.action) e.stamp (clock_of_process g.process journal)) (sym p)
+          (own-late e.process (clock_of_process e.process journal) (nat_eq e.process e.process || is_maker_of e.process e.action) (or-true (nat_eq e.process e.process) (is_maker_of e.process e.action) (same-true e.process)))
+
+  all-place : (f : Entry) → IsIn f (journal ++ e ∷ []) → f.stamp ≤ clock_of_place f.place (journal ++ e ∷ [])
+  all-place f i = subst (λ c. f.stamp ≤ c) (sym (last-more (λ x. same_place x.place f.place) 0 journal e)) (by_place (in-more f e journal i))
+    where
+      by_place : IsIn f journal ⊎ (f ≡ e) → f.stamp ≤ cond (same_place e.place f.place) e.stamp (clock_of_place f.place journal)
+      by_place (inl j) = place-late f j (same_place e.place f.place) refl
+      by_place (inr p) = subst (λ (g : Entry). g.stamp ≤ cond (same_place e.place g.place) e.stamp (clock_of_place g.place journal)) (sym p)
+          (own-late e.process (clock_of_place e.place journal) (same_place e.place e.place) (place-itself e.place))
+
+  clocked-more : IsClocked modules t (journal ++ e ∷ [])
+  clocked-more = record {
+    by_process = all-process;
+    by_place = all-place;
+    process_rises = λ p. ascends-more (λ (x : Entry). nat_eq x.process p) journal e (k.process_rises p)
+        (λ own f i same. omega (arith, k.by_process f i, same-clock f.process (same-number e.process p own ∙ sym (same-number f.process p same))));
+    place_rises = λ q. ascends-more (λ (x : Entry). same_place x.place q) journal e (k.place_rises q)
+        (λ own f i same. omega (arith, k.by_place f i, same-place_clock f.place (place-same e.place q own ∙ sym (place-same f.place q same))));
+    there = λ f i none. is_there f (in-more f e journal i) none;
+    numbered = numbered;
+  }
+    where
+      is_there : (f : Entry) → IsIn f journal ⊎ (f ≡ e) → numbered_from_one f.process t.processes ≡ None → ⊥
+      is_there f (inl j) none = k.there f j (before f.process none)
+      is_there f (inr p) none = here (ap (λ (g : Entry). numbered_from_one g.process t.processes) (sym p) ∙ none)
+
+-- a process that an action makes was not there
+maker-absent : (modules : Modules) (s : System) (a : CellAction Name) (c : Book) (q : ℕ) → IsNumbered modules s → BookMoves a s.book c → is_maker_of q (recorded a) ≡ true → numbered_from_one q s.processes ≡ None
+maker-absent modules s (make_process code (Some made)) c q k moves is =
+    let counts = process-counts s.book (nat_lt s.book.processes s.book.limits.processes && nat_lt s.book.ports s.book.limits.ports) made moves.0 in
+    let next : q ≡ suc (length s.processes) = sym (same-number made.0 q is) ∙ counts.0 ∙ ap suc (sym k.book.0) in
+    ap (λ i. numbered_from_one i s.processes) next ∙ get-past s.processes (length s.processes) (omega arith)
+maker-absent modules s (make_process code None) c q k moves is = absurd (true≢false (sym is))
+maker-absent modules s (make_port made) c q k moves is = absurd (true≢false (sym is))
+maker-absent modules s (put number m) c q k moves is = absurd (true≢false (sym is))
+maker-absent modules s (take number m) c q k moves is = absurd (true≢false (sym is))
+maker-absent modules s (close count left) c q k moves is = absurd (true≢false (sym is))
+maker-absent modules s (answer call r) c q k moves is = absurd (true≢false (sym is))
+maker-absent modules s (hear call r) c q k moves is = absurd (true≢false (sym is))
+
+step-clocked : (modules : Modules) (limits : Limits) (e : Event) (s : System) (m : Moved) (journal : List Entry) → step modules e s ≡ Some m → IsClocked modules s journal → IsClocked modules m.system (with_entry journal e m.done)
+step-clocked modules limits (steps p) s m journal is k =
+    let x = process-some modules s p _ m (cond-some _ _ m is) in
+    let n = map-some _ (local_step own_name x.code x.state) m x.does in
+    let now : IsNumbered modules (set_process p n.0 s) = subst (λ (m : Moved). IsNumbered modules m.system) (sym n.2) (step-numbered modules (steps p) s m is k.numbered) in
+    subst (λ (m : Moved). IsClocked modules m.system (with_entry journal (steps p) m.done)) n.2 (record {
+      by_process = k.by_process;
+      by_place = k.by_place;
+      process_rises = k.process_rises;
+      place_rises = k.place_rises;
+      there = λ f i none. k.there f i (set-absent_from_one s.processes p f.process n.0 none);
+      numbered = now;
+    })
+step-clocked modules limits (acts p place) s m journal is k =
+    let x = process-some modules s p _ m (cond-some _ _ m is) in
+    let want = chain-some (act_at modules p place s x.code x.state) (wanted own_name x.code x.state) m x.does in
+    let at = chain-some _ (holding_at place s) m (cond-some _ _ m want.2) in
+    let did = chain-some (behind_action modules p place s x.code x.state at.0) (done_at want.0 at.0) m at.2 in
+    let left = chain-some _ (answered own_name x.code x.state (number_of place) did.0) m did.2 in
+    let u = set_process p left.0 (set_holding place (after did.0 at.0) s) in
+    let makes = map-some _ (with_made modules x.state.body did.0 u) m left.2 in
+    let now : IsNumbered modules makes.0 = subst (λ (m : Moved). IsNumbered modules m.system) (sym makes.2) (step-numbered modules (acts p place) s m is k.numbered) in
+    let moves = book-moves want.0 place s at.0 did.0 at.1 did.1 in
+    let before : (q : ℕ) → numbered_from_one q makes.0.processes ≡ None → numbered_from_one q s.processes ≡ None =
+    λ q none. unmoved-absent modules limits s place (after did.0 at.0) p q left.0 (made-absent modules x.state.body did.0 u makes.0 q makes.1 none) in
+    subst (λ (m : Moved). IsClocked modules m.system (with_entry journal (acts p place) m.done)) makes.2
+    (clocked-more modules s makes.0 journal (entry_behind journal p place (recorded did.0)) k refl
+    (λ q made. maker-absent modules s did.0 (set_holding place (after did.0 at.0) s).book q k.numbered moves made)
+    (λ none. none-not_some (sym (before p none) ∙ x.is)) before now)
+
+run-clocked : (modules : Modules) (limits : Limits) (events : List Event) (r t : Run) → run modules events r ≡ Some t → IsClocked modules r.system r.journal → IsClocked modules t.system t.journal
+run-clocked modules limits [] r t is k = subst (λ (x : Run). IsClocked modules x.system x.journal) (some-injective is) k
+run-clocked modules limits (e ∷ events) r t is k =
+    let b = chain-some (run modules events) (run_on modules e r) t is in
+    let m = map-some (λ (m : Moved). record { system = m.system; journal = with_entry r.journal e m.done }) (step modules e r.system) b.0 b.1 in
+    run-clocked modules limits events b.0 t b.2 (subst (λ (x : Run). IsClocked modules x.system x.journal) m.2 (step-clocked modules limits e r.system m.0 r.journal m.1 k))
+
+pub ordered-fits : (modules : Modules) (limits : Limits) (argument : Text) (main : Code) (events : List Event) (r : Run) → slice_get modules.codes modules.main ≡ Some main →
+    run modules events (start modules limits argument) ≡ Some r → IsJournalOf (ordered r.journal) (λ p. part_of_process p r.journal) (λ s. part_of_place s r.journal)
+ordered-fits modules limits argument main events r is runs =
+    let k = run-clocked modules limits events (start modules limits argument) r runs (record {
+      by_process = λ f i. absurd i;
+      by_place = λ f i. absurd i;
+      process_rises = λ p. tt;
+      place_rises = λ q. tt;
+      there = λ f i. absurd i;
+      numbered = opening-numbered modules limits argument main is;
+    }) in
+    record {
+      ordered = rising-ordered r.journal (all-differ r.journal k.process_rises);
+      by_process = λ p. kept-ordered (λ (e : Entry). nat_eq e.process p) r.journal (k.process_rises p);
+      by_place = λ s. kept-ordered (λ (e : Entry). same_place e.place s) r.journal (k.place_rises s);
+    }

@@ -1,0 +1,7 @@
+use Rattle.herm_source.specs.Renaming.{forget_name}
+use Rattle.herm_source.specs.Systems.{own_name}
+use Rattle.herm_source.proofs.RenamedSteps.{answered-renamed}
+use Rattle.herm_source.proofs.forgetting.answers_forget_names.Goals as goal
+
+pub returns : goal.returns
+returns c = record { answers = answered-renamed forget_name own_name }

@@ -1,0 +1,141 @@
+-- What is claimed of edges: behind an edge there is a value exactly where the facts of its target say so.
+use Rattle.std.specs.Prelude.{◌≡◌, ℕ, List, [], ◌∷◌, ◌++◌, ◌↔◌, Bool, false, not, ◌&&◌, ◌||◌, Some, slice_get, IsTrue}
+use Rattle.herm_model.specs.Lists.{IsIn, some_of}
+use Rattle.herm_model.specs.Paths.{Path, Fact, init, path_of, same_fact, is_at_or_below}
+use Rattle.herm_model.specs.Types.{TypeTable, steps, full_parts, fields, cases, rows, polymorph, inport, outport, type_at, is_within_depth, greatest_depth}
+use Rattle.herm_model.specs.Facts.{IsClosed, full_facts}
+use Rattle.herm_model.specs.Expressions.{Expression}
+use Rattle.herm_model.specs.Statements.{Form, Assign, Move, Dissolve, Unwrap, New, Connect, Receive, Send, Discard, If, While, Raise, Leave, Process, IsWellFormedBlock}
+use Rattle.herm_model.specs.Nodes.{Target, node, end, Node, entry_of, process_nodes}
+use Rattle.herm_model.specs.Outcomes.{Outcome}
+use Rattle.herm_model.specs.StatementTable.{makes, kills}
+use Rattle.herm_model.specs.Control.{Point, Edge, flow_of, held_behind, IsReached}
+use Rattle.herm_model.specs.Refusals.{Labels, label_at, AreExact}
+use Rattle.herm_model.specs.Values.{Cell, Parts, Value, HasExactly, kind_of, opens, has_place, put_at, clear_at}
+use Rattle.herm_model.specs.Typed.{HasType, HaveTypes, IsFull}
+use Rattle.herm_source.specs.Evaluate.{gives, evaluate}
+use Rattle.herm_source.specs.Bodies.{Name, Body, goes}
+use Rattle.herm_journal.specs.Actions.{put, take}
+use Rattle.herm_source.specs.Exchanges.{receive, send}
+use Rattle.herm_source.specs.Edges.{Code, code_of, arrive, beyond_declared}
+use Rattle.herm_source.specs.States.{State, begin, act, behind}
+
+-- the types of the variables are within the limit of depth
+abbrev pub AreDeep : Code → Type 0
+AreDeep c = (t : ℕ) → IsIn t c.variables → IsTrue (is_within_depth greatest_depth c.types t)
+
+-- The values are of their types and have exactly these facts.
+pub record AreSound (c : Code) (has : Fact → Bool) (ps : Parts Name) : Type 0 where
+  pub types : HaveTypes c.types c.variables ps
+  pub facts : HasExactly ps (λ f. IsTrue (has f))
+
+-- Where sound values have all facts of the edge's target, and those are closed, the edge leaves sound values with
+-- exactly these facts. At an end there are none. Language reference, "Finalising".
+abbrev pub EdgesAreExact : Type 0
+EdgesAreExact = (c : Code) (t : Target) (b : Body Name) (has : Fact → Bool) → AreDeep c → AreSound c has b.variables
+    → ((f : Fact) → IsTrue (label_at c.label t f) → IsTrue (has f)) → IsClosed c.types c.variables (λ f. IsTrue (label_at c.label t f))
+    → AreSound c (label_at c.label t) (arrive c t b).variables
+
+-- Of a process made ready with exact labels: at a point that a control path reaches, where the values are sound with
+-- what is held behind an edge, they are sound behind the edge with the facts of its target.
+-- Language reference, "Sound states".
+abbrev pub EdgesArrive : Type 0
+EdgesArrive = (types : TypeTable) (p : Process) (labels : Labels) → IsWellFormedBlock p.body → AreExact (flow_of types p) labels → AreDeep (code_of types p labels)
+    → (i : ℕ) (point : Point) (e : Edge) → IsReached (flow_of types p) (node i) → slice_get (flow_of types p).points i ≡ Some point → IsIn e point.edges
+    → (b : Body Name) → AreSound (code_of types p labels) (λ f. held_behind e f (labels i f)) b.variables
+    → AreSound (code_of types p labels) (label_at labels e.target) (arrive (code_of types p labels) e.target b).variables
+
+-- Of such a process the values are sound as it begins, where its port has the type of variable 0.
+-- Language reference, "Sound states".
+abbrev pub BeginningsAreSound : Type 0
+BeginningsAreSound = (types : TypeTable) (p : Process) (labels : Labels) → AreExact (flow_of types p) labels → AreDeep (code_of types p labels)
+    → (t : ℕ) (more : List ℕ) → p.variables ≡ t ∷ more → (code number : ℕ) (port : Cell Name) → HasType types t port → opens (kind_of port) ≡ false
+    → AreSound (code_of types p labels) (label_at labels (entry_of p)) (begin (code_of types p labels) code number port).body.variables
+
+-- the facts without those at a path and below it
+abbrev pub without : Path → (Fact → Bool) → Fact → Bool
+without p has f = not (is_at_or_below p (path_of f)) && has f
+
+-- the facts with a full value of a type at a path, in place of those at the path and below it
+abbrev pub with_full : Code → ℕ → Path → (Fact → Bool) → Fact → Bool
+with_full c t p has f = some_of (same_fact f) (full_facts c.types t p) || without p has f
+
+-- Where nothing is left at a path of sound values, they are sound without its facts. Language reference, "Sound states".
+abbrev pub ClearingIsSound : Type 0
+ClearingIsSound = (c : Code) (has : Fact → Bool) (i : ℕ) (q : List ℕ) (ps : Parts Name) → AreSound c has ps → AreSound c (without (i ∷ q) has) (clear_at (i ∷ q) ps)
+
+-- Where sound values have a place at a path, and a full value of the path's type is set there, they are sound with its
+-- full facts. Language reference, "Sound states".
+abbrev pub SettingIsSound : Type 0
+SettingIsSound = (c : Code) (has : Fact → Bool) (i : ℕ) (q : List ℕ) (t : ℕ) (value : Cell Name) (ps : Parts Name) → AreSound c has ps
+    → IsTrue (has_place ps (i ∷ q)) → type_at c.types c.variables (i ∷ q) ≡ Some t → IsTrue (is_within_depth greatest_depth c.types t) → IsFull c.types t value
+    → AreSound c (with_full c t (i ∷ q) has) (put_at (i ∷ q) value ps)
+
+-- What is held behind an outcome of a form, from what is held before. Language reference, "Held".
+abbrev pub held_after : TypeTable → List ℕ → Form → Outcome → (Fact → Bool) → Fact → Bool
+held_after types variables form o has f = held_behind (record { outcome = o; makes = makes types variables form o; kills = kills types variables form o; target = end }) f (has f)
+
+-- Of such a process: a statement at a point that a control path reaches comes to an outcome, and its values are sound
+-- with what is held behind the outcome. Then, where the outcome leads, they are sound with the facts there.
+-- Language reference, "Sound states".
+abbrev pub OutcomesArrive : Type 0
+OutcomesArrive = (types : TypeTable) (p : Process) (labels : Labels) → IsWellFormedBlock p.body → AreExact (flow_of types p) labels → AreDeep (code_of types p labels)
+    → (i : ℕ) (n : Node) → IsReached (flow_of types p) (node i) → slice_get (process_nodes p) i ≡ Some n
+    → (o : Outcome) (b : Body Name) → AreSound (code_of types p labels) (held_after types p.variables n.form o (labels i)) b.variables
+    → (s t : State Name) → behind (code_of types p labels) s (Some n) (goes o b) ≡ Some t
+    → IsReached (flow_of types p) t.point × AreSound (code_of types p labels) (label_at labels t.point) t.body.variables
+
+-- A form does what the statement table says of it: sound values stay sound, with what is held behind the outcome.
+-- Language reference, "Sound states".
+abbrev pub KeepsSound : Code → Form → Type 0
+KeepsSound c form = (name : Name → Name) (statement : ℕ) (has : Fact → Bool) (b b' : Body Name) (o : Outcome) → AreSound c has b.variables
+    → act name c statement form b ≡ goes o b' → AreSound c (held_after c.types c.variables form o has) b'.variables
+
+-- the forms that set no value
+pub record PlainFormsAreSound (c : Code) : Type 0 where
+  pub discard : (i : ℕ) (q : List ℕ) → KeepsSound c (Discard (i ∷ q))
+  pub if_test : (e : Expression) → KeepsSound c (If e)
+  pub while_test : (e : Expression) → KeepsSound c (While e)
+  pub raise : (e : ℕ) → KeepsSound c (Raise e)
+  pub leave : KeepsSound c Leave
+
+-- An assignment to a whole variable, of an expression whose value is a full one of the variable's type, does what the
+-- statement table says of it. Language reference, "Sound states".
+abbrev pub AssignmentsAreSound : Type 0
+AssignmentsAreSound = (c : Code) (v t : ℕ) (e : Expression) → slice_get c.variables v ≡ Some t → IsTrue (is_within_depth greatest_depth c.types t)
+    → (name : Name → Name) (statement : ℕ) (has : Fact → Bool) (b b' : Body Name) (o : Outcome) → ((value : Value) → evaluate b.variables e ≡ gives value → IsFull c.types t value)
+    → AreSound c has b.variables → act name c statement (Assign (v ∷ []) e) b ≡ goes o b' → AreSound c (held_after c.types c.variables (Assign (v ∷ []) e) o has) b'.variables
+
+-- A message that is full is received in a whole variable from a port whose type lists no facts.
+-- Language reference, "Sound states".
+abbrev pub ReceivesAreSound : Type 0
+ReceivesAreSound = (c : Code) (v t port : ℕ) (i : Path) → slice_get c.variables v ≡ Some t → IsTrue (is_within_depth greatest_depth c.types t)
+    → type_at c.types c.variables i ≡ Some port → slice_get c.types port ≡ Some (inport t [])
+    → (has : Fact → Bool) (b b' : Body Name) (o : Outcome) (k : ℕ) (message : Cell Name) → IsFull c.types t message
+    → AreSound c has b.variables → receive (v ∷ []) (take k message) b ≡ goes o b' → AreSound c (held_after c.types c.variables (Receive (v ∷ []) i) o has) b'.variables
+
+-- A message that was placed is gone from where it was, with what it held beyond its facts.
+-- Language reference, "Sound states".
+abbrev pub SendsAreSound : Type 0
+SendsAreSound = (c : Code) (x : ℕ) (q : List ℕ) (to : Path) (has : Fact → Bool) (b b' : Body Name) (o : Outcome) (k : ℕ) (message : Cell Name)
+    → AreSound c has b.variables → send (beyond_declared c to (x ∷ q) b) (x ∷ q) (put (Some k) message) b ≡ goes o b'
+    → AreSound c (held_after c.types c.variables (Send (x ∷ q) to) o has) b'.variables
+
+-- A new record, table or outport in a whole variable: its own fact is made. Language reference, "Sound states".
+pub record NewValuesAreSound (c : Code) : Type 0 where
+  pub new : (v t : ℕ) (ts : List ℕ) → slice_get c.variables v ≡ Some t → slice_get c.types t ≡ Some (fields ts) → KeepsSound c (New (v ∷ []))
+  pub new_table : (v t row : ℕ) (key : List ℕ) → slice_get c.variables v ≡ Some t → slice_get c.types t ≡ Some (rows row key) → KeepsSound c (New (v ∷ []))
+  pub connect : (v t port : ℕ) (i : Path) → slice_get c.variables v ≡ Some t → slice_get c.types t ≡ Some (outport port) → KeepsSound c (Connect (v ∷ []) i)
+
+-- A value that has exactly its full facts moves to a whole variable of its type. Language reference, "Sound states".
+abbrev pub MovesAreSound : Type 0
+MovesAreSound = (c : Code) (i : ℕ) (q : List ℕ) (v t : ℕ) → slice_get c.variables v ≡ Some t → IsTrue (is_within_depth greatest_depth c.types t) → type_at c.types c.variables (i ∷ q) ≡ Some t
+    → (name : Name → Name) (statement : ℕ) (has : Fact → Bool) (b b' : Body Name) (o : Outcome) → ((r : List ℕ) → IsIn r (steps full_parts c.types t) ↔ IsTrue (has (init ((i ∷ q) ++ r))))
+    → AreSound c has b.variables → act name c statement (Move (i ∷ q) (v ∷ [])) b ≡ goes o b' → AreSound c (held_after c.types c.variables (Move (i ∷ q) (v ∷ [])) o has) b'.variables
+
+-- The content of a variant or a polymorph moves to a whole variable of its type. Language reference, "Sound states".
+pub record ContentsAreSound (c : Code) : Type 0 where
+  pub dissolve : (i : ℕ) (q : List ℕ) (k v t u : ℕ) (ts : List ℕ) → slice_get c.variables v ≡ Some t → IsTrue (is_within_depth greatest_depth c.types t) → type_at c.types c.variables (i ∷ q) ≡ Some u
+      → slice_get c.types u ≡ Some (cases ts) → slice_get ts k ≡ Some t → KeepsSound c (Dissolve (i ∷ q) k (v ∷ []))
+  pub unwrap : (i : ℕ) (q : List ℕ) (v t u : ℕ) → slice_get c.variables v ≡ Some t → IsTrue (is_within_depth greatest_depth c.types t) → type_at c.types c.variables (i ∷ q) ≡ Some u
+      → slice_get c.types u ≡ Some polymorph → KeepsSound c (Unwrap (i ∷ q) t (v ∷ []))

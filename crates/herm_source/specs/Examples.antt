@@ -1,0 +1,36 @@
+-- Programs made ready, and the text of their runs by rounds.
+use Rattle.std.specs.Prelude.{ℕ, List, [], ◌∷◌, map, flat_map, Option, option_map, codes}
+use Rattle.herm_journal.specs.Places.{Limits}
+use Rattle.herm_journal.specs.Entries.{Text}
+use Rattle.herm_source.specs.Labels.{ready}
+use Rattle.herm_source.specs.Systems.{Program, Modules, Run, start}
+use Rattle.herm_source.specs.Rounds.{rounds}
+use Rattle.herm_source.specs.Statuses.{line, Asked, text_of_run, status_of}
+
+-- the program with its labels, for which three rounds suffice in each example
+abbrev pub ready_program : Program → Modules
+ready_program program = record { types = program.types; codes = map (ready 3 program.types) program.processes; main = program.main }
+
+abbrev pub limited : (steps processes ports : ℕ) → Limits
+limited steps processes ports = record { steps = steps; processes = processes; ports = ports }
+
+-- the names of the predefined exceptions by number, and of one more
+abbrev pub exception_names : List Text
+exception_names =
+    codes "Overflow" ∷ codes "Depletion" ∷ codes "CaseError" ∷ codes "PolymorphMismatch" ∷ codes "DuplicateKey"
+    ∷ codes "NotFound" ∷ codes "Disconnected" ∷ codes "Busy" ∷ []
+
+-- how a run ended: its status and its text
+pub record Ending : Type 0 where
+  pub status : ℕ
+  pub text : Text
+
+-- The ending of the run by rounds, with an empty argument, where at most so many rounds suffice.
+abbrev pub ending : (most : ℕ) → Asked → Limits → Program → Option Ending
+ending most asked limits program =
+    let modules = ready_program program
+    in option_map (λ (r : Run). record { status = status_of modules r.system; text = text_of_run exception_names asked modules r }) (rounds most modules (start modules limits []))
+
+-- a text of these lines
+abbrev pub in_lines : List Text → Text
+in_lines ts = flat_map line ts
