@@ -1,0 +1,12 @@
+pub mod Front
+pub mod TokenLaws
+pub mod GivesLaws
+pub mod StripLaws
+pub mod ReadingLaws
+pub mod AgainLaws
+pub mod NamesLaws
+pub mod ProgramLaws
+pub mod StraightLaws
+pub mod CheckLaws
+pub mod PlaceLaws
+pub mod RefusalLaws

@@ -1,0 +1,13 @@
+use Rattle.std.proofs.Common.{sym, ◌∙◌, inr}
+use Rattle.herm_compile.proofs.ProgramLaws.{accepted, is_lacking}
+use Rattle.herm_compile.proofs.judge.Goals as goal
+
+pub returns-then-is_empty-clause-accepted : goal.returns-then-is_empty-clause-accepted
+returns-then-is_empty-clause-accepted c =
+    let e = rw c.as_slice.ensures.value at c.is_empty.ensures in
+    accepted c.args.bytes.now c.args.program.names.items c.args.program.lines.items _ c.in-Ok.faults.items c.requires.0.program (sym e ∙ c.if-is_empty.true) c.in-Ok.ensures
+
+pub returns-in-Ok-clause-refused : goal.returns-in-Ok-clause-refused
+returns-in-Ok-clause-refused c =
+    let e = rw c.as_slice.ensures.value at c.is_empty.ensures in
+    inr (is_lacking c.args.bytes.now c.args.program.names.items c.args.program.lines.items c.args.tokens.now c.in-Ok.faults.items c.requires (sym e ∙ c.if-is_empty.false) c.in-Ok.ensures)

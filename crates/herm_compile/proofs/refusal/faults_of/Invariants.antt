@@ -1,0 +1,7 @@
+use Rattle.std.proofs.Common.{◌≡◌, take}
+use Rattle.std.specs.Prelude.{map}
+use Rattle.herm_compile.specs.Refused.{IsPlace, seen, reported}
+use Rattle.herm_compile.proofs.refusal.faults_of.Given as goal
+
+abbrev pub invariant-gaps : goal.invariant-gaps
+invariant-gaps l = IsPlace l.bytes l.place × (map seen l.faults.items ≡ map (reported l.bytes l.names l.lefts) (take l.gap-index l.gaps))

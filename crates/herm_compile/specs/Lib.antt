@@ -1,0 +1,9 @@
+pub mod Bytes
+pub mod Front
+pub mod Spelling
+pub mod TokenAt
+pub mod Gives
+pub mod Form
+pub mod Reading
+pub mod Straight
+pub mod Refused

@@ -1,0 +1,22 @@
+//! What the compiler gives: the names and lines of a program.
+use herm_base::Word;
+
+/// A line of a program. A variable is its place among the declared strings, from 0.
+#[derive(Drop)]
+pub enum Line {
+    /// The message of the start port is received. It is the first line and no other.
+    Receive,
+    /// The variable takes this string.
+    Set(u32, Word),
+    /// The variable's string is sent to the console.
+    Send(u32),
+    /// The variable's string is discarded.
+    Discard(u32),
+}
+
+/// A checked program: the names of its declared strings, and its lines.
+#[derive(Drop)]
+pub struct Compiled {
+    pub names: Vec<Word>,
+    pub lines: Vec<Line>,
+}

@@ -1,0 +1,128 @@
+//! The places of lines in the file.
+ghost use Rattle.std.specs.Prelude.{◌≡◌, ◌<◌, ◌≤◌, ℕ, suc, List, length, drop, IfOk};
+ghost use Rattle.herm_compile.specs.Form.{line_tokens};
+ghost use Rattle.herm_compile.specs.Refused.{left_of, starts, IsPlace, place_behind};
+
+use crate::compiled::Line;
+use crate::tokens::Placed;
+use herm_base::Word;
+use std::alloc::{AllocError, Global};
+
+fn left_of(tokens: &[Placed]) -> usize
+    ensures { result ≡ left_of tokens.now }
+{
+    match tokens {
+        [] => 0,
+        [first, ..] => first.left,
+    }
+}
+
+fn behind(tokens: &[Placed], count: usize) -> &[Placed]
+    ensures { result.now ≡ drop count tokens.now }
+{
+    if count < tokens.len() {
+        return tokens.split_at(count).1;
+    }
+    &[]
+}
+
+fn token_count(line: &Line) -> usize
+    ensures { (names : List (List ℕ)) → result ≡ length (line_tokens names line.now) }
+{
+    match line {
+        Line::Receive => 5,
+        Line::Set(_, _) => 4,
+        Line::Send(_) => 7,
+        Line::Discard(_) => 3,
+    }
+}
+
+/// At each line how many bytes there are from its first token on, given the tokens of the file.
+pub fn starts_of(
+    alloc: Global,
+    names: &[Word],
+    lines: &[Line],
+    tokens: &[Placed],
+) -> Result<Vec<usize>, AllocError>
+    requires { length names.now ≤ 4000 }
+    ensures { IfOk result (λ v. v.items ≡ starts names.now lines.now tokens.now) }
+{
+    let mut rest = behind(tokens, 13 + 4 * names.len());
+    let mut lefts = Vec::new(alloc);
+    'lines: for line in lines {
+        lefts.push(left_of(rest))?;
+        rest = behind(rest, token_count(line));
+    }
+    Ok(lefts)
+}
+
+/// A place in a file: how many bytes stand before it, and its line and column, counted from 1.
+#[derive(Clone, Copy)]
+pub struct Place {
+    pub offset: usize,
+    pub line: u32,
+    pub column: u32,
+}
+
+fn place_behind(place: Place, byte: u8) -> Place
+    requires offset { place.offset < 1048576 }
+    requires line { place.line ≤ suc place.offset }
+    requires column { place.column ≤ suc place.offset }
+    ensures { result ≡ place_behind place byte }
+{
+    let offset = place.offset + 1;
+    if byte == b'\n' {
+        return Place {
+            offset,
+            line: place.line + 1,
+            column: 1,
+        };
+    }
+    Place {
+        offset,
+        line: place.line,
+        column: place.column + 1,
+    }
+}
+
+/// The beginning of a file.
+pub fn file_start(bytes: &[u8]) -> Place
+    ensures place { IsPlace bytes.now result }
+    ensures offset { result.offset ≡ 0 }
+{
+    let _bytes = bytes;
+    Place {
+        offset: 0,
+        line: 1,
+        column: 1,
+    }
+}
+
+/// The place at this offset. It goes on from the last place where that lies before.
+pub fn place_at(bytes: &[u8], last: Place, offset: usize) -> Place
+    requires short { length bytes.now ≤ 1048576 }
+    requires within { offset ≤ length bytes.now }
+    requires last { IsPlace bytes.now last }
+    ensures place { IsPlace bytes.now result }
+    ensures offset { result.offset ≡ offset }
+{
+    if last.offset <= offset {
+        return place_from(bytes, last, offset);
+    }
+    place_from(bytes, file_start(bytes), offset)
+}
+
+fn place_from(bytes: &[u8], start: Place, offset: usize) -> Place
+    requires short { length bytes.now ≤ 1048576 }
+    requires within { offset ≤ length bytes.now }
+    requires start { IsPlace bytes.now start }
+    requires before { start.offset ≤ offset }
+    ensures place { IsPlace bytes.now result }
+    ensures offset { result.offset ≡ offset }
+{
+    let mut place = start;
+    'bytes: while place.offset < offset {
+        place = place_behind(place, bytes[place.offset]);
+    }
+    place
+}
