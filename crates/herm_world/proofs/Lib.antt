@@ -1,0 +1,13 @@
+pub mod StringTexts
+pub mod Slots
+pub mod Progress
+pub mod Ends
+pub mod StraightRun
+pub mod StraightJournal
+pub mod StraightFacts
+pub mod StraightEnd
+pub mod StraightDone
+pub mod ModelTexts
+pub mod RunLines
+pub mod Accepted
+pub mod OneRun

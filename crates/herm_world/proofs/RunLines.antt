@@ -1,0 +1,64 @@
+-- What the code of a run has recorded when the lines are done, in the words of the report.
+use Rattle.std.proofs.Common.{◌≡◌, ℕ, ◌+◌, ◌-◌, List, [], ◌∷◌, ◌++◌, map, length, refl, sym, ap, ap₂, subst, ◌∙◌, arith, append-nil}
+use Rattle.herm_journal.specs.Entries.{Text, Entry}
+use Rattle.herm_source.specs.Statuses.{Fate, Counts, ended_normally}
+use Rattle.herm_base.specs.declared.numbers.PortNo.{PortNo}
+use Rattle.herm_compile.specs.declared.compiled.Line.{Line}
+use Rattle.herm_world.specs.Lines.{Values, sent_from}
+use Rattle.herm_world.specs.StringTexts.{quoted}
+use Rattle.herm_world.specs.StraightRuns.{RunReport, report_of, string_text, taken_at, sent_all, closed_at, journal_of, sets, counts_of, counts_from}
+use Rattle.herm_world.specs.ReportView.{numbered_queues}
+use Rattle.herm_world.proofs.ModelTexts.{quoted_text}
+use Rattle.herm_world.proofs.StraightEnd.{same-counts}
+
+-- at the end of the lines
+pub record AtEnd (E : List Entry) (n : ℕ) (console : List Text) (arg : Text) (S : List Text) : Type 0 where
+  pub journal : E ++ closed_at (n + 1) ∷ [] ≡ journal_of arg S
+  pub count : length console ≡ length S
+  pub acted : n + 1 ≡ length S + 2
+  pub said : console ≡ map quoted S
+
+map-length : {X Y : Type 0} (f : X → Y) (xs : List X) → length (map f xs) ≡ length xs
+map-length f [] = refl
+map-length f (x ∷ xs) = omega (arith, map-length f xs)
+
+pub at-end : (E : List Entry) (n : ℕ) (console : List Text) (strings : Values) (rest : List Line) (arg : Text) (S : List Text) → rest ≡ []
+    → E ++ sent_all (n + 1) (length console) (sent_from strings rest) ≡ taken_at 1 arg ∷ sent_all 2 0 S
+    → console ++ map quoted (sent_from strings rest) ≡ map quoted S → n ≡ 1 + length console → AtEnd E n console arg S
+at-end E n console strings rest arg S none entries said count =
+    let entries_now : E ++ [] ≡ taken_at 1 arg ∷ sent_all 2 0 S = subst (λ ls. E ++ sent_all (n + 1) (length console) (sent_from strings ls) ≡ taken_at 1 arg ∷ sent_all 2 0 S) none entries in
+    let said_now : console ++ [] ≡ map quoted S = subst (λ ls. console ++ map quoted (sent_from strings ls) ≡ map quoted S) none said in
+    let many : length console ≡ length S = ap length (sym (append-nil console) ∙ said_now) ∙ map-length quoted S in
+    let stamp : n + 1 ≡ 2 + length S = omega arith in
+    record {
+      journal = ap (λ es. es ++ closed_at (n + 1) ∷ []) (sym (append-nil E) ∙ entries_now) ∙ ap (λ k. (taken_at 1 arg ∷ sent_all 2 0 S) ++ closed_at k ∷ []) stamp;
+      count = many;
+      acted = omega arith;
+      said = sym (append-nil console) ∙ said_now;
+    }
+
+pub counts-are : (lines : List Line) (S : List Text) (stepped acted made queued : ℕ) → stepped ≡ length lines → acted ≡ length S + 2 → made ≡ 5 + sets lines → queued ≡ length S → counts_from stepped acted made queued ≡ counts_of lines S
+counts-are lines S stepped acted made queued s a m q =
+    let gone : made - 1 - queued ≡ 4 + sets lines - length S = omega arith in
+    same-counts stepped (length lines) acted (length S + 2) made (5 + sets lines) 1 1 queued (length S) (made - 1 - queued) (4 + sets lines - length S) s a m refl q gone
+
+texts-are : (S : List Text) → map quoted S ≡ map string_text S
+texts-are [] = refl
+texts-are (s ∷ S) = ap₂ (λ (t : Text) (ts : List Text). t ∷ ts) (quoted_text s) (texts-are S)
+
+second-numbered : (qs : List (PortNo × List Text)) → map (λ (q : PortNo × List Text). q.1) qs ≡ map (λ (q : ℕ × List Text). q.1) (numbered_queues qs)
+second-numbered [] = refl
+second-numbered (q ∷ qs) = ap (q.1 ∷◌) (second-numbered qs)
+
+abbrev a_report : List Entry → List Fate → List (List Text) → Counts → RunReport
+a_report journal ends queues counts = record { journal = journal; ends = ends; queues = queues; counts = counts }
+
+same-reports : (j j' : List Entry) (e e' : List Fate) (q q' : List (List Text)) (c c' : Counts) → j ≡ j' → e ≡ e' → q ≡ q' → c ≡ c' → a_report j e q c ≡ a_report j' e' q' c'
+same-reports j j' e e' q q' c c' a b d f = cc
+
+pub report-is : (arg : Text) (lines : List Line) (S : List Text) (j : List Entry) (e : List Fate) (queued : List (PortNo × List Text)) (c : Counts)
+    → j ≡ journal_of arg S → e ≡ ended_normally ∷ [] → numbered_queues queued ≡ (0, map quoted S) ∷ (1, []) ∷ [] → c ≡ counts_of lines S
+    → a_report j e (map (λ (q : PortNo × List Text). q.1) queued) c ≡ report_of arg lines S
+report-is arg lines S j e queued c journal ends queues counts =
+    same-reports j (journal_of arg S) e (ended_normally ∷ []) (map (λ (q : PortNo × List Text). q.1) queued) (map string_text S ∷ [] ∷ []) c (counts_of lines S) journal ends
+    (second-numbered queued ∙ ap (map (λ (q : ℕ × List Text). q.1)) queues ∙ ap (λ (ts : List Text). ts ∷ [] ∷ []) (texts-are S)) counts

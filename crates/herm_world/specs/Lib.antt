@@ -1,0 +1,5 @@
+pub mod StringTexts
+pub mod Lines
+pub mod Reports
+pub mod StraightRuns
+pub mod ReportView

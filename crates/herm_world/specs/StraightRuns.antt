@@ -1,0 +1,164 @@
+-- The run of a straight-line program: its journal and its final state.
+-- Language reference, "Straight-line programs".
+use Rattle.std.specs.Prelude.{ℕ, suc, ◌≡◌, ◌+◌, ◌-◌, ◌≤◌, List, [], ◌∷◌, ◌++◌, length, map, replicate, None, Some, flat_map}
+use Rattle.herm_model.specs.Types.{predefined}
+use Rattle.herm_model.specs.Values.{a_text, Cell}
+use Rattle.herm_model.specs.Texts.{text_of}
+use Rattle.herm_journal.specs.Actions.{put, take, close}
+use Rattle.herm_journal.specs.Entries.{Text, Entry, Place, Record, port}
+use Rattle.herm_source.specs.Evaluate.{scalar_value}
+use Rattle.herm_source.specs.Systems.{Program, Modules, System, opening, first_message, IsFinal, Event, Run, run, start}
+use Rattle.herm_journal.specs.Places.{Limits, Port, left_in}
+use Rattle.herm_journal.specs.Journals.{IsRising, IsStamped}
+use Rattle.herm_source.specs.Bodies.{Name}
+use Rattle.herm_source.specs.Ledger.{HasLedger, IsMadeOnce}
+use Rattle.herm_source.specs.Statuses.{Fate, Counts, counts, fates, ended_normally, status_of, text_of_run, plainly, line}
+use Rattle.herm_source.specs.Headline.{AreAccepted, IsRunTo, IsAlong}
+use Rattle.herm_compile.specs.Form.{IsBody}
+use Rattle.herm_compile.specs.Straight.{process_of}
+use Rattle.herm_compile.specs.declared.compiled.Line.{Line}
+use Rattle.herm_compile.specs.declared.compiled.Line.TheVariants.{Receive, Set, Send, Discard}
+use Rattle.herm_world.specs.Lines.{FindsStrings, sent}
+
+-- The lines run: the start message is received first and nowhere else, each line speaks of one of so many strings, each
+-- text fits a string, each send and each discard finds its string, and the lines are few.
+pub record IsRunnable (count : ℕ) (lines : List Line) : Type 0 where
+  pub body : IsBody count lines
+  pub finds : FindsStrings (replicate count None) lines
+  pub few_names : count ≤ 4000
+  pub few_lines : length lines ≤ 1024
+
+-- the program of the one process
+abbrev pub program_of : (count : ℕ) → List Line → Program
+program_of count lines = record { types = predefined; processes = process_of count lines ∷ []; main = 0 }
+
+-- the text of a string
+abbrev pub string_text : Text → Text
+string_text bytes = text_of (scalar_value (a_text bytes))
+
+-- what process 1 did at a place, at a stamp
+abbrev pub an_entry : (stamp : ℕ) → Place → Record → Entry
+an_entry stamp place action = record { stamp = stamp; process = 1; place = place; action = action }
+
+-- the text of the first message
+abbrev pub start_text : Text → Text
+start_text arg = text_of (first_message arg)
+
+-- it takes the first message, puts a string on the console under a number, or closes its port
+abbrev pub taken_at : (stamp : ℕ) → Text → Entry
+taken_at stamp arg = an_entry stamp (port 1) (take 0 (start_text arg))
+
+abbrev pub sent_at : (stamp number : ℕ) → Text → Entry
+sent_at stamp number bytes = an_entry stamp (port 0) (put (Some number) (string_text bytes))
+
+abbrev pub closed_at : (stamp : ℕ) → Entry
+closed_at stamp = an_entry stamp (port 1) (close 0 [])
+
+-- the strings, one after another
+abbrev pub sent_all : (stamp number : ℕ) → List Text → List Entry
+sent_all stamp number [] = []
+sent_all stamp number (string ∷ strings) = sent_at stamp number string ∷ sent_all (suc stamp) (suc number) strings
+
+-- The journal of a straight-line program that sends these strings: stamps are 1, 2, 3 and so on.
+-- Language reference, "Straight-line programs".
+abbrev pub journal_of : (arg : Text) → (strings : List Text) → List Entry
+journal_of arg strings = taken_at 1 arg ∷ (sent_all 2 0 strings ++ closed_at (2 + length strings) ∷ [])
+
+-- how often the lines set a string
+abbrev pub sets : List Line → ℕ
+sets [] = 0
+sets (Receive ∷ lines) = sets lines
+sets (Set n string ∷ lines) = suc (sets lines)
+sets (Send n ∷ lines) = sets lines
+sets (Discard n ∷ lines) = sets lines
+
+-- The numbers of a straight-line program's run that sends these strings. Language reference, "The summary".
+abbrev pub counts_of : List Line → (strings : List Text) → Counts
+counts_of lines strings = record {
+  processes = 1;
+  ended = 1;
+  waiting = 0;
+  stopped = 0;
+  ports = 2;
+  unclosed = 1;
+  steps = length lines;
+  actions = length strings + 2;
+  made = 5 + sets lines;
+  held = 1;
+  queued = length strings;
+  finalised = 4 + sets lines - length strings;
+}
+
+-- the same by numbers: of steps, actions, cells made and strings queued
+abbrev pub counts_from : (stepped acted made queued : ℕ) → Counts
+counts_from stepped acted made queued = record {
+  processes = 1;
+  ended = 1;
+  waiting = 0;
+  stopped = 0;
+  ports = 2;
+  unclosed = 1;
+  steps = stepped;
+  actions = acted;
+  made = made;
+  held = 1;
+  queued = queued;
+  finalised = made - 1 - queued;
+}
+
+-- The texts that are queued at each port.
+abbrev pub queues_of : System → List (List Text)
+queues_of s = map (λ (p : Port (Cell Name)). map text_of (left_in p)) s.ports
+
+-- What is reported of a run: its entries, what became of each process, the texts of each port's queue, and the numbers.
+pub record RunReport : Type 0 where
+  pub journal : List Entry
+  pub ends : List Fate
+  pub queues : List (List Text)
+  pub counts : Counts
+
+-- The report of lines that send these strings. Language reference, "Straight-line programs".
+abbrev pub report_of : (arg : Text) → List Line → (strings : List Text) → RunReport
+report_of arg lines strings = record {
+  journal = journal_of arg strings;
+  ends = ended_normally ∷ [];
+  queues = map string_text strings ∷ [] ∷ [];
+  counts = counts_of lines strings;
+}
+
+-- The report is that of a run from the opening state to this final state. The journal's order and stamps are right, every
+-- state along it has the ledger, and ends, queues and numbers are those of the final state.
+pub record Reports (modules : Modules) (limits : Limits) (arg : Text) (report : RunReport) (final : System) : Type 0 where
+  pub is_ordered : IsRising report.journal
+  pub is_stamped : IsStamped report.journal
+  pub is_a_run : IsRunTo modules (opening modules limits arg) report.journal final
+  pub is_final : IsFinal modules final
+  pub has_ledger : (s : System) → IsAlong modules (opening modules limits arg) report.journal s → HasLedger s × IsMadeOnce s
+  pub ends : fates modules final ≡ report.ends
+  pub queues : queues_of final ≡ report.queues
+  pub counts : counts modules final ≡ report.counts
+
+-- What is written of the final state behind this journal, where nothing more is asked for: each string sent, as a line; the
+-- status is 0. Language reference, "The text of a run".
+pub record Writes (modules : Modules) (journal : List Entry) (strings : List Text) (final : System) : Type 0 where
+  pub status : status_of modules final ≡ 0
+  pub text : (names : List Text) → text_of_run names plainly modules (record { system = final; journal = journal }) ≡ flat_map line strings
+
+-- The report is that of a run of these lines, whatever modules are accepted for them, where the limit of steps is not less
+-- than the lines; and there are such modules. Language reference, "Straight-line programs".
+pub record IsReported (count : ℕ) (lines : List Line) (arg : Text) (report : RunReport) : Type 0 where
+  pub has_modules : (modules : Modules) × AreAccepted (program_of count lines) modules
+  pub is_run : (limits : Limits) (modules : Modules) → length lines ≤ limits.steps → AreAccepted (program_of count lines) modules → (final : System) × Reports modules limits arg report final × Writes modules report.journal (sent count lines) final
+
+-- Lines that run have a run, with this report.
+abbrev pub StraightLinesRun : Type 0
+StraightLinesRun = (count : ℕ) (lines : List Line) (arg : Text) → IsRunnable count lines → IsReported count lines arg (report_of arg lines (sent count lines))
+
+-- Every run from the opening state, whatever its events, goes on to a final state with this journal.
+abbrev pub GoesOnTo : Modules → Limits → (arg : Text) → List Entry → Type 0
+GoesOnTo modules limits arg journal = (events : List Event) (r : Run) → run modules events (start modules limits arg) ≡ Some r →
+    (rest : List Event) × (final : System) × (run modules rest r ≡ Some (record { system = final; journal = journal })) × IsFinal modules final
+
+-- Lines that run have one run: whatever was done, it goes on to that end. Language reference, "Straight-line programs".
+abbrev pub StraightLinesHaveOneRun : Type 0
+StraightLinesHaveOneRun = (count : ℕ) (lines : List Line) (arg : Text) (limits : Limits) (modules : Modules) → IsRunnable count lines → length lines ≤ limits.steps → AreAccepted (program_of count lines) modules → GoesOnTo modules limits arg (journal_of arg (sent count lines))

@@ -1,0 +1,33 @@
+-- The text of a string value, and how the string is read back from it.
+-- Language reference, "Texts of values".
+use Rattle.std.specs.Prelude.{ℕ, List, [], ◌∷◌, ◌++◌, nat_eq, if◌then◌else◌, Bool, true, false}
+
+-- a byte as it stands inside the quotes: a newline, a quote and a backslash are escaped
+abbrev pub escaped_byte : ℕ → List ℕ
+escaped_byte b =
+    if nat_eq b 10 then 92 ∷ 110 ∷ []
+    else if nat_eq b 34 then 92 ∷ 34 ∷ []
+    else if nat_eq b 92 then 92 ∷ 92 ∷ []
+    else b ∷ []
+
+abbrev pub escaped : List ℕ → List ℕ
+escaped [] = []
+escaped (b ∷ bs) = escaped_byte b ++ escaped bs
+
+-- the text of a string: its bytes between quotes, escaped
+abbrev pub quoted : List ℕ → List ℕ
+quoted s = 34 ∷ escaped s ++ 34 ∷ []
+
+-- the bytes that an escaped text stands for, up to the closing quote; the flag says that a backslash stood before
+abbrev pub unescaped : Bool → List ℕ → List ℕ
+unescaped after_backslash [] = []
+unescaped true (b ∷ bs) = (if nat_eq b 110 then 10 else b) ∷ unescaped false bs
+unescaped false (b ∷ bs) =
+    if nat_eq b 34 then []
+    else if nat_eq b 92 then unescaped true bs
+    else b ∷ unescaped false bs
+
+-- the string that a text stands for
+abbrev pub unquoted : List ℕ → List ℕ
+unquoted [] = []
+unquoted (_ ∷ bs) = unescaped false bs
