@@ -1,0 +1,3 @@
+pub mod Console
+pub mod Chosen
+pub mod Runnable

@@ -1,0 +1,150 @@
+//! The answer of a call before anything is written: its status, its text and its report.
+ghost use Rattle.std.specs.Prelude.{◌≡◌, ◌≢◌, ◌≤◌, ◌⊎◌, ◌↔◌, IfOk, IfSome, Some, None, length, map, string_bytes};
+ghost use Rattle.herm_edge.specs.Faults.{Rose};
+ghost use Rattle.herm_edge.specs.Shelf.{file_at};
+ghost use Rattle.herm_driver.specs.Due.{IsDone, IsRefusal, IsReportOf, IsDueTo, IsReadFault, IsChosen, IsTextStatus};
+ghost use Rattle.herm_driver.specs.Words.{named_file};
+ghost use Rattle.herm_driver.specs.Texts.{console_text, usage_text};
+ghost use Rattle.herm_world.specs.Lines.{sent};
+ghost use Rattle.herm_world.specs.StraightRuns.{IsRunnable};
+
+use crate::text::{console, file_line, refusals, usage};
+use crate::words::file_named;
+use herm_base::Word;
+use herm_compile::{CompileFault, Compiled, compile};
+use herm_edge::{Loaded, Shelf};
+use herm_world::{Report, run_lines};
+use std::alloc::{AllocError, Global};
+
+/// How much of a file is loaded: one byte more than a source file may have.
+const LOAD_LIMIT: usize = 1_048_577;
+
+/// A text that is to be written, with its status and the report of its run.
+#[derive(Drop)]
+pub struct Answer {
+    pub status: u8,
+    pub text: Vec<u8>,
+    pub report: Option<Report>,
+}
+
+/// Runs a compiled program: its text is the console's lines.
+#[tactic(auto, using(crate::proofs::Console::console_lemmas))]
+fn run(alloc: Global, compiled: &Compiled) -> Result<Answer, AllocError>
+    requires { IsRunnable (length compiled.now.names.items) compiled.now.lines.items }
+    ensures status { IfOk result (λ a. a.status ≡ 0) }
+    ensures text { IfOk result (λ a. a.text.items
+        ≡ console_text (sent (length compiled.now.names.items) compiled.now.lines.items)) }
+    ensures report { IfOk result (λ a. IsReportOf (length compiled.now.names.items) compiled.now.lines.items a.report) }
+{
+    let report = run_lines(alloc, compiled, b"")?;
+    let text = console(alloc, report.queue_of(0))?;
+    Ok(Answer {
+        status: 0,
+        text,
+        report: Some(report),
+    })
+}
+
+/// An answer without a run.
+fn plain(status: u8, text: Vec<u8>) -> Answer
+    ensures { result ≡ record { status = status; text = text; report = None } }
+{
+    Answer {
+        status,
+        text,
+        report: None,
+    }
+}
+
+/// Compiles the bytes of a file and runs them, or says where they are refused.
+fn judge(alloc: Global, name: &str, bytes: Vec<u8>) -> Result<Answer, AllocError>
+    ensures due { IfOk result (λ a. IsDone bytes.items a.status a.text.items a.report
+        ⊎ IsRefusal name.now bytes.items a.status a.text.items a.report) }
+    ensures written_only { IfOk result (λ a. IsTextStatus a.status) }
+{
+    let files = [(Word::of(alloc, name.as_bytes())?, bytes)];
+    match compile(alloc, &files) {
+        Ok(compiled) => {
+            let answer = run(alloc, &compiled)?;
+            Ok(answer)
+        }
+        Err(CompileFault::Refused(faults)) => {
+            Ok(plain(1, refusals(alloc, name.as_bytes(), &faults)?))
+        }
+        Err(CompileFault::Memory) => Err(AllocError),
+    }
+}
+
+/// Says that no file has the name.
+fn not_found(alloc: Global, name: &str) -> Result<Answer, AllocError>
+    ensures due { IfOk result (λ a. IsDueTo name.now None a.status a.text.items a.report) }
+{
+    let text = file_line(alloc, name.as_bytes(), b": not found\n")?;
+    Ok(plain(10, text))
+}
+
+/// Says that the file could not be read.
+fn read_fault(alloc: Global, name: &str) -> Result<Answer, AllocError>
+    ensures due { IfOk result (λ a. IsReadFault (Some name.now) a.status a.text.items a.report) }
+{
+    let text = file_line(alloc, name.as_bytes(), b": read fault\n")?;
+    Ok(plain(3, text))
+}
+
+/// Loads the named file and answers for it.
+#[tactic(auto, using(crate::proofs::Chosen::chosen_lemmas))]
+fn answer_for<F: Shelf>(alloc: Global, name: &str, shelf: &mut F) -> Result<Answer, AllocError>
+    ensures due { IfOk result (λ a. IfSome (F.contents shelf.old) (λ files.
+        IsDueTo name.now (file_at files name.now) a.status a.text.items a.report
+        ⊎ (Rose (F.faults shelf.old) (F.faults shelf.new) × IsReadFault (Some name.now) a.status a.text.items a.report))) }
+    ensures cause { IfOk result (λ a. a.status ≡ 3 → Rose (F.faults shelf.old) (F.faults shelf.new)) }
+    ensures words { IfOk result (λ a. a.status ≢ 2) }
+    ensures written_only { IfOk result (λ a. IsTextStatus a.status) }
+    ensures counted { F.faults shelf.old ≤ F.faults shelf.new }
+    ensures same { F.contents shelf.new ≡ F.contents shelf.old }
+{
+    match shelf.load(name, LOAD_LIMIT) {
+        Loaded::Here(bytes) => {
+            let answer = judge(alloc, name, bytes)?;
+            Ok(answer)
+        }
+        Loaded::Missing => {
+            let answer = not_found(alloc, name)?;
+            Ok(answer)
+        }
+        Loaded::Failed => {
+            let answer = read_fault(alloc, name)?;
+            Ok(answer)
+        }
+        Loaded::Memory => Err(AllocError),
+    }
+}
+
+/// The answer to the words of a call.
+#[tactic(auto, using(crate::proofs::Chosen::chosen_lemmas))]
+pub fn answer_to<F: Shelf>(
+    alloc: Global,
+    words: &[String],
+    shelf: &mut F,
+) -> Result<Answer, AllocError>
+    ensures chosen { IfOk result (λ a. IfSome (F.contents shelf.old) (λ files.
+        IsChosen (map string_bytes words.now) files (Rose (F.faults shelf.old) (F.faults shelf.new)) a.status a.text.items a.report)) }
+    ensures usage { IfOk result (λ a. (a.status ≡ 2) ↔ (named_file (map string_bytes words.now) ≡ None)) }
+    ensures usage_text { IfOk result (λ a. a.status ≡ 2 → a.text.items ≡ usage_text) }
+    ensures usage_report { IfOk result (λ a. a.status ≡ 2 → a.report ≡ None) }
+    ensures cause { IfOk result (λ a. a.status ≡ 3 → Rose (F.faults shelf.old) (F.faults shelf.new)) }
+    ensures written_only { IfOk result (λ a. IsTextStatus a.status) }
+    ensures counted { F.faults shelf.old ≤ F.faults shelf.new }
+    ensures same { F.contents shelf.new ≡ F.contents shelf.old }
+{
+    match file_named(words) {
+        Some(name) => {
+            let answer = answer_for(alloc, name, shelf)?;
+            Ok(answer)
+        }
+        None => {
+            let text = usage(alloc)?;
+            Ok(plain(2, text))
+        }
+    }
+}

@@ -1,0 +1,38 @@
+//! What the top call answers.
+use herm_world::{Entry, Place, Report, Stamp};
+
+/// How a call of the program ended.
+#[derive(Drop)]
+pub struct Outcome {
+    /// The exit status: 0 done, 1 refused, 2 usage, 3 read fault, 4 write fault, 5 want of memory, 10 missing file.
+    pub status: u8,
+    /// What is reported of the run, where there was one and its text was due.
+    pub report: Option<Report>,
+    /// Why a run on several workers was given up, where one was.
+    pub aside: Option<Aside>,
+}
+
+/// Why a run on several workers was given up.
+#[derive(Drop)]
+pub enum Aside {
+    /// Two entries differ.
+    Differ(Difference),
+    /// A clock reached 2^63.
+    Late(Stamp),
+}
+
+/// Two entries of one place that differ: the processes' entry on the left, the place's on the right.
+#[derive(Drop)]
+pub struct Difference {
+    pub place: Place,
+    pub at: u64,
+    pub left: Seen,
+    pub right: Seen,
+}
+
+/// An entry, or the end of the list.
+#[derive(Drop)]
+pub enum Seen {
+    Entry(Entry),
+    End,
+}

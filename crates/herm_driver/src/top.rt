@@ -1,0 +1,69 @@
+//! The program's top call.
+ghost use Rattle.std.specs.Prelude.{◌≡◌, ◌≤◌, ◌⊎◌, IfSome, None, map, string_bytes};
+ghost use Rattle.herm_edge.specs.Faults.{Rose};
+ghost use Rattle.herm_driver.specs.Due.{IsChosen, IsWritten, IsAnswer, IsUnanswered};
+ghost use Rattle.herm_driver.specs.Words.{named_file};
+ghost use Rattle.herm_driver.specs.Texts.{usage_text};
+
+use crate::Outcome;
+use crate::answer::{Answer, answer_to};
+use herm_edge::{Gate, Shelf, Sink, write_whole};
+use std::alloc::Global;
+
+/// Writes the text of an answer, whole unless the sink fails.
+fn write<S: Sink>(sink: &mut S, answer: Answer) -> Outcome
+    ensures written { IsWritten (Rose (S.faults sink.old) (S.faults sink.new)) (S.written sink.old) (S.written sink.new)
+        result.status answer.status answer.text.items }
+    ensures report { result.report ≡ answer.report }
+    ensures aside { result.aside ≡ None }
+    ensures counted { S.faults sink.old ≤ S.faults sink.new }
+{
+    let status = match write_whole(sink, &answer.text) {
+        Ok(()) => answer.status,
+        Err(_) => 4,
+    };
+    Outcome {
+        status,
+        report: answer.report,
+        aside: None,
+    }
+}
+
+/// Runs a call of the program: takes the words after the program's name, loads and compiles the named file, runs it and writes the text.
+///
+/// At status 5 nothing was written. At status 4 a prefix of the text was written. The text that is due and its status
+/// are those of the language reference, "Statuses and texts". Neither count of faults falls, and the shelf's contents stay.
+pub fn hermes<F: Shelf, S: Sink, G: Gate + Sync>(
+    alloc: Global,
+    words: &[String],
+    shelf: &mut F,
+    sink: &mut S,
+    _gate: &G,
+) -> Outcome
+    ensures answered { IfSome (F.contents shelf.old) (λ files.
+        IsUnanswered (S.written sink.old) (S.written sink.new) result.status result.report
+        ⊎ IsAnswer (λ status text. IsChosen (map string_bytes words.now) files (Rose (F.faults shelf.old) (F.faults shelf.new)) status text result.report)
+        (Rose (S.faults sink.old) (S.faults sink.new)) (S.written sink.old) (S.written sink.new)
+        result.status) }
+    ensures usage { named_file (map string_bytes words.now) ≡ None →
+        (IsUnanswered (S.written sink.old) (S.written sink.new) result.status result.report
+        ⊎ IsWritten (Rose (S.faults sink.old) (S.faults sink.new)) (S.written sink.old) (S.written sink.new)
+        result.status 2 usage_text) }
+    ensures usage_only { result.status ≡ 2 → named_file (map string_bytes words.now) ≡ None }
+    ensures read_fault { result.status ≡ 3 → Rose (F.faults shelf.old) (F.faults shelf.new) }
+    ensures write_fault { result.status ≡ 4 → Rose (S.faults sink.old) (S.faults sink.new) }
+    ensures memory { result.status ≡ 5 → S.written sink.new ≡ S.written sink.old }
+    ensures shelf_counted { F.faults shelf.old ≤ F.faults shelf.new }
+    ensures sink_counted { S.faults sink.old ≤ S.faults sink.new }
+    ensures same { F.contents shelf.new ≡ F.contents shelf.old }
+    ensures aside { result.aside ≡ None }
+{
+    match answer_to(alloc, words, shelf) {
+        Ok(answer) => write(sink, answer),
+        Err(_) => Outcome {
+            status: 5,
+            report: None,
+            aside: None,
+        },
+    }
+}
