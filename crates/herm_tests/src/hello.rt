@@ -1,0 +1,147 @@
+//! The greeting program, and each status that a call of it can have.
+use crate::call::{Outside, call, plain};
+use herm_driver::Outcome;
+use herm_world::{Action, Entry, Place, ProcEnd};
+use std::process::Abort;
+use std::test::Fail;
+
+const HELLO: &[u8] = b"process main(start: main_start) {
+  var m: main_message, s: string;
+  receive m from start;
+  s := \"hi\";
+  send s to m.out;
+}
+";
+
+const USAGE: &str = "usage: hermes check FILE.. | hermes run OPTIONS FILE.. | hermes make N\n";
+
+fn ends(rt: &impl Abort, got: &(Outcome, Vec<u8>), status: u8, text: &[u8], about: &str) {
+    assert_eq!(rt; got.0.status, status, "{about}");
+    assert_eq!(rt; got.1.as_slice(), text, "{about}");
+    assert!(rt; got.0.aside.is_none(), "{about}");
+}
+
+#[test]
+fn the_greeting_is_written(rt: HostRuntime) -> Result<(), Fail> {
+    let files: [(&str, &[u8]); 1] = [("a.hm", HELLO)];
+    let got = call(rt.alloc(), &["run", "a.hm"], &plain(&files))?;
+    ends(&rt, &got, 0, b"hi\n", "the greeting");
+    Ok(())
+}
+
+#[test]
+fn words_that_are_not_taken_give_the_usage(rt: HostRuntime) -> Result<(), Fail> {
+    let files: [(&str, &[u8]); 1] = [("a.hm", HELLO)];
+    let rows: [&[&str]; 7] = [
+        &[],
+        &["run"],
+        &["a.hm"],
+        &["run", "-a.hm"],
+        &["run", "a.hm", "a.hm"],
+        &["ran", "a.hm"],
+        &["run", "-"],
+    ];
+    for words in rows {
+        let got = call(rt.alloc(), words, &plain(&files))?;
+        ends(&rt, &got, 2, USAGE.as_bytes(), "words");
+        assert!(rt; got.0.report.is_none());
+    }
+    Ok(())
+}
+
+#[test]
+fn a_missing_file_and_a_failing_load_are_told(rt: HostRuntime) -> Result<(), Fail> {
+    let files: [(&str, &[u8]); 1] = [("a.hm", HELLO)];
+    let got = call(rt.alloc(), &["run", "gone.hm"], &plain(&files))?;
+    ends(&rt, &got, 10, b"hermes: gone.hm: not found\n", "missing");
+    let failing = Outside {
+        failing_loads: &[1],
+        ..plain(&files)
+    };
+    let got = call(rt.alloc(), &["run", "a.hm"], &failing)?;
+    ends(&rt, &got, 3, b"hermes: a.hm: read fault\n", "failing");
+    Ok(())
+}
+
+#[test]
+fn a_failing_write_cuts_the_text_off(rt: HostRuntime) -> Result<(), Fail> {
+    let files: [(&str, &[u8]); 1] = [("a.hm", HELLO)];
+    let failing = Outside {
+        piece: 2,
+        failing_writes: &[2],
+        ..plain(&files)
+    };
+    let got = call(rt.alloc(), &["run", "a.hm"], &failing)?;
+    ends(&rt, &got, 4, b"hi", "the second write fails");
+    assert!(rt; got.0.report.is_some());
+    Ok(())
+}
+
+#[test]
+fn other_files_are_not_built(rt: HostRuntime) -> Result<(), Fail> {
+    let rows: [(&str, &[u8]); 4] = [
+        ("empty", b""),
+        ("a byte", b"\xff"),
+        ("cut", b"process main(start: main_start) {"),
+        ("an empty body", b"process main(start: main_start) { }"),
+    ];
+    for (about, bytes) in rows {
+        let files: [(&str, &[u8]); 1] = [("a.hm", bytes)];
+        let got = call(rt.alloc(), &["run", "a.hm"], &plain(&files))?;
+        ends(&rt, &got, 1, b"a.hm:1:1: F12 not built\n", about);
+        assert!(rt; got.0.report.is_none());
+    }
+    Ok(())
+}
+
+fn is_put(entry: &Entry) -> bool {
+    match &entry.action {
+        Action::Put { number, trace } => *number == Some(0)
+            && trace.bytes() == b"\"hi\"".as_slice(),
+        _ => false,
+    }
+}
+
+fn is_take(entry: &Entry) -> bool {
+    match &entry.action {
+        Action::Take { number, trace } => *number == 0 && trace.bytes() == b"{\"\",>0}".as_slice(),
+        _ => false,
+    }
+}
+
+fn is_close(entry: &Entry) -> bool {
+    match &entry.action {
+        Action::Close { count, left } => *count == 0 && left.is_empty(),
+        _ => false,
+    }
+}
+
+fn port_of(entry: &Entry) -> u32 {
+    match entry.place {
+        Place::Port(port) => port.get(),
+        _ => 99,
+    }
+}
+
+#[test]
+fn the_greeting_is_reported(rt: HostRuntime) -> Result<(), Fail> {
+    let files: [(&str, &[u8]); 1] = [("a.hm", HELLO)];
+    let (outcome, _) = call(rt.alloc(), &["run", "a.hm"], &plain(&files))?;
+    let report = outcome.report.expect(&rt, "a report");
+    let entries = report.journal.entries.as_slice();
+    assert_eq!(rt; entries.len(), 3);
+    for (i, entry) in entries.iter().enumerate() {
+        assert_eq!(rt; entry.stamp.0, i as u64 + 1);
+        assert_eq!(rt; entry.proc.get(), 1);
+    }
+    assert!(rt; is_take(&entries[0]) && port_of(&entries[0]) == 1);
+    assert!(rt; is_put(&entries[1]) && port_of(&entries[1]) == 0);
+    assert!(rt; is_close(&entries[2]) && port_of(&entries[2]) == 1);
+    assert_eq!(rt; report.ends.len(), 1);
+    assert!(rt; matches!(report.ends[0], ProcEnd::Ended(_)));
+    let c = report.counts;
+    assert_eq!(rt; [c.processes, c.ended, c.waiting, c.stopped], [1, 1, 0, 0]);
+    assert_eq!(rt; [c.ports, c.unclosed, c.steps, c.actions], [2, 1, 3, 3]);
+    assert_eq!(rt; [c.made, c.held, c.queued, c.finalised], [6, 1, 1, 4]);
+    Ok(())
+}

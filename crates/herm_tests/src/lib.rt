@@ -1,0 +1,9 @@
+//! Tests of the program's top call over files and a sink in memory.
+#![tactic(auto)]
+
+#[cfg(test)]
+mod call;
+#[cfg(test)]
+mod hello;
+#[cfg(test)]
+mod straight;
