@@ -1,5 +1,5 @@
-pub mod Front
-pub mod TokenLaws
+pub mod Choices
+pub mod TokenFacts
 pub mod GivesLaws
 pub mod StripLaws
 pub mod ReadingLaws

@@ -1,5 +1,5 @@
 -- The words and faults of gaps.
-use Rattle.std.proofs.Common.{◌≡◌, ℕ, zero, suc, ◌<◌, ◌≤◌, ◌+◌, ◌-◌, List, [], ◌∷◌, ◌++◌, length, get_or, take, refl, sym, ap, ◌∙◌, append_assoc, append-nil, arith, add-one}
+use Rattle.std.proofs.Common.{◌≡◌, ℕ, zero, suc, ◌<◌, ◌≤◌, ◌+◌, List, [], ◌∷◌, ◌++◌, length, get_or, take, refl, sym, ap, ◌∙◌, append_assoc, append-nil, arith, add-one}
 use Rattle.std.specs.Prelude.{map}
 use Rattle.std.specs.List.{flat_map}
 use Rattle.std.proofs.Math.Seq.{take-suc}
@@ -36,8 +36,8 @@ seen_next hops hop at h e = map-append seen_hop hops (hop ∷ []) ∙ ap (λ (hs
 pub at_count : (at count : ℕ) → count ≤ at → at ≤ count → ok_hops 0 at ≡ ok_hops 0 count
 at_count at count l m = let e : at ≡ count = omega arith in rw e refl
 
-pub fault_reported : (bytes : List ℕ) (names : List (List ℕ)) (lefts : List ℕ) (gap : Gap) (place : Place) → IsPlace bytes place → place.offset ≡ length bytes - get_or lefts gap.at 0 → fault_at names gap place.line place.column ≡ reported bytes names lefts gap
-fault_reported bytes names lefts gap place p e = rw (p.line_is, p.column_is, e) refl
+pub fault_reported : (bytes : List ℕ) (names : List (List ℕ)) (starts : List ℕ) (gap : Gap) (place : Place) → IsPlace bytes place → place.offset ≡ get_or starts gap.at 0 → fault_at names gap place.line place.column ≡ reported bytes names starts gap
+fault_reported bytes names starts gap place p e = rw (p.line_is, p.column_is, e) refl
 
 pub faults_next : (f : Gap → Seen) (gaps : List Gap) (at : ℕ) (gap : Gap) (faults : List Fault) (fault : Fault) → at < length gaps → gap ≡ get_or gaps at gap → map seen faults ≡ map f (take at gaps) → seen fault ≡ f gap → map seen (faults ++ fault ∷ []) ≡ map f (take (at + 1) gaps)
 faults_next f gaps at gap faults fault l i e s =

@@ -13,7 +13,7 @@ use Rattle.herm_model.specs.Lists.{numbered}
 use Rattle.herm_compile.specs.Reading.{IsNumbered, IsRead}
 use Rattle.herm_compile.specs.Straight.{variable, form_of, body_of, process_of, is_held_behind, is_held, gap_at, gaps_from, gaps, IsStep, ok_hops, refusal_of}
 use Rattle.herm_compile.specs.declared.check.Gap.{Gap}
-use Rattle.herm_compile.proofs.TokenLaws.{chosen}
+use Rattle.herm_compile.proofs.Choices.{chosen}
 use Rattle.std.proofs.lemmas.Option.{option_and_then_some}
 use Rattle.herm_compile.specs.declared.compiled.Line.{Line}
 use Rattle.herm_compile.specs.declared.compiled.Line.TheVariants.{Receive, Set, Send, Discard}

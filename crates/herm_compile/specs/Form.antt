@@ -1,67 +1,70 @@
 -- The programs that are built, and the tokens of each.
-use Rattle.std.specs.Prelude.{◌≡◌, ◌<◌, ◌≤◌, ℕ, Bool, false, List, [], ◌∷◌, ◌++◌, length, map, codes, get_or}
+use Rattle.std.specs.Prelude.{◌≡◌, ◌<◌, ◌≤◌, ℕ, Bool, false, IsTrue, List, [], ◌∷◌, ◌++◌, length, map, codes, get_or}
 use Rattle.std.specs.List.{flat_map, list_any, AllByRecursion, IsDistinct}
 use Rattle.std.specs.Str.{bytes_eq}
-use Rattle.herm_compile.specs.Spelling.{IsName, IsText, Spells}
-use Rattle.herm_compile.specs.declared.tokens.Token.{Token}
-use Rattle.herm_compile.specs.declared.tokens.Token.TheVariants.{Name, Text, Sign, Colon, Becomes}
-use Rattle.herm_compile.specs.declared.tokens.Placed.{Placed}
+use Rattle.herm_lexer.specs.Spelling.{HasTokens}
+use Rattle.herm_lexer.specs.declared.token.Token.{Token}
+use Rattle.herm_lexer.specs.declared.token.TokenKind.{TokenKind}
+use Rattle.herm_lexer.specs.declared.token.TokenKind.TheVariants.{Key, Ident, Text, Sign}
+use Rattle.herm_lexer.specs.declared.keyword.Keyword.TheVariants.{KwProcess, KwVar, KwReceive, KwFrom, KwSend, KwTo, KwOut, KwDiscard}
+use Rattle.herm_lexer.specs.declared.sign.Mark.TheVariants.{ParenOpen, ParenClose, BraceOpen, BraceClose, Comma, Semicolon, Colon, Becomes, Dot}
+use Rattle.herm_model.specs.Typed.{is_text}
 use Rattle.herm_compile.specs.declared.compiled.Line.{Line}
 use Rattle.herm_compile.specs.declared.compiled.Line.TheVariants.{Receive, Set, Send, Discard}
 
 -- ---- tokens
 
 -- process main ( start : main_start ) { var m : main_message
-abbrev pub head : List Token
-head = Name (codes "process") ∷ Name (codes "main") ∷ Sign 40 ∷ Name (codes "start") ∷ Colon ∷ Name (codes "main_start") ∷ Sign 41 ∷ Sign 123 ∷ Name (codes "var") ∷ Name (codes "m") ∷ Colon ∷ Name (codes "main_message") ∷ []
+abbrev pub head : List TokenKind
+head = Key KwProcess ∷ Ident (codes "main") ∷ Sign ParenOpen ∷ Ident (codes "start") ∷ Sign Colon ∷ Ident (codes "main_start") ∷ Sign ParenClose ∷ Sign BraceOpen ∷ Key KwVar ∷ Ident (codes "m") ∷ Sign Colon ∷ Ident (codes "main_message") ∷ []
 
 -- , name : string
-abbrev pub declaration : List ℕ → List Token
-declaration name = Sign 44 ∷ Name name ∷ Colon ∷ Name (codes "string") ∷ []
+abbrev pub declaration : List ℕ → List TokenKind
+declaration name = Sign Comma ∷ Ident name ∷ Sign Colon ∷ Ident (codes "string") ∷ []
 
 -- receive m from start ;
-abbrev pub receiving : List Token
-receiving = Name (codes "receive") ∷ Name (codes "m") ∷ Name (codes "from") ∷ Name (codes "start") ∷ Sign 59 ∷ []
+abbrev pub receiving : List TokenKind
+receiving = Key KwReceive ∷ Ident (codes "m") ∷ Key KwFrom ∷ Ident (codes "start") ∷ Sign Semicolon ∷ []
 
 -- := "text" ;
-abbrev pub becoming : List ℕ → List Token
-becoming text = Becomes ∷ Text text ∷ Sign 59 ∷ []
+abbrev pub becoming : List ℕ → List TokenKind
+becoming text = Sign Becomes ∷ Text text ∷ Sign Semicolon ∷ []
 
--- to m . out ;
-abbrev pub to_console : List Token
-to_console = Name (codes "to") ∷ Name (codes "m") ∷ Sign 46 ∷ Name (codes "out") ∷ Sign 59 ∷ []
+-- to m . out ; where the last name has the letters of a keyword
+abbrev pub to_console : List TokenKind
+to_console = Key KwTo ∷ Ident (codes "m") ∷ Sign Dot ∷ Key KwOut ∷ Sign Semicolon ∷ []
 
 -- the name of the variable with this number
 abbrev pub name_of : List (List ℕ) → ℕ → List ℕ
 name_of names number = get_or names number []
 
-abbrev pub line_tokens : List (List ℕ) → Line → List Token
+abbrev pub line_tokens : List (List ℕ) → Line → List TokenKind
 line_tokens names Receive = receiving
-line_tokens names (Set number text) = Name (name_of names number) ∷ becoming text
-line_tokens names (Send number) = Name (codes "send") ∷ Name (name_of names number) ∷ to_console
-line_tokens names (Discard number) = Name (codes "discard") ∷ Name (name_of names number) ∷ Sign 59 ∷ []
+line_tokens names (Set number text) = Ident (name_of names number) ∷ becoming text
+line_tokens names (Send number) = Key KwSend ∷ Ident (name_of names number) ∷ to_console
+line_tokens names (Discard number) = Key KwDiscard ∷ Ident (name_of names number) ∷ Sign Semicolon ∷ []
 
 -- the head, the declared strings, the lines and a closing brace
-abbrev pub program_tokens : List (List ℕ) → List Line → List Token
-program_tokens names lines = head ++ (flat_map declaration names ++ (Sign 59 ∷ (flat_map (line_tokens names) lines ++ (Sign 125 ∷ []))))
+abbrev pub program_tokens : List (List ℕ) → List Line → List TokenKind
+program_tokens names lines = head ++ (flat_map declaration names ++ (Sign Semicolon ∷ (flat_map (line_tokens names) lines ++ (Sign BraceClose ∷ []))))
 
 -- ---- programs
 
--- The words that no declared string is named by: the keywords, the start port and its message (Language reference, "Tokens").
+-- The names that no declared string has: those of the start port and its message (Language reference, "Straight-line programs").
 abbrev pub reserved : List (List ℕ)
-reserved = codes "and" ∷ codes "as" ∷ codes "call" ∷ codes "callmessage" ∷ codes "case" ∷ codes "connect" ∷ codes "create" ∷ codes "definitions" ∷ codes "discard" ∷ codes "dissolve" ∷ codes "div" ∷ codes "else" ∷ codes "enum" ∷ codes "exception" ∷ codes "false" ∷ codes "for" ∷ codes "from" ∷ codes "full" ∷ codes "get" ∷ codes "if" ∷ codes "in" ∷ codes "init" ∷ codes "inout" ∷ codes "inport" ∷ codes "insert" ∷ codes "into" ∷ codes "key" ∷ codes "leave" ∷ codes "length" ∷ codes "mod" ∷ codes "move" ∷ codes "new" ∷ codes "not" ∷ codes "of" ∷ codes "on" ∷ codes "or" ∷ codes "out" ∷ codes "outport" ∷ codes "process" ∷ codes "raise" ∷ codes "raises" ∷ codes "receive" ∷ codes "record" ∷ codes "remove" ∷ codes "return" ∷ codes "reveal" ∷ codes "select" ∷ codes "send" ∷ codes "size" ∷ codes "table" ∷ codes "text" ∷ codes "to" ∷ codes "true" ∷ codes "try" ∷ codes "type" ∷ codes "unite" ∷ codes "unwrap" ∷ codes "var" ∷ codes "variant" ∷ codes "when" ∷ codes "while" ∷ codes "wrap" ∷ codes "start" ∷ codes "m" ∷ []
+reserved = codes "start" ∷ codes "m" ∷ []
 
 abbrev pub is_reserved : List ℕ → Bool
 is_reserved name = list_any (λ word. bytes_eq word name) reserved
 
--- The name of a declared string: a name, and no reserved word.
+-- The name of a declared string is no other variable's.
 abbrev pub IsFree : List ℕ → Type 0
-IsFree name = IsName name × (is_reserved name ≡ false)
+IsFree name = is_reserved name ≡ false
 
--- A line behind the first: it speaks of a declared string, and its text fits a string.
+-- A line behind the first: it speaks of a declared string, and its text is one.
 abbrev pub IsLine : ℕ → Line → Type 0
 IsLine count Receive = ⊥
-IsLine count (Set number text) = (number < count) × IsText text
+IsLine count (Set number text) = (number < count) × IsTrue (is_text text)
 IsLine count (Send number) = number < count
 IsLine count (Discard number) = number < count
 
@@ -81,16 +84,16 @@ pub record IsProgram (names : List (List ℕ)) (lines : List Line) : Type 0 wher
   pub few_names : length names ≤ 4000
   pub few_lines : length lines ≤ 1024
 
-abbrev pub tokens : List Placed → List Token
-tokens placed = map (λ p. p.token) placed
+-- tokens without their places
+abbrev pub kinds : List Token → List TokenKind
+kinds tokens = map (λ t. t.kind) tokens
 
 -- The bytes of a file spell this program (Language reference, "Straight-line programs").
 pub record IsOfForm (bytes : List ℕ) (names : List (List ℕ)) (lines : List Line) : Type 0 where
-  pub placed : List Placed
-  pub spelled : Spells placed bytes
-  pub written : tokens placed ≡ program_tokens names lines
+  pub tokens : List Token
+  pub read : HasTokens bytes tokens
+  pub written : kinds tokens ≡ program_tokens names lines
   pub program : IsProgram names lines
-  pub short : length bytes ≤ 1048576
 
 -- the bytes of the first file
 abbrev pub first_of : List (List ℕ) → List ℕ
@@ -98,8 +101,8 @@ first_of [] = []
 first_of (bytes ∷ more) = bytes
 
 -- the file is of the program by these tokens
-abbrev pub IsFormBy : List Placed → List ℕ → List (List ℕ) → List Line → Type 0
-IsFormBy placed bytes names lines = (form : IsOfForm bytes names lines) × (form.placed ≡ placed)
+abbrev pub IsFormBy : List Token → List ℕ → List (List ℕ) → List Line → Type 0
+IsFormBy tokens bytes names lines = (form : IsOfForm bytes names lines) × (form.tokens ≡ tokens)
 
 -- A file has one reading at most.
 abbrev pub OneReading : Type 0

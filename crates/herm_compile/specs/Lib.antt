@@ -1,7 +1,4 @@
-pub mod Bytes
 pub mod Front
-pub mod Spelling
-pub mod TokenAt
 pub mod Gives
 pub mod Form
 pub mod Reading

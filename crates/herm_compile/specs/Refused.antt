@@ -1,5 +1,5 @@
 -- Why a file is refused: the places, the words and the faults.
-use Rattle.std.specs.Prelude.{◌≡◌, ◌≢◌, ◌-◌, ◌⊎◌, ℕ, suc, Bool, not, ◌==◌, Option, Some, None, List, [], ◌∷◌, ◌++◌, map, length, codes, get_or, take, drop, reverse, decimal, if◌then◌else◌, ◌≤◌}
+use Rattle.std.specs.Prelude.{◌≡◌, ◌≢◌, ◌⊎◌, ℕ, suc, Bool, not, ◌==◌, Option, Some, None, List, [], ◌∷◌, ◌++◌, map, length, codes, get_or, take, drop, reverse, decimal, if◌then◌else◌, ◌≤◌}
 use Rattle.std.specs.List.{flat_map}
 use Rattle.std.specs.Option.{option_map}
 use Rattle.herm_model.specs.Paths as facts
@@ -7,13 +7,17 @@ use Rattle.herm_model.specs.Types.{predefined}
 use Rattle.herm_model.specs.Outcomes as outcomes
 use Rattle.herm_model.specs.Control as control
 use Rattle.herm_model.specs.Refusals.{Refusal, IsMissing}
+use Rattle.herm_lexer.specs.Spelling.{HasTokens}
+use Rattle.herm_lexer.specs.Faults.{HasFault}
+use Rattle.herm_lexer.specs.declared.token.Token.{Token}
+use Rattle.herm_lexer.specs.declared.fault.LexFault.{LexFault}
+use Rattle.herm_lexer.specs.declared.fault.LexFault.TheVariants as lexical
 use Rattle.herm_compile.specs.Front.{front}
 use Rattle.herm_compile.specs.Form.{line_tokens, name_of, IsOfForm}
 use Rattle.herm_compile.specs.Reading.{up_to_lines}
 use Rattle.herm_compile.specs.Straight.{process_of, refusal_of}
 use Rattle.herm_compile.specs.declared.check.Gap.{Gap}
 use Rattle.herm_compile.specs.declared.places.Place.{Place}
-use Rattle.herm_compile.specs.declared.tokens.Placed.{Placed}
 use Rattle.herm_compile.specs.declared.compiled.Line.{Line}
 use Rattle.herm_compile.specs.declared.fault.Path.{Path}
 use Rattle.herm_compile.specs.declared.fault.Fact.{Fact}
@@ -65,19 +69,19 @@ seen f = record { file = f.file; line = f.line; column = f.column; code = f.code
 
 -- ---- places
 
--- the number of bytes from the first token on
-abbrev pub left_of : List Placed → ℕ
-left_of [] = 0
-left_of (placed ∷ more) = placed.left
+-- the place in bytes of the first token
+abbrev pub start_of : List Token → ℕ
+start_of [] = 0
+start_of (token ∷ more) = token.span.start
 
 -- the same at the first token of each line, where the tokens of the lines stand at the front
-abbrev pub line_starts : List (List ℕ) → List Line → List Placed → List ℕ
-line_starts names [] placed = []
-line_starts names (line ∷ lines) placed = left_of placed ∷ line_starts names lines (drop (length (line_tokens names line)) placed)
+abbrev pub line_starts : List (List ℕ) → List Line → List Token → List ℕ
+line_starts names [] tokens = []
+line_starts names (line ∷ lines) tokens = start_of tokens ∷ line_starts names lines (drop (length (line_tokens names line)) tokens)
 
--- at each line of a program how many bytes there are from its first token on
-abbrev pub starts : List (List ℕ) → List Line → List Placed → List ℕ
-starts names lines placed = line_starts names lines (drop (length (up_to_lines names)) placed)
+-- the place in bytes of each line of a program
+abbrev pub starts : List (List ℕ) → List Line → List Token → List ℕ
+starts names lines tokens = line_starts names lines (drop (length (up_to_lines names)) tokens)
 
 abbrev pub is_newline : ℕ → Bool
 is_newline byte = byte == 10
@@ -123,16 +127,54 @@ fault_at names gap line column = record { file = 0; line = line; column = column
 
 -- the fault of a gap, at the first token of its line (Language reference, "Refusals")
 abbrev pub reported : List ℕ → List (List ℕ) → List ℕ → Gap → Seen
-reported bytes names lefts gap =
-    let offset = length bytes - get_or lefts gap.at 0 in
+reported bytes names starts gap =
+    let offset = get_or starts gap.at 0 in
     fault_at names gap (line_at bytes offset) (column_at bytes offset)
+
+-- the code, the words and the place in bytes of a fault of bytes and tokens (Language reference, "Refusals")
+abbrev pub fault_code : LexFault → ℕ
+fault_code (lexical.Byte offset) = 1
+fault_code (lexical.Token offset) = 2
+fault_code (lexical.TooLong offset) = 3
+fault_code lexical.Memory = 0
+
+abbrev pub fault_words : LexFault → List ℕ
+fault_words (lexical.Byte offset) = codes "byte"
+fault_words (lexical.Token offset) = codes "token"
+fault_words (lexical.TooLong offset) = codes "too long"
+fault_words lexical.Memory = []
+
+abbrev pub fault_offset : LexFault → ℕ
+fault_offset (lexical.Byte offset) = offset
+fault_offset (lexical.Token offset) = offset
+fault_offset (lexical.TooLong offset) = offset
+fault_offset lexical.Memory = 0
+
+-- the one fault of a file whose bytes have this fault
+abbrev pub lex_fault : List ℕ → LexFault → Seen
+lex_fault bytes fault = record {
+  file = 0;
+  line = line_at bytes (fault_offset fault);
+  column = column_at bytes (fault_offset fault);
+  code = fault_code fault;
+  words = fault_words fault;
+  missing = None;
+}
+
+-- The bytes have a fault, and the file is refused with that one fault, at its place (Language reference, "Refusals").
+pub record IsUnread (bytes : List ℕ) (faults : List Fault) : Type 0 where
+  pub fault : LexFault
+  pub has : HasFault bytes fault
+  pub one : map seen faults ≡ lex_fault bytes fault ∷ []
 
 -- the one fault of a file that is not of the form
 abbrev pub not_built : Seen
 not_built = record { file = 0; line = 1; column = 1; code = 12; words = codes "not built"; missing = None }
 
--- The file is of no program, and refused with that one fault.
+-- The file has tokens, is of no program, and is refused with that one fault.
 pub record IsNotBuilt (bytes : List ℕ) (faults : List Fault) : Type 0 where
+  pub tokens : List Token
+  pub read : HasTokens bytes tokens
   pub none : (names : List (List ℕ)) (lines : List Line) → IsOfForm bytes names lines → ⊥
   pub one : map seen faults ≡ not_built ∷ []
 
@@ -144,9 +186,9 @@ pub record IsLacking (bytes : List ℕ) (faults : List Fault) : Type 0 where
   pub gaps : List Gap
   pub some : gaps ≢ []
   pub missing : IsMissing predefined (process_of (length names) lines) (map refusal_of gaps)
-  pub each : map seen faults ≡ map (reported bytes names (starts names lines form.placed)) gaps
+  pub each : map seen faults ≡ map (reported bytes names (starts names lines form.tokens)) gaps
 
 -- Want of memory says nothing of the file.
 abbrev pub IsRightly : List ℕ → CompileFault → Type 0
-IsRightly bytes (Refused faults) = IsNotBuilt bytes faults.items ⊎ IsLacking bytes faults.items
+IsRightly bytes (Refused faults) = IsUnread bytes faults.items ⊎ IsNotBuilt bytes faults.items ⊎ IsLacking bytes faults.items
 IsRightly bytes Memory = Unit {0}

@@ -11,73 +11,8 @@ use herm_base::Word;
 use indexmap::IndexSet;
 use std::alloc::Global;
 
-/// The keywords, and the names of the start port and of its message.
-const RESERVED: [&[u8]; 64] = [
-    b"and",
-    b"as",
-    b"call",
-    b"callmessage",
-    b"case",
-    b"connect",
-    b"create",
-    b"definitions",
-    b"discard",
-    b"dissolve",
-    b"div",
-    b"else",
-    b"enum",
-    b"exception",
-    b"false",
-    b"for",
-    b"from",
-    b"full",
-    b"get",
-    b"if",
-    b"in",
-    b"init",
-    b"inout",
-    b"inport",
-    b"insert",
-    b"into",
-    b"key",
-    b"leave",
-    b"length",
-    b"mod",
-    b"move",
-    b"new",
-    b"not",
-    b"of",
-    b"on",
-    b"or",
-    b"out",
-    b"outport",
-    b"process",
-    b"raise",
-    b"raises",
-    b"receive",
-    b"record",
-    b"remove",
-    b"return",
-    b"reveal",
-    b"select",
-    b"send",
-    b"size",
-    b"table",
-    b"text",
-    b"to",
-    b"true",
-    b"try",
-    b"type",
-    b"unite",
-    b"unwrap",
-    b"var",
-    b"variant",
-    b"when",
-    b"while",
-    b"wrap",
-    b"start",
-    b"m",
-];
+/// The names of the start port and of its message.
+const RESERVED: [&[u8]; 2] = [b"start", b"m"];
 
 fn is_one_of(words: &[&[u8]], name: &[u8]) -> bool
     ensures { result ≡ list_any (λ word. bytes_eq word.now name.now) words.now }
@@ -117,7 +52,7 @@ fn indexed(alloc: Global, names: &[Word]) -> Result<IndexSet<Word>, Stop>
     Ok(index)
 }
 
-/// The names by number, where no name is a reserved word and all differ.
+/// The names by number, where no name is another variable's and all differ.
 pub fn index_of(alloc: Global, names: &[Word]) -> Result<IndexSet<Word>, Stop>
     ensures keys { IfOk result (λ index. index.keys ≡ names.now) }
     ensures names { IfOk result (λ index. AreNames names.now) }

@@ -1,23 +1,23 @@
 //! The places of lines in the file.
 ghost use Rattle.std.specs.Prelude.{◌≡◌, ◌<◌, ◌≤◌, ℕ, suc, List, length, drop, IfOk};
 ghost use Rattle.herm_compile.specs.Form.{line_tokens};
-ghost use Rattle.herm_compile.specs.Refused.{left_of, starts, IsPlace, place_behind};
+ghost use Rattle.herm_compile.specs.Refused.{start_of, starts, IsPlace, place_behind};
 
 use crate::compiled::Line;
-use crate::tokens::Placed;
 use herm_base::Word;
+use herm_lexer::Token;
 use std::alloc::{AllocError, Global};
 
-fn left_of(tokens: &[Placed]) -> usize
-    ensures { result ≡ left_of tokens.now }
+fn start_of(tokens: &[Token]) -> usize
+    ensures { result ≡ start_of tokens.now }
 {
     match tokens {
         [] => 0,
-        [first, ..] => first.left,
+        [first, ..] => first.span.start as usize,
     }
 }
 
-fn behind(tokens: &[Placed], count: usize) -> &[Placed]
+fn behind(tokens: &[Token], count: usize) -> &[Token]
     ensures { result.now ≡ drop count tokens.now }
 {
     if count < tokens.len() {
@@ -37,23 +37,23 @@ fn token_count(line: &Line) -> usize
     }
 }
 
-/// At each line how many bytes there are from its first token on, given the tokens of the file.
+/// The place in bytes of the first token of each line, given the tokens of the file.
 pub fn starts_of(
     alloc: Global,
     names: &[Word],
     lines: &[Line],
-    tokens: &[Placed],
+    tokens: &[Token],
 ) -> Result<Vec<usize>, AllocError>
     requires { length names.now ≤ 4000 }
     ensures { IfOk result (λ v. v.items ≡ starts names.now lines.now tokens.now) }
 {
     let mut rest = behind(tokens, 13 + 4 * names.len());
-    let mut lefts = Vec::new(alloc);
+    let mut starts = Vec::new(alloc);
     'lines: for line in lines {
-        lefts.push(left_of(rest))?;
+        starts.push(start_of(rest))?;
         rest = behind(rest, token_count(line));
     }
-    Ok(lefts)
+    Ok(starts)
 }
 
 /// A place in a file: how many bytes stand before it, and its line and column, counted from 1.
@@ -100,7 +100,7 @@ pub fn file_start(bytes: &[u8]) -> Place
 
 /// The place at this offset. It goes on from the last place where that lies before.
 pub fn place_at(bytes: &[u8], last: Place, offset: usize) -> Place
-    requires short { length bytes.now ≤ 1048576 }
+    requires short { offset ≤ 1048576 }
     requires within { offset ≤ length bytes.now }
     requires last { IsPlace bytes.now last }
     ensures place { IsPlace bytes.now result }
@@ -113,7 +113,7 @@ pub fn place_at(bytes: &[u8], last: Place, offset: usize) -> Place
 }
 
 fn place_from(bytes: &[u8], start: Place, offset: usize) -> Place
-    requires short { length bytes.now ≤ 1048576 }
+    requires short { offset ≤ 1048576 }
     requires within { offset ≤ length bytes.now }
     requires start { IsPlace bytes.now start }
     requires before { start.offset ≤ offset }

@@ -99,32 +99,32 @@ fn fault_at(alloc: Global, names: &[Word], gap: Gap, place: Place) -> Result<Fau
     })
 }
 
-fn left_at(lefts: &[usize], at: usize) -> usize
-    ensures { result ≡ get_or lefts.now at 0 }
+fn start_at(starts: &[usize], at: usize) -> usize
+    ensures { result ≡ get_or starts.now at 0 }
 {
-    match lefts.get(at) {
-        Some(left) => *left,
+    match starts.get(at) {
+        Some(start) => *start,
         None => 0,
     }
 }
 
-/// The fault of each gap, in order. `lefts` has at each line how many bytes there are from its first token on.
+/// The fault of each gap, in order. `starts` has the place in bytes of each line.
 pub fn faults_of(
     alloc: Global,
     bytes: &[u8],
     names: &[Word],
-    lefts: &[usize],
+    starts: &[usize],
     gaps: &[Gap],
 ) -> Result<Vec<Fault>, AllocError>
     requires short { length bytes.now ≤ 1048576 }
+    requires within { AllByRecursion (λ start. start ≤ length bytes.now) starts.now }
     requires small { AllByRecursion IsSmall gaps.now }
-    ensures { IfOk result (λ faults. map seen faults.items ≡ map (reported bytes.now names.now lefts.now) gaps.now) }
+    ensures { IfOk result (λ faults. map seen faults.items ≡ map (reported bytes.now names.now starts.now) gaps.now) }
 {
     let mut faults = Vec::new(alloc);
     let mut place = file_start(bytes);
     'gaps: for gap in gaps {
-        let offset = bytes.len().saturating_sub(left_at(lefts, gap.at));
-        place = place_at(bytes, place, offset);
+        place = place_at(bytes, place, start_at(starts, gap.at));
         faults.push(fault_at(alloc, names, *gap, place)?)?;
     }
     Ok(faults)

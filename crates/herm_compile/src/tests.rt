@@ -1,4 +1,4 @@
-//! Straight-line programs, their refusals, and the limits of the form.
+//! Straight-line programs, their refusals, and the limits of the form and of its tokens.
 use crate::{CompileFault, compile};
 use herm_base::Word;
 use std::alloc::{AllocError, Global};
@@ -63,18 +63,45 @@ fn refusals_have_their_places_and_paths(rt: HostRuntime) -> Result<(), Fail> {
             "discard s;\r\n\t s := \"~ !\"; discard s; \n\n\t discard s; }",
             "4:1: F13 needs init(s) by start 1:ok|7:3: F13 needs init(s) by start 1:ok 2:ok 3:ok 4:ok|",
         ),
-        ("s := \"a\\n\";\n}", "1:1: F12 not built|"),
-        ("-- hello\n}", "1:1: F12 not built|"),
+        ("s := \"a\\n\\\"\\\\\";\n}", "1 2"),
+        ("-- hello\n}", "1 1"),
+        ("s := \"a\" -- \"\n;-- }\n}--", "1 2"),
+        ("s := \"a\\t\";\n}", "4:6: F2 token|"),
         ("s : = \"a\";\n}", "1:1: F12 not built|"),
         ("t := \"a\";\n}", "1:1: F12 not built|"),
         ("receive m from start;\n}", "1:1: F12 not built|"),
         ("} }", "1:1: F12 not built|"),
+        ("send s to m.outport;\n}", "1:1: F12 not built|"),
+        ("s := 7;\n}", "1:1: F12 not built|"),
         ("", "1:1: F12 not built|"),
     ];
     for (body, expected) in cases {
         let mut file = String::from_str(rt.alloc(), head)?;
         file.push_str(body)?;
         let found = answer(rt.alloc(), file.as_bytes())?;
+        assert_eq!(rt; found.as_str(), expected);
+    }
+    Ok(())
+}
+
+#[test]
+fn a_fault_of_the_bytes_is_the_one_refusal(rt: HostRuntime) -> Result<(), Fail> {
+    let cases: [(&[u8], &str); 9] = [
+        (
+            b"process main(start: main_start) { n := 00; }",
+            "1:40: F2 token|",
+        ),
+        (b"\xff", "1:1: F1 byte|"),
+        (b"\n\n -- \x7f 12a", "3:5: F1 byte|"),
+        (b"12a", "1:1: F2 token|"),
+        (b"process\n\t\"main", "2:2: F2 token|"),
+        (b"12a \xff", "1:1: F2 token|"),
+        (b"9223372036854775808", "1:1: F3 too long|"),
+        (b"9223372036854775807", "1:1: F12 not built|"),
+        (b"", "1:1: F12 not built|"),
+    ];
+    for (bytes, expected) in cases {
+        let found = answer(rt.alloc(), bytes)?;
         assert_eq!(rt; found.as_str(), expected);
     }
     Ok(())
@@ -131,9 +158,9 @@ fn each_limit_is_taken_and_no_more(rt: HostRuntime) -> Result<(), Fail> {
         ((4000, 1, 1, 1), "4000 2"),
         ((4001, 1, 1, 1), built),
         ((1, 58, 1, 1), "1 2"),
-        ((1, 59, 1, 1), built),
+        ((1, 59, 1, 1), "1:51: F3 too long|"),
         ((1, 1, 1, 4096), "1 2"),
-        ((1, 1, 1, 4097), built),
+        ((1, 1, 1, 4097), "1:96: F3 too long|"),
     ];
     for ((names, letters, statements, text), expected) in cases {
         let file = sized(rt.alloc(), names, letters, statements, text)?;
@@ -144,12 +171,21 @@ fn each_limit_is_taken_and_no_more(rt: HostRuntime) -> Result<(), Fail> {
             "{names} {letters} {statements} {text}"
         );
     }
+    Ok(())
+}
+
+#[test]
+fn a_file_has_its_most_bytes_and_no_more(rt: HostRuntime) -> Result<(), Fail> {
     let mut file = sized(rt.alloc(), 1, 1, 1, 1)?.into_bytes();
     for _ in file.len()..1_048_576 {
         file.push(b' ')?;
     }
     assert_eq!(rt; answer(rt.alloc(), file.as_slice())?.as_str(), "1 2");
     file.push(b' ')?;
-    assert_eq!(rt; answer(rt.alloc(), file.as_slice())?.as_str(), built);
+    let found = answer(rt.alloc(), file.as_slice())?;
+    assert_eq!(rt; found.as_str(), "1:1048577: F3 too long|");
+    file[0] = b'_';
+    let found = answer(rt.alloc(), file.as_slice())?;
+    assert_eq!(rt; found.as_str(), "1:1: F2 token|");
     Ok(())
 }

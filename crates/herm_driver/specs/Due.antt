@@ -7,7 +7,7 @@ use Rattle.herm_compile.specs.declared.compiled.Line.{Line}
 use Rattle.herm_compile.specs.declared.fault.Fault.{Fault}
 use Rattle.herm_compile.specs.Form.{IsOfForm}
 use Rattle.herm_compile.specs.Straight.{process_of}
-use Rattle.herm_compile.specs.Refused.{IsNotBuilt, IsLacking}
+use Rattle.herm_compile.specs.Refused.{IsUnread, IsNotBuilt, IsLacking}
 use Rattle.herm_model.specs.Types.{predefined}
 use Rattle.herm_model.specs.Refusals.{IsAccepted}
 use Rattle.herm_world.specs.Lines.{sent}
@@ -33,10 +33,10 @@ IsDone bytes status text report =
     × IsAccepted predefined (process_of (length names) lines) × (text ≡ console_text (sent (length names) lines))
     × IsReportOf (length names) lines report
 
--- the bytes are refused: they are of no program that is built, or facts are missing in it; a line for each fault
+-- the bytes are refused: they have a fault, or their tokens are of no program that is built, or facts are missing in it; a line for each fault
 abbrev pub IsRefusal : List ℕ → List ℕ → ℕ → List ℕ → Option Report → Type 0
 IsRefusal name bytes status text report =
-    (status ≡ 1) × (faults : List Fault) × (IsNotBuilt bytes faults ⊎ IsLacking bytes faults) × (text ≡ refusals_text name faults)
+    (status ≡ 1) × (faults : List Fault) × (IsUnread bytes faults ⊎ IsNotBuilt bytes faults ⊎ IsLacking bytes faults) × (text ≡ refusals_text name faults)
     × (report ≡ None)
 
 -- what a named file is due: it is not found, or done, or refused

@@ -81,7 +81,7 @@ fn a_failing_write_cuts_the_text_off(rt: HostRuntime) -> Result<(), Fail> {
 fn other_files_are_not_built(rt: HostRuntime) -> Result<(), Fail> {
     let rows: [(&str, &[u8]); 4] = [
         ("empty", b""),
-        ("a byte", b"\xff"),
+        ("a comment", b"-- hi"),
         ("cut", b"process main(start: main_start) {"),
         ("an empty body", b"process main(start: main_start) { }"),
     ];

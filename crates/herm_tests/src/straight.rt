@@ -36,7 +36,7 @@ fn gives(
 
 #[test]
 fn lines_run_or_are_refused_where_a_fact_is_missing(rt: HostRuntime) -> Result<(), Fail> {
-    let rows: [(&[&str], u8, &str); 7] = [
+    let rows: [(&[&str], u8, &str); 9] = [
         (&["s := \"hi\";", "send s to m.out;"], 0, "hi\n"),
         (&[], 0, ""),
         (
@@ -71,14 +71,36 @@ fn lines_run_or_are_refused_where_a_fact_is_missing(rt: HostRuntime) -> Result<(
             "b\nc\n",
         ),
         (
-            &["-- a comment", "s := \"a\";"],
-            1,
-            "a.hm:1:1: F12 not built\n",
+            &["-- \"", "s := \"hi\"; -- send", "send s to m.out;"],
+            0,
+            "hi\n",
         ),
+        (
+            &["s := \"a\\nb\\\"\\\\\";", "send s to m.out;"],
+            0,
+            "a\nb\"\\\n",
+        ),
+        (&["s := 7;"], 1, "a.hm:1:1: F12 not built\n"),
     ];
     for (lines, status, text) in rows {
         let bytes = program(rt.alloc(), lines)?;
         gives(&rt, rt.alloc(), &bytes, status, text.as_bytes())?;
+    }
+    Ok(())
+}
+
+#[test]
+fn a_fault_of_the_bytes_is_told_at_its_place(rt: HostRuntime) -> Result<(), Fail> {
+    let rows: [(&[&str], &str); 5] = [
+        (&["s := \"\u{7f}\";"], "a.hm:4:9: F1 byte\n"),
+        (&["-- \u{7f}", "s := 00;"], "a.hm:4:6: F1 byte\n"),
+        (&["s := 00;"], "a.hm:4:8: F2 token\n"),
+        (&["s := \"\\t\";"], "a.hm:4:8: F2 token\n"),
+        (&["s := 9223372036854775808;"], "a.hm:4:8: F3 too long\n"),
+    ];
+    for (lines, text) in rows {
+        let bytes = program(rt.alloc(), lines)?;
+        gives(&rt, rt.alloc(), &bytes, 1, text.as_bytes())?;
     }
     Ok(())
 }

@@ -9,7 +9,7 @@ pub returns-in_err-line-clause-none : goal.returns-in_err-line-clause-none
 returns-in_err-line-clause-none c = λ n.
     let p = err_from_is_err_and c.from_residual-in_err-line.result c.from_residual-in_err-line.ensures.1 in
     let r = c.lines.invariant in
-    lines_stuck _ _ _ r.more c.requires.names r.takes r.numbered (none_given _ _ c.in_err-line.ensures (came _ _ _ p.1 p.2 n)) (sym c.sign_first.ensures ∙ c.if-sign_first.false)
+    lines_stuck _ _ _ r.more c.requires.names r.takes r.numbered (none_given _ _ c.in_err-line.ensures (came _ _ _ p.1 p.2 n)) (sym c.first_is.ensures ∙ c.if-first_is.false)
 
 pub lines-init : goal.lines-init
 lines-init c = rw (c.in_ok-push.ensures.items, c.new-lines.ensures.items) (lines_start _ _)

@@ -9,7 +9,7 @@ use Rattle.herm_compile.proofs.form.names_of.Goals as goal
 pub returns-in_err-name-clause-none : goal.returns-in_err-name-clause-none
 returns-in_err-name-clause-none c = λ n.
     let p = err_from_is_err_and c.from_residual.result c.from_residual.ensures.1 in
-    names_stuck _ _ _ c.names.invariant (none_given _ _ c.in_err-name.ensures (came _ _ _ p.1 p.2 n)) (sym c.sign_first.ensures ∙ c.if-sign_first.false)
+    names_stuck _ _ _ c.names.invariant (none_given _ _ c.in_err-name.ensures (came _ _ _ p.1 p.2 n)) (sym c.first_is.ensures ∙ c.if-first_is.false)
 
 pub names-smaller : goal.names-smaller
 names-smaller c = takes_shorter _ _ _ _ (declaration_takes _ _ _ c.in_ok-name.ensures)

@@ -4,4 +4,4 @@ use Rattle.herm_compile.specs.Refused.{IsPlace, seen, reported}
 use Rattle.herm_compile.proofs.refusal.faults_of.Given as goal
 
 abbrev pub invariant-gaps : goal.invariant-gaps
-invariant-gaps l = IsPlace l.bytes l.place × (map seen l.faults.items ≡ map (reported l.bytes l.names l.lefts) (take l.gap-index l.gaps))
+invariant-gaps l = IsPlace l.bytes l.place × (map seen l.faults.items ≡ map (reported l.bytes l.names l.starts) (take l.gap-index l.gaps))
