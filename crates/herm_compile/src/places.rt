@@ -85,12 +85,11 @@ fn place_behind(place: Place, byte: u8) -> Place
     }
 }
 
-/// The beginning of a file.
-pub fn file_start(bytes: &[u8]) -> Place
-    ensures place { IsPlace bytes.now result }
+/// The beginning of each file.
+pub fn file_start() -> Place
+    ensures place { (bytes : List ℕ) → IsPlace bytes result }
     ensures offset { result.offset ≡ 0 }
 {
-    let _bytes = bytes;
     Place {
         offset: 0,
         line: 1,
@@ -109,7 +108,7 @@ pub fn place_at(bytes: &[u8], last: Place, offset: usize) -> Place
     if last.offset <= offset {
         return place_from(bytes, last, offset);
     }
-    place_from(bytes, file_start(bytes), offset)
+    place_from(bytes, file_start(), offset)
 }
 
 fn place_from(bytes: &[u8], start: Place, offset: usize) -> Place

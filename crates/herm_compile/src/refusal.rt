@@ -122,7 +122,7 @@ pub fn faults_of(
     ensures { IfOk result (λ faults. map seen faults.items ≡ map (reported bytes.now names.now starts.now) gaps.now) }
 {
     let mut faults = Vec::new(alloc);
-    let mut place = file_start(bytes);
+    let mut place = file_start();
     'gaps: for gap in gaps {
         place = place_at(bytes, place, start_at(starts, gap.at));
         faults.push(fault_at(alloc, names, *gap, place)?)?;

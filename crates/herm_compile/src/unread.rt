@@ -47,7 +47,7 @@ fn lex_fault(alloc: Global, bytes: &[u8], fault: LexFault) -> Result<Vec<Fault>,
     requires { HasFault bytes.now fault }
     ensures { IfOk result (λ faults. map seen faults.items ≡ lex_fault bytes.now fault ∷ []) }
 {
-    let place = place_at(bytes, file_start(bytes), fault_offset(fault));
+    let place = place_at(bytes, file_start(), fault_offset(fault));
     let words = Word::of(alloc, fault_words(fault))?;
     let mut faults = Vec::new(alloc);
     faults.push(Fault {
