@@ -18,20 +18,21 @@ use Rattle.herm_driver.specs.Words.{named_file}
 use Rattle.herm_driver.specs.Texts.{usage_text, read_fault_text, not_found_text, refusals_text, console_text}
 
 -- how much of a file is read: one byte more than a file may have
-abbrev pub load_limit : ℕ
+unfoldable pub load_limit : ℕ
 load_limit = 1048577
 
--- the report is that of a run of these lines in the source machine
-abbrev pub IsReportOf : ℕ → List Line → Option Report → Type 0
-IsReportOf count lines None = ⊥
-IsReportOf count lines (Some report) = IsReported count lines [] (report_as report)
+-- the report, with the status and the text, is that of a run of these lines in the source machine
+abbrev pub IsReportOf : ℕ → List Line → ℕ → List ℕ → Option Report → Type 0
+IsReportOf count lines status text None = ⊥
+IsReportOf count lines status text (Some report) = IsReported count lines [] (report_as report status text)
 
--- the bytes are an accepted program, which is done when it has sent its strings: these are the text, and its run is reported
+-- The bytes are an accepted program, whose run is reported, with the status and the text: the status is 0, and the text has a
+-- line for each string that is sent.
 abbrev pub IsDone : List ℕ → ℕ → List ℕ → Option Report → Type 0
 IsDone bytes status text report =
     (status ≡ 0) × (names : List (List ℕ)) × (lines : List Line) × IsOfForm bytes names lines
     × IsAccepted predefined (process_of (length names) lines) × (text ≡ console_text (sent (length names) lines))
-    × IsReportOf (length names) lines report
+    × IsReportOf (length names) lines status text report
 
 -- the bytes are refused: they have a fault, or their tokens are of no program that is built, or facts are missing in it; a line for each fault
 abbrev pub IsRefusal : List ℕ → List ℕ → ℕ → List ℕ → Option Report → Type 0

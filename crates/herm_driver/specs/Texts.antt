@@ -1,5 +1,7 @@
 -- The texts that the program writes. (Language reference, "Statuses and texts")
 use Rattle.std.specs.Prelude.{ℕ, List, [], ◌∷◌, ◌++◌, codes, decimal}
+use Rattle.std.specs.List.{flat_map}
+use Rattle.herm_source.specs.Statuses.{line}
 use Rattle.herm_compile.specs.declared.fault.Fault.{Fault}
 
 abbrev pub newline : List ℕ
@@ -30,5 +32,4 @@ refusals_text name (fault ∷ faults) = refusal_text name fault ++ refusals_text
 
 -- the console's lines: each string, followed by a newline
 abbrev pub console_text : List (List ℕ) → List ℕ
-console_text [] = []
-console_text (string ∷ strings) = (string ++ newline) ++ console_text strings
+console_text strings = flat_map line strings

@@ -2,7 +2,7 @@
 ghost use Rattle.std.specs.Prelude.{◌≡◌, ◌≢◌, ◌≤◌, ◌⊎◌, ◌↔◌, IfOk, IfSome, Some, None, length, map, string_bytes};
 ghost use Rattle.herm_edge.specs.Faults.{Rose};
 ghost use Rattle.herm_edge.specs.Shelf.{file_at};
-ghost use Rattle.herm_driver.specs.Due.{IsDone, IsRefusal, IsReportOf, IsDueTo, IsReadFault, IsChosen, IsTextStatus};
+ghost use Rattle.herm_driver.specs.Due.{load_limit, IsDone, IsRefusal, IsReportOf, IsDueTo, IsReadFault, IsChosen, IsTextStatus};
 ghost use Rattle.herm_driver.specs.Words.{named_file};
 ghost use Rattle.herm_driver.specs.Texts.{console_text, usage_text};
 ghost use Rattle.herm_world.specs.Lines.{sent};
@@ -17,7 +17,12 @@ use herm_world::{Report, run_lines};
 use std::alloc::{AllocError, Global};
 
 /// How much of a file is loaded: one byte more than a source file may have.
-const LOAD_LIMIT: usize = 1_048_577;
+#[tactic(auto, unfolding(crate::specs::Due::load_limit))]
+fn load_limit() -> usize
+    ensures { result ≡ load_limit }
+{
+    1_048_577
+}
 
 /// A text that is to be written, with its status and the report of its run.
 #[derive(Drop)]
@@ -34,7 +39,7 @@ fn run(alloc: Global, compiled: &Compiled) -> Result<Answer, AllocError>
     ensures status { IfOk result (λ a. a.status ≡ 0) }
     ensures text { IfOk result (λ a. a.text.items
         ≡ console_text (sent (length compiled.now.names.items) compiled.now.lines.items)) }
-    ensures report { IfOk result (λ a. IsReportOf (length compiled.now.names.items) compiled.now.lines.items a.report) }
+    ensures report { IfOk result (λ a. IsReportOf (length compiled.now.names.items) compiled.now.lines.items a.status a.text.items a.report) }
 {
     let report = run_lines(alloc, compiled, b"")?;
     let text = console(alloc, report.queue_of(0))?;
@@ -103,7 +108,7 @@ fn answer_for<F: Shelf>(alloc: Global, name: &str, shelf: &mut F) -> Result<Answ
     ensures counted { F.faults shelf.old ≤ F.faults shelf.new }
     ensures same { F.contents shelf.new ≡ F.contents shelf.old }
 {
-    match shelf.load(name, LOAD_LIMIT) {
+    match shelf.load(name, load_limit()) {
         Loaded::Here(bytes) => {
             let answer = judge(alloc, name, bytes)?;
             Ok(answer)

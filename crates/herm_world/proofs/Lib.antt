@@ -11,3 +11,15 @@ pub mod ModelTexts
 pub mod RunLines
 pub mod Accepted
 pub mod OneRun
+pub mod StraightReports
+pub mod Apart
+pub mod NothingThere
+pub mod HeldTexts
+pub mod TypedTexts
+pub mod KeptTexts
+pub mod SoundProcess
+pub mod SoundMessages
+pub mod SoundPlaces
+pub mod SoundCounts
+pub mod SoundSystem
+pub mod SoundRun

@@ -1,6 +1,8 @@
--- A straight-line program has one run: at each state along it one event alone can be.
-use Rattle.std.proofs.Common.{◌≡◌, replicate, ◌<◌, ◌≤◌, ℕ, zero, suc, ◌+◌, List, [], ◌∷◌, ◌++◌, map, Bool, true, false, Option, Some, None, length, nat_eq, nat_lt, slice_get, refl, sym, ap, subst, ◌∙◌, arith}
-use Rattle.std.proofs.lemmas.Bool.{ne_eqb, lt-ltb}
+-- A straight-line program has one run: at each state along it one event alone can be. What holds of each of its states
+-- therefore holds of every state that can be reached.
+use Rattle.std.specs.Prelude.{⊤}
+use Rattle.std.proofs.Common.{◌≡◌, ◌<◌, ◌≤◌, ℕ, zero, suc, ◌+◌, List, [], ◌∷◌, ◌++◌, map, Bool, true, false, Option, Some, length, nat_lt, slice_get, refl, sym, ap, subst, ◌∙◌, arith}
+use Rattle.std.proofs.lemmas.Bool.{lt-ltb}
 use Rattle.herm_model.specs.Paths.{Fact}
 use Rattle.herm_model.specs.Nodes.{node, end, Node}
 use Rattle.herm_model.specs.Values.{Cell, Parts}
@@ -24,53 +26,63 @@ use Rattle.herm_world.proofs.Progress.{Progress, node_for, variables_with, body_
 use Rattle.herm_world.proofs.Ends.{arrive-end, ending, close-run}
 use Rattle.herm_world.proofs.StraightRun.{HaveNodes, HaveLabels, Able, able, behind-line, line-step, arrived-kept, first_run}
 use Rattle.herm_world.proofs.StraightDone.{final_system, final_journal}
-use Rattle.herm_model.specs.Types.{predefined}
-use Rattle.herm_model.specs.Nodes.{process_nodes}
 use Rattle.herm_model.specs.Values.{tells}
-use Rattle.herm_model.specs.Control.{Flow, flow_of, held_at_start}
-use Rattle.herm_model.specs.Refusals.{AreExact}
-use Rattle.herm_source.specs.Edges.{code_of}
 use Rattle.herm_source.specs.Systems.{System, start}
-use Rattle.herm_compile.specs.Form.{IsBody}
-use Rattle.herm_compile.specs.Straight.{process_of}
-use Rattle.herm_compile.proofs.StraightLaws.{flow_is, straight, carry, hold}
-use Rattle.herm_world.specs.Lines.{sent, sent_from}
-use Rattle.herm_world.specs.StraightRuns.{IsRunnable, journal_of, GoesOnTo, StraightLinesHaveOneRun}
-use Rattle.herm_world.proofs.Slots.{empty_slots, values-empty, length-empty}
+use Rattle.herm_world.specs.Lines.{sent_from}
+use Rattle.herm_world.specs.StraightRuns.{journal_of, GoesOnTo, StraightLinesHaveOneRun}
+use Rattle.herm_world.proofs.Slots.{empty_slots, length-empty}
 use Rattle.herm_world.proofs.StraightRun.{after_lines, received, start-is, take-run}
-use Rattle.herm_world.proofs.StraightJournal.{lines-totals}
-use Rattle.herm_world.proofs.StraightFacts.{before_receive, receive-told, start-told}
-use Rattle.herm_world.proofs.StraightEnd.{nodes-from, code-is, exact-carry, labels-along, steps-of}
-use Rattle.herm_world.proofs.StraightDone.{whole-run, journal-is, none-steps, alone, sent-few}
+use Rattle.herm_world.proofs.StraightFacts.{before_receive}
+use Rattle.herm_world.proofs.Apart.{not-zero, far-one}
+use Rattle.herm_world.proofs.HeldTexts.{AreTexts, AreQueued}
+use Rattle.herm_world.proofs.KeptTexts.{texts-empty, texts-kept, queued-kept}
+use Rattle.herm_world.proofs.StraightDone.{AreSet, all_events, lines-end, none-steps, by-lines}
 use Rattle.herm_world.proofs.Progress.{code_with, modules_with, body_of, run_with}
 
 -- no event but this one can be
 abbrev pub Only : Modules → Event → Run → Type 0
 Only modules e r = (x : Event) (t : Run) → run_on modules x r ≡ Some t → x ≡ e
 
--- at each state along these events the next one alone can be, and none behind them
-abbrev pub OnlyAlong : Modules → List Event → Run → Type 0
-OnlyAlong modules [] r = (x : Event) (t : Run) → run_on modules x r ≡ Some t → ⊥
-OnlyAlong modules (e ∷ events) r = Only modules e r × ((t : Run) → run_on modules e r ≡ Some t → OnlyAlong modules events t)
+-- no event can be
+abbrev pub NoneGoes : Modules → Run → Type 0
+NoneGoes modules r = (x : Event) (t : Run) → run_on modules x r ≡ Some t → ⊥
+
+-- at each state along these events the next one alone can be, and none behind them; and each state is as said
+abbrev pub OnlyAlong : Modules → (System → Type 0) → List Event → Run → Type 0
+OnlyAlong modules IsSo [] r = IsSo r.system × NoneGoes modules r
+OnlyAlong modules IsSo (e ∷ events) r = IsSo r.system × Only modules e r × ((t : Run) → run_on modules e r ≡ Some t → OnlyAlong modules IsSo events t)
+
+here-so : (modules : Modules) (IsSo : System → Type 0) (events : List Event) (r : Run) → OnlyAlong modules IsSo events r → IsSo r.system
+here-so modules IsSo [] r only = only.0
+here-so modules IsSo (e ∷ events) r only = only.0
 
 -- every run from there is a beginning of the one along these events
-pub begins : (modules : Modules) (events : List Event) (r final : Run) → OnlyAlong modules events r → run modules events r ≡ Some final → (xs : List Event) (t : Run) → run modules xs r ≡ Some t → (rest : List Event) × (run modules rest t ≡ Some final)
-begins modules events r final only whole [] t e = (events, ap (run modules events) (sym (some-injective e)) ∙ whole)
-begins modules [] r final only whole (x ∷ xs) t e =
-    let b = chain-some (run modules xs) (run_on modules x r) t e in absurd (only x b.0 b.1)
-begins modules (y ∷ events) r final only whole (x ∷ xs) t e =
+pub begins : (modules : Modules) (IsSo : System → Type 0) (events : List Event) (r final : Run) → OnlyAlong modules IsSo events r → run modules events r ≡ Some final → (xs : List Event) (t : Run) → run modules xs r ≡ Some t
+    → (rest : List Event) × (run modules rest t ≡ Some final)
+begins modules IsSo events r final only whole [] t e = (events, ap (run modules events) (sym (some-injective e)) ∙ whole)
+begins modules IsSo [] r final only whole (x ∷ xs) t e =
+    let b = chain-some (run modules xs) (run_on modules x r) t e in absurd (only.1 x b.0 b.1)
+begins modules IsSo (y ∷ events) r final only whole (x ∷ xs) t e =
     let b = chain-some (run modules xs) (run_on modules x r) t e in
-    let same : x ≡ y = only.0 x b.0 b.1 in
+    let same : x ≡ y = only.1 x b.0 b.1 in
     let here : run_on modules y r ≡ Some b.0 = subst (λ z. run_on modules z r ≡ Some b.0) same b.1 in
     let w = chain-some (run modules events) (run_on modules y r) final whole in
     let met : w.0 ≡ b.0 = some-injective (sym w.1 ∙ here) in
-    begins modules events b.0 final (only.1 b.0 here) (subst (λ z. run modules events z ≡ Some final) met w.2) xs t b.2
+    begins modules IsSo events b.0 final (only.2 b.0 here) (subst (λ z. run modules events z ≡ Some final) met w.2) xs t b.2
+
+-- every state that can be reached from there is as said
+pub everywhere : (modules : Modules) (IsSo : System → Type 0) (events : List Event) (r : Run) → OnlyAlong modules IsSo events r → (xs : List Event) (t : Run) → run modules xs r ≡ Some t → IsSo t.system
+everywhere modules IsSo events r only [] t e = subst (λ (x : Run). IsSo x.system) (some-injective e) (here-so modules IsSo events r only)
+everywhere modules IsSo [] r only (x ∷ xs) t e =
+    let b = chain-some (run modules xs) (run_on modules x r) t e in absurd (only.1 x b.0 b.1)
+everywhere modules IsSo (y ∷ events) r only (x ∷ xs) t e =
+    let b = chain-some (run modules xs) (run_on modules x r) t e in
+    let same : x ≡ y = only.1 x b.0 b.1 in
+    let here : run_on modules y r ≡ Some b.0 = subst (λ z. run_on modules z r ≡ Some b.0) same b.1 in
+    everywhere modules IsSo events b.0 (only.2 b.0 here) xs t b.2
 
 abbrev a_run : Run → Option Run
 a_run r = Some r
-
-not-zero : (n : ℕ) → nat_eq (suc n) 0 ≡ false
-not-zero n = ne_eqb (suc n) 0 (λ e. omega arith)
 
 module _ (count : ℕ) (nodes : List Node) (label : ℕ → Fact → Bool) (limits : Limits) (arg : Text) where
   abbrev modules : Modules
@@ -105,9 +117,6 @@ module _ (count : ℕ) (nodes : List Node) (label : ℕ → Fact → Bool) (limi
       let g = rw (here, below, acting, wanted, fewer) at e in none-not_some g
   only-put i n v s a m f x queue placed journal here below fewer acting wanted (acts (suc (suc k)) place) t e = none-not_some e
 
-far-one : (n : ℕ) → nat_eq (suc (suc n)) 1 ≡ false
-far-one n = ne_eqb (suc (suc n)) 1 (λ e. omega arith)
-
 only-close : (c : Code) (limits : Limits) (v : Parts Name) (s a m : ℕ) (f : List Name) (queue : List (ℕ × Cell Name)) (placed : ℕ) (journal : List Entry) → nat_lt a greatest_actions ≡ true
     → Only (modules_with c) (acts 1 (port 1)) (run_with limits end (ending v s a m f) queue placed journal)
 only-close c limits v s a m f queue placed journal fewer (steps zero) t e = none-not_some e
@@ -121,7 +130,7 @@ only-close c limits v s a m f queue placed journal fewer (acts (suc zero) (reply
 only-close c limits v s a m f queue placed journal fewer (acts (suc zero) book) t e = let g = rw fewer at e in none-not_some g
 only-close c limits v s a m f queue placed journal fewer (acts (suc (suc k)) place) t e = none-not_some e
 
-none-final : (c : Code) (limits : Limits) (p : Progress) (g : List Name) (journal : List Entry) → OnlyAlong (modules_with c) [] (record { system = final_system limits p g; journal = journal })
+none-final : (c : Code) (limits : Limits) (p : Progress) (g : List Name) (journal : List Entry) → NoneGoes (modules_with c) (record { system = final_system limits p g; journal = journal })
 none-final c limits p g journal (steps zero) t e = none-not_some e
 none-final c limits p g journal (steps (suc zero)) t e = none-not_some e
 none-final c limits p g journal (steps (suc (suc k))) t e = none-not_some e
@@ -135,6 +144,15 @@ module _ (count : ℕ) (nodes : List Node) (label : ℕ → Fact → Bool) (limi
 
   abbrev close_event : Event
   close_event = acts 1 (port 1)
+
+  -- what is so in the opening state, between lines, at the end before the port is closed, and in the final state
+  pub record IsSoThroughout (IsSo : System → Type 0) : Type 0 where
+    pub opening : (t : Target) → slice_get nodes 0 ≡ Some (node_for 0 TheVariants.Receive t) → ((f : Fact) → label 0 f ≡ tells (before_receive (empty_slots count)) f) → IsSo (first_run count nodes label limits arg).system
+    pub between : (i : ℕ) (line : Line) (t : Target) (p : Progress) → slice_get nodes i ≡ Some (node_for i line t) → ((f : Fact) → label i f ≡ tells (variables_with arg p.slots) f)
+        → length p.slots ≡ count → IsLine count line → Able (values_of p.slots) line → AreTexts p.slots → AreQueued p.queue → IsSo (run_at limits arg (node i) p).system
+    pub ending : (p : Progress) (g : List Name) → length p.slots ≡ count → AreQueued p.queue
+        → IsSo (run_with limits end (ending (gap (gap (gaps (length p.slots)))) p.steps p.actions p.serial g) p.queue p.placed p.journal).system
+    pub final : (p : Progress) (g : List Name) → length p.slots ≡ count → AreQueued p.queue → IsSo (final_system limits p g)
 
   only-take : (t : Target) → slice_get nodes 0 ≡ Some (node_for 0 TheVariants.Receive t) → nat_lt 0 limits.steps ≡ true → Only here_modules (acts 1 (port 1)) (first_run count nodes label limits arg)
   only-take u here below (steps zero) t e = none-not_some e
@@ -160,117 +178,95 @@ module _ (count : ℕ) (nodes : List Node) (label : ℕ → Fact → Bool) (limi
   only-line i (TheVariants.Discard k) t p here below fewer h able =
       only-local count nodes label limits arg i (node_for i (TheVariants.Discard k) t) (variables_with arg p.slots) p.steps p.actions p.serial p.finalised p.queue p.placed p.journal here below refl
 
-  end-only : (p : Progress) → length p.slots ≡ count → p.actions < greatest_actions → OnlyAlong here_modules (close_event ∷ []) (arrived (code_with count nodes label) limits arg end p)
-  end-only p size fewer =
-      let ends = subst (λ n. (g : List Name) × (arrive (code_with n nodes label) end (body_at arg p) ≡ ending (gap (gap (gaps (length p.slots)))) p.steps p.actions p.serial g)) size (arrive-end nodes label arg p) in
-      let less = lt-ltb p.actions greatest_actions fewer in
-      let closes = close-run (code_with count nodes label) limits (gap (gap (gaps (length p.slots)))) p.steps p.actions p.serial ends.0 p.queue p.placed p.journal less in
-      subst (OnlyAlong here_modules (close_event ∷ [])) (sym (ap (λ b. run_with limits end b p.queue p.placed p.journal) ends.1)) (
-        only-close (code_with count nodes label) limits (gap (gap (gaps (length p.slots)))) p.steps p.actions p.serial ends.0 p.queue p.placed p.journal less,
-        λ t e. subst (OnlyAlong here_modules []) (some-injective (sym closes ∙ e)) (none-final (code_with count nodes label) limits p ends.0 (final_journal p)),
-      )
+  module _ (IsSo : System → Type 0) (so : IsSoThroughout IsSo) where
+    end-only : (p : Progress) → length p.slots ≡ count → AreQueued p.queue → p.actions < greatest_actions → OnlyAlong here_modules IsSo (close_event ∷ []) (arrived (code_with count nodes label) limits arg end p)
+    end-only p size queued fewer =
+        let ends = subst (λ n. (g : List Name) × (arrive (code_with n nodes label) end (body_at arg p) ≡ ending (gap (gap (gaps (length p.slots)))) p.steps p.actions p.serial g)) size (arrive-end nodes label arg p) in
+        let less = lt-ltb p.actions greatest_actions fewer in
+        let closes = close-run (code_with count nodes label) limits (gap (gap (gaps (length p.slots)))) p.steps p.actions p.serial ends.0 p.queue p.placed p.journal less in
+        subst (OnlyAlong here_modules IsSo (close_event ∷ [])) (sym (ap (λ b. run_with limits end b p.queue p.placed p.journal) ends.1)) (
+          so.ending p ends.0 size queued,
+          only-close (code_with count nodes label) limits (gap (gap (gaps (length p.slots)))) p.steps p.actions p.serial ends.0 p.queue p.placed p.journal less,
+          λ t e. subst (OnlyAlong here_modules IsSo []) (some-injective (sym closes ∙ e)) (so.final p ends.0 size queued, none-final (code_with count nodes label) limits p ends.0 (final_journal p)),
+        )
 
-  lines-only : (lines : List Line) (line : Line) (i : ℕ) (p : Progress) → HaveNodes nodes i (line ∷ lines) → HaveLabels arg label i p (line ∷ lines)
-      → length p.slots ≡ count → AllByRecursion (IsLine count) (line ∷ lines) → FindsStrings (values_of p.slots) (line ∷ lines)
-      → p.steps + length (line ∷ lines) ≤ limits.steps → p.actions + length (line ∷ lines) < greatest_actions
-      → OnlyAlong here_modules (map event_of (line ∷ lines) ++ close_event ∷ []) (run_at limits arg (node i) p)
-  lines-only [] line i p here labels size well finds enough few =
-      let below : p.steps < limits.steps = omega arith in
-      let fewer : p.actions < greatest_actions = omega arith in
-      let can = able count line [] (values_of p.slots) well.0 finds in
-      let behind = behind-line line p can in
-      let q : Progress = after_line line p in
-      let room : q.actions < greatest_actions = omega (arith, behind.actions) in
-      let step = line-step count nodes label limits arg i line end p here.0 (lt-ltb p.steps limits.steps below) (lt-ltb p.actions greatest_actions fewer) size well.0 can in (
-        only-line i line end p here.0 (lt-ltb p.steps limits.steps below) (lt-ltb p.actions greatest_actions fewer) well.0 can,
-        λ t e. subst (OnlyAlong here_modules (close_event ∷ [])) (some-injective (sym step ∙ e)) (end-only q (behind.size ∙ size) room),
-      )
-  lines-only (next ∷ lines) line i p here labels size well finds enough few =
-      let below : p.steps < limits.steps = omega arith in
-      let fewer : p.actions < greatest_actions = omega arith in
-      let can = able count line (next ∷ lines) (values_of p.slots) well.0 finds in
-      let behind = behind-line line p can in
-      let q : Progress = after_line line p in
-      let more : q.steps + length (next ∷ lines) ≤ limits.steps = omega (arith, behind.steps) in
-      let room : q.actions + length (next ∷ lines) < greatest_actions = omega (arith, behind.actions) in
-      let step = line-step count nodes label limits arg i line (node (suc i)) p here.0 (lt-ltb p.steps limits.steps below) (lt-ltb p.actions greatest_actions fewer) size well.0 can
-      ∙ ap (λ (r : Run). a_run r) (arrived-kept count nodes label limits arg (suc i) next lines q labels.1) in (
-        only-line i line (node (suc i)) p here.0 (lt-ltb p.steps limits.steps below) (lt-ltb p.actions greatest_actions fewer) well.0 can,
-        λ t e. subst (OnlyAlong here_modules (map event_of (next ∷ lines) ++ close_event ∷ [])) (some-injective (sym step ∙ e))
-            (lines-only lines next (suc i) q here.1 labels.1 (behind.size ∙ size) well.1 (behind.finds (next ∷ lines) finds) more room),
-      )
+    lines-only : (lines : List Line) (line : Line) (i : ℕ) (p : Progress) → HaveNodes nodes i (line ∷ lines) → HaveLabels arg label i p (line ∷ lines)
+        → length p.slots ≡ count → AreTexts p.slots → AreQueued p.queue → AllByRecursion (IsLine count) (line ∷ lines) → FindsStrings (values_of p.slots) (line ∷ lines)
+        → p.steps + length (line ∷ lines) ≤ limits.steps → p.actions + length (line ∷ lines) < greatest_actions
+        → OnlyAlong here_modules IsSo (map event_of (line ∷ lines) ++ close_event ∷ []) (run_at limits arg (node i) p)
+    lines-only [] line i p here labels size texts queued well finds enough few =
+        let below : p.steps < limits.steps = omega arith in
+        let fewer : p.actions < greatest_actions = omega arith in
+        let can = able count line [] (values_of p.slots) well.0 finds in
+        let behind = behind-line line p can in
+        let q : Progress = after_line line p in
+        let room : q.actions < greatest_actions = omega (arith, behind.actions) in
+        let step = line-step count nodes label limits arg i line end p here.0 (lt-ltb p.steps limits.steps below) (lt-ltb p.actions greatest_actions fewer) size well.0 can in (
+          so.between i line end p here.0 labels.0 size well.0 can texts queued,
+          only-line i line end p here.0 (lt-ltb p.steps limits.steps below) (lt-ltb p.actions greatest_actions fewer) well.0 can,
+          λ t e. subst (OnlyAlong here_modules IsSo (close_event ∷ [])) (some-injective (sym step ∙ e)) (end-only q (behind.size ∙ size) (queued-kept count line p well.0 can texts queued) room),
+        )
+    lines-only (next ∷ lines) line i p here labels size texts queued well finds enough few =
+        let below : p.steps < limits.steps = omega arith in
+        let fewer : p.actions < greatest_actions = omega arith in
+        let can = able count line (next ∷ lines) (values_of p.slots) well.0 finds in
+        let behind = behind-line line p can in
+        let q : Progress = after_line line p in
+        let more : q.steps + length (next ∷ lines) ≤ limits.steps = omega (arith, behind.steps) in
+        let room : q.actions + length (next ∷ lines) < greatest_actions = omega (arith, behind.actions) in
+        let step = line-step count nodes label limits arg i line (node (suc i)) p here.0 (lt-ltb p.steps limits.steps below) (lt-ltb p.actions greatest_actions fewer) size well.0 can
+        ∙ ap (λ (r : Run). a_run r) (arrived-kept count nodes label limits arg (suc i) next lines q labels.1) in (
+          so.between i line (node (suc i)) p here.0 labels.0 size well.0 can texts queued,
+          only-line i line (node (suc i)) p here.0 (lt-ltb p.steps limits.steps below) (lt-ltb p.actions greatest_actions fewer) well.0 can,
+          λ t e. subst (OnlyAlong here_modules IsSo (map event_of (next ∷ lines) ++ close_event ∷ [])) (some-injective (sym step ∙ e))
+              (lines-only lines next (suc i) q here.1 labels.1 (behind.size ∙ size) (texts-kept count line p well.0 can texts) (queued-kept count line p well.0 can texts queued) well.1 (behind.finds (next ∷ lines) finds) more room),
+        )
 
-  body-only : (lines : List Line) → HaveNodes nodes 0 (TheVariants.Receive ∷ lines) → ((f : Fact) → label 0 f ≡ tells (before_receive (empty_slots count)) f) → HaveLabels arg label 1 (received count nodes label limits arg) lines
-      → AllByRecursion (IsLine count) lines → FindsStrings (values_of (empty_slots count)) lines → suc (length lines) ≤ limits.steps → suc (length lines) < greatest_actions
-      → OnlyAlong here_modules ((acts 1 (port 1) ∷ map event_of lines) ++ close_event ∷ []) (start here_modules limits arg)
-  body-only [] here begin labels well finds enough few =
-      let below = lt-ltb 0 limits.steps (omega arith) in
-      let step = take-run count nodes label limits arg end here.0 below in
-      let p : Progress = received count nodes label limits arg in
-      let room : p.actions < greatest_actions = omega arith in
-      subst (OnlyAlong here_modules (acts 1 (port 1) ∷ close_event ∷ [])) (sym (start-is count nodes label limits arg begin)) (
-        only-take end here.0 below,
-        λ t e. subst (OnlyAlong here_modules (close_event ∷ [])) (some-injective (sym step ∙ e)) (end-only p (length-empty count) room),
-      )
-  body-only (line ∷ lines) here begin labels well finds enough few =
-      let below = lt-ltb 0 limits.steps (omega arith) in
-      let p : Progress = received count nodes label limits arg in
-      let more : 1 + length (line ∷ lines) ≤ limits.steps = omega arith in
-      let room : 1 + length (line ∷ lines) < greatest_actions = omega arith in
-      let step = take-run count nodes label limits arg (node 1) here.0 below ∙ ap (λ (r : Run). a_run r) (arrived-kept count nodes label limits arg 1 line lines p labels) in
-      subst (OnlyAlong here_modules (acts 1 (port 1) ∷ (map event_of (line ∷ lines) ++ close_event ∷ []))) (sym (start-is count nodes label limits arg begin)) (
-        only-take (node 1) here.0 below,
-        λ t e. subst (OnlyAlong here_modules (map event_of (line ∷ lines) ++ close_event ∷ [])) (some-injective (sym step ∙ e))
-            (lines-only lines line 1 p here.1 labels (length-empty count) well finds more room),
-      )
+    body-only : (lines : List Line) → AreSet count nodes label limits arg lines → OnlyAlong here_modules IsSo (all_events count nodes label limits arg lines) (start here_modules limits arg)
+    body-only [] set =
+        let below = lt-ltb 0 limits.steps (omega (arith, set.enough)) in
+        let step = take-run count nodes label limits arg end set.here.0 below in
+        let p : Progress = received count nodes label limits arg in
+        let room : p.actions < greatest_actions = omega arith in
+        subst (OnlyAlong here_modules IsSo (acts 1 (port 1) ∷ close_event ∷ [])) (sym (start-is count nodes label limits arg set.begins)) (
+          so.opening end set.here.0 set.begins,
+          only-take end set.here.0 below,
+          λ t e. subst (OnlyAlong here_modules IsSo (close_event ∷ [])) (some-injective (sym step ∙ e)) (end-only p (length-empty count) tt room),
+        )
+    body-only (line ∷ lines) set =
+        let below = lt-ltb 0 limits.steps (omega (arith, set.enough)) in
+        let p : Progress = received count nodes label limits arg in
+        let more : 1 + length (line ∷ lines) ≤ limits.steps = omega (arith, set.enough) in
+        let room : 1 + length (line ∷ lines) < greatest_actions = omega (arith, set.few) in
+        let step = take-run count nodes label limits arg (node 1) set.here.0 below ∙ ap (λ (r : Run). a_run r) (arrived-kept count nodes label limits arg 1 line lines p set.labels) in
+        subst (OnlyAlong here_modules IsSo (acts 1 (port 1) ∷ (map event_of (line ∷ lines) ++ close_event ∷ []))) (sym (start-is count nodes label limits arg set.begins)) (
+          so.opening (node 1) set.here.0 set.begins,
+          only-take (node 1) set.here.0 below,
+          λ t e. subst (OnlyAlong here_modules IsSo (map event_of (line ∷ lines) ++ close_event ∷ [])) (some-injective (sym step ∙ e))
+              (lines-only lines line 1 p set.here.1 set.labels (length-empty count) (texts-empty count) tt set.well set.finds more room),
+        )
 
-  goes-on : (lines : List Line) → HaveNodes nodes 0 (TheVariants.Receive ∷ lines) → ((f : Fact) → label 0 f ≡ tells (before_receive (empty_slots count)) f) → HaveLabels arg label 1 (received count nodes label limits arg) lines
-      → AllByRecursion (IsLine count) lines → FindsStrings (values_of (empty_slots count)) lines → length (TheVariants.Receive ∷ lines) ≤ 1024 → length (TheVariants.Receive ∷ lines) ≤ limits.steps
-      → GoesOnTo here_modules limits arg (journal_of arg (sent_from (values_of (empty_slots count)) lines))
-  goes-on lines here begin labels well finds small enough events r e =
-      let first : Progress = received count nodes label limits arg in
-      let p : Progress = after_lines lines first in
-      let strings : List Text = sent_from (values_of (empty_slots count)) lines in
-      let totals = lines-totals count lines first [] well finds tt in
-      let fewer : length strings ≤ length lines = sent-few count lines (empty_slots count) well finds in
-      let acted : p.actions < 16384 = omega (arith, totals.actions) in
-      let room : suc (length lines) < 16384 = omega arith in
-      let more : suc (length lines) ≤ limits.steps = omega arith in
-      let ends = whole-run count nodes label limits arg lines here begin labels well finds more room (totals.size ∙ length-empty count) acted in
-      let all : List Event = (acts 1 (port 1) ∷ map event_of lines) ++ close_event ∷ [] in
-      let final : System = final_system limits p ends.0 in
-      let is_run : run here_modules all (start here_modules limits arg) ≡ Some (record { system = final; journal = journal_of arg strings }) =
-      ends.1 ∙ ap (λ j. Some (record { system = final; journal = j })) (journal-is count nodes label limits arg lines well finds) in
-      let b = begins here_modules all (start here_modules limits arg) (record { system = final; journal = journal_of arg strings }) (body-only lines here begin labels well finds more room) is_run events r e in
-      (b.0, final, b.1, none-steps (code_with count nodes label) limits p ends.0)
+    -- what is so in the states of these four kinds is so in every state of every run
+    pub states-so : (lines : List Line) → AreSet count nodes label limits arg lines → (events : List Event) (r : Run) → run here_modules events (start here_modules limits arg) ≡ Some r → IsSo r.system
+    states-so lines set events r e = everywhere here_modules IsSo (all_events count nodes label limits arg lines) (start here_modules limits arg) (body-only lines set) events r e
 
-rest-goes : (count : ℕ) (lines : List Line) (arg : Text) (limits : Limits) (label : ℕ → Fact → Bool) → AllByRecursion (IsLine count) lines → FindsStrings (replicate count None) lines
-    → length (TheVariants.Receive ∷ lines) ≤ 1024 → length (TheVariants.Receive ∷ lines) ≤ limits.steps → AreExact (flow_of predefined (process_of count (TheVariants.Receive ∷ lines))) label
-    → GoesOnTo (modules_with (code_of predefined (process_of count (TheVariants.Receive ∷ lines)) label)) limits arg (journal_of arg (sent count (TheVariants.Receive ∷ lines)))
-rest-goes count lines arg limits label well finds small enough exact =
-    let all : List Line = TheVariants.Receive ∷ lines in
-    let nodes : List Node = process_nodes (process_of count all) in
-    let flow : Flow = flow_of predefined (process_of count all) in
-    let is : flow ≡ straight all = flow_is count all (tt, steps-of count lines well) in
-    let found = subst (λ v. FindsStrings v lines) (sym (values-empty count)) finds in
-    let p : Progress = received count nodes label limits arg in
-    let here = nodes-from nodes [] 0 all refl refl in
-    let begin : (f : Fact) → label 0 f ≡ tells (before_receive (empty_slots count)) f = λ f. exact-carry flow all [] TheVariants.Receive lines label f is exact refl ∙ sym (start-told count f) in
-    let told : (f : Fact) → tells (variables_with arg (empty_slots count)) f ≡ carry f (held_at_start f) (TheVariants.Receive ∷ []) = λ f. receive-told arg (empty_slots count) f ∙ ap (hold f TheVariants.Receive) (start-told count f) in
-    let labels = labels-along arg count label flow all is exact lines (TheVariants.Receive ∷ []) p refl well found (length-empty count) told in
-    subst (λ c. GoesOnTo (modules_with c) limits arg (journal_of arg (sent count all))) (sym (code-is count TheVariants.Receive lines label))
-    (subst (λ v. GoesOnTo (modules_with (code_with count nodes label)) limits arg (journal_of arg (sent_from v lines))) (values-empty count)
-    (goes-on count nodes label limits arg lines here begin labels well found small enough))
+-- nothing is asked of the states
+abbrev IsAny : System → Type 0
+IsAny s = ⊤
 
-body-goes : (count : ℕ) (lines : List Line) (arg : Text) (limits : Limits) (label : ℕ → Fact → Bool) → IsRunnable count lines → IsBody count lines → length lines ≤ limits.steps → AreExact (flow_of predefined (process_of count lines)) label
-    → GoesOnTo (modules_with (code_of predefined (process_of count lines) label)) limits arg (journal_of arg (sent count lines))
-body-goes count [] arg limits label can body enough exact = absurd body
-body-goes count (TheVariants.Receive ∷ lines) arg limits label can body enough exact = rest-goes count lines arg limits label body can.finds can.few_lines enough exact
-body-goes count (TheVariants.Set n bytes ∷ lines) arg limits label can body enough exact = absurd body
-body-goes count (TheVariants.Send n ∷ lines) arg limits label can body enough exact = absurd body
-body-goes count (TheVariants.Discard n ∷ lines) arg limits label can body enough exact = absurd body
+module _ (count : ℕ) (limits : Limits) (arg : Text) where
+  goes-on : (lines : List Line) (nodes : List Node) (label : ℕ → Fact → Bool) → AreSet count nodes label limits arg lines
+      → GoesOnTo (modules_with (code_with count nodes label)) limits arg (journal_of arg (sent_from (values_of (empty_slots count)) lines))
+  goes-on lines nodes label set events r e =
+      let modules : Modules = modules_with (code_with count nodes label) in
+      let p : Progress = after_lines lines (received count nodes label limits arg) in
+      let ends = lines-end count nodes label limits arg lines set in
+      let final : System = final_system limits p ends.names in
+      let any : IsSoThroughout count nodes label limits arg IsAny = record { opening = λ t here same. tt; between = λ i line t q here same size well can texts queued. tt; ending = λ q g size queued. tt; final = λ q g size queued. tt } in
+      let b = begins modules IsAny (all_events count nodes label limits arg lines) (start modules limits arg) (record { system = final; journal = journal_of arg (sent_from (values_of (empty_slots count)) lines) })
+      (body-only count nodes label limits arg IsAny any lines set) ends.is_run events r e in
+      (b.0, final, b.1, none-steps (code_with count nodes label) limits p ends.names)
 
 pub one-run : StraightLinesHaveOneRun
 one-run count lines arg limits modules can enough accepted =
-    let a = alone count lines modules.types modules.codes modules.main accepted.types accepted.codes accepted.main in
-    subst (λ m. GoesOnTo m limits arg (journal_of arg (sent count lines))) (sym a.1) (body-goes count lines arg limits a.0 can can.body enough a.2)
+    by-lines count limits arg (λ (ls : List Line) m strings. GoesOnTo m limits arg (journal_of arg strings)) (goes-on count limits arg) lines modules can enough accepted

@@ -1,13 +1,12 @@
 -- What the code of a run has recorded when the lines are done, in the words of the report.
-use Rattle.std.proofs.Common.{◌≡◌, ℕ, ◌+◌, ◌-◌, List, [], ◌∷◌, ◌++◌, map, length, refl, sym, ap, ap₂, subst, ◌∙◌, arith, append-nil}
+use Rattle.std.proofs.Common.{flat_map, ◌≡◌, ℕ, ◌+◌, ◌-◌, List, [], ◌∷◌, ◌++◌, map, length, refl, sym, ap, ap₂, subst, ◌∙◌, arith, append-nil}
 use Rattle.herm_journal.specs.Entries.{Text, Entry}
-use Rattle.herm_source.specs.Statuses.{Fate, Counts, ended_normally}
-use Rattle.herm_base.specs.declared.numbers.PortNo.{PortNo}
+use Rattle.herm_source.specs.Headline.{Report}
+use Rattle.herm_source.specs.Statuses.{Fate, Counts, ended_normally, line}
 use Rattle.herm_compile.specs.declared.compiled.Line.{Line}
 use Rattle.herm_world.specs.Lines.{Values, sent_from}
 use Rattle.herm_world.specs.StringTexts.{quoted}
-use Rattle.herm_world.specs.StraightRuns.{RunReport, report_of, string_text, taken_at, sent_all, closed_at, journal_of, sets, counts_of, counts_from}
-use Rattle.herm_world.specs.ReportView.{numbered_queues}
+use Rattle.herm_world.specs.StraightRuns.{report_of, string_text, taken_at, sent_all, closed_at, journal_of, sets, counts_of, counts_from}
 use Rattle.herm_world.proofs.ModelTexts.{quoted_text}
 use Rattle.herm_world.proofs.StraightEnd.{same-counts}
 
@@ -46,19 +45,15 @@ texts-are : (S : List Text) → map quoted S ≡ map string_text S
 texts-are [] = refl
 texts-are (s ∷ S) = ap₂ (λ (t : Text) (ts : List Text). t ∷ ts) (quoted_text s) (texts-are S)
 
-second-numbered : (qs : List (PortNo × List Text)) → map (λ (q : PortNo × List Text). q.1) qs ≡ map (λ (q : ℕ × List Text). q.1) (numbered_queues qs)
-second-numbered [] = refl
-second-numbered (q ∷ qs) = ap (q.1 ∷◌) (second-numbered qs)
+abbrev a_report : List Entry → List Fate → List (ℕ × List Text) → Counts → Text → Report
+a_report journal ends queued counts text = record { journal = journal; ends = ends; queued = queued; counts = counts; status = 0; text = text }
 
-abbrev a_report : List Entry → List Fate → List (List Text) → Counts → RunReport
-a_report journal ends queues counts = record { journal = journal; ends = ends; queues = queues; counts = counts }
+same-reports : (j j' : List Entry) (e e' : List Fate) (q q' : List (ℕ × List Text)) (c c' : Counts) (text : Text) → j ≡ j' → e ≡ e' → q ≡ q' → c ≡ c' → a_report j e q c text ≡ a_report j' e' q' c' text
+same-reports j j' e e' q q' c c' text a b d f = cc
 
-same-reports : (j j' : List Entry) (e e' : List Fate) (q q' : List (List Text)) (c c' : Counts) → j ≡ j' → e ≡ e' → q ≡ q' → c ≡ c' → a_report j e q c ≡ a_report j' e' q' c'
-same-reports j j' e e' q q' c c' a b d f = cc
-
-pub report-is : (arg : Text) (lines : List Line) (S : List Text) (j : List Entry) (e : List Fate) (queued : List (PortNo × List Text)) (c : Counts)
-    → j ≡ journal_of arg S → e ≡ ended_normally ∷ [] → numbered_queues queued ≡ (0, map quoted S) ∷ (1, []) ∷ [] → c ≡ counts_of lines S
-    → a_report j e (map (λ (q : PortNo × List Text). q.1) queued) c ≡ report_of arg lines S
+pub report-is : (arg : Text) (lines : List Line) (S : List Text) (j : List Entry) (e : List Fate) (queued : List (ℕ × List Text)) (c : Counts)
+    → j ≡ journal_of arg S → e ≡ ended_normally ∷ [] → queued ≡ (0, map quoted S) ∷ (1, []) ∷ [] → c ≡ counts_of lines S
+    → a_report j e queued c (flat_map line S) ≡ report_of arg lines S
 report-is arg lines S j e queued c journal ends queues counts =
-    same-reports j (journal_of arg S) e (ended_normally ∷ []) (map (λ (q : PortNo × List Text). q.1) queued) (map string_text S ∷ [] ∷ []) c (counts_of lines S) journal ends
-    (second-numbered queued ∙ ap (map (λ (q : ℕ × List Text). q.1)) queues ∙ ap (λ (ts : List Text). ts ∷ [] ∷ []) (texts-are S)) counts
+    same-reports j (journal_of arg S) e (ended_normally ∷ []) queued ((0, map string_text S) ∷ (1, []) ∷ []) c (counts_of lines S) (flat_map line S) journal ends
+    (queues ∙ ap (λ (ts : List Text). (0, ts) ∷ (1, []) ∷ []) (texts-are S)) counts

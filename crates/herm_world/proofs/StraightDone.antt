@@ -1,5 +1,5 @@
 -- The final state of a straight-line program, and that it is reached.
-use Rattle.std.proofs.Common.{◌≡◌, ap₂, append-nil, flat_map, ◌<◌, ◌≤◌, ℕ, zero, suc, ◌+◌, ◌-◌, List, [], ◌∷◌, ◌++◌, map, Bool, false, Option, Some, None, option_and_then, length, length-append, slice_get, slice_set, replicate, nat_eq, refl, sym, ap, subst, ◌∙◌, arith}
+use Rattle.std.proofs.Common.{◌≡◌, ap₂, flat_map, ◌<◌, ◌≤◌, ℕ, zero, suc, ◌+◌, ◌-◌, List, [], ◌∷◌, ◌++◌, map, Bool, false, Option, Some, None, option_and_then, length, length-append, slice_get, slice_set, replicate, nat_eq, refl, sym, ap, subst, ◌∙◌, arith}
 use Rattle.std.specs.List.{AllByRecursion}
 use Rattle.std.proofs.lemmas.Bool.{lt-ltb}
 use Rattle.herm_model.specs.Paths.{Fact}
@@ -18,8 +18,7 @@ use Rattle.herm_source.specs.States.{greatest_actions}
 use Rattle.herm_source.specs.Ledger.{HasLedger, made_in, held_in, queued_in, finalised_in, IsMadeOnce}
 use Rattle.herm_source.specs.Statuses.{counts, one, cut, line, bytes_of}
 use Rattle.herm_source.specs.Systems.{Modules, System, run, run_on, Event, acts, start, IsFinal, opening, Run}
-use Rattle.herm_source.specs.Headline.{AreCodesOf, IsRunTo}
-use Rattle.herm_source.proofs.Events.{run-stamped}
+use Rattle.herm_source.specs.Headline.{AreAccepted, AreCodesOf, IsRunTo}
 use Rattle.herm_source.proofs.Numbered.{runs-numbered, numbered-once}
 use Rattle.herm_source.proofs.SystemLedger.{runs-keep}
 use Rattle.herm_source.proofs.KeptSteps.{beginnings-keep, local-steps-keep, answers-keep}
@@ -29,15 +28,14 @@ use Rattle.herm_compile.proofs.StraightLaws.{flow_is, straight, carry, hold}
 use Rattle.herm_compile.specs.declared.compiled.Line.{Line}
 use Rattle.herm_compile.specs.declared.compiled.Line.TheVariants
 use Rattle.herm_world.specs.Lines.{Values, held, sent_from, sent, FindsStrings}
-use Rattle.herm_world.specs.StraightRuns.{IsRunnable, program_of, closed_at, journal_of, sets, counts_of, report_of, Reports, StraightLinesRun, Writes}
+use Rattle.herm_world.specs.StraightRuns.{IsRunnable, program_of, closed_at, journal_of, sets, counts_of}
 use Rattle.herm_world.proofs.Slots.{Slots, empty_slots, values_of, values-empty, length-empty}
 use Rattle.herm_world.proofs.Progress.{code_with, modules_with, Progress, body_of, event_of, variables_with, body_at, open_port, system_with, run_with, arrived}
 use Rattle.herm_world.proofs.Ends.{arrive-end, ending, close-run}
 use Rattle.herm_world.proofs.StraightRun.{after_lines, HaveNodes, HaveLabels, run-joined, received, body-run}
 use Rattle.herm_world.proofs.StraightJournal.{IsClocked, next-clock, either-below, lines-journal, Totals, lines-totals, AreStrings}
 use Rattle.herm_world.proofs.StraightFacts.{before_receive, receive-told, start-told}
-use Rattle.herm_world.proofs.Accepted.{lines-accepted}
-use Rattle.herm_world.proofs.StraightEnd.{nodes-from, code-is, exact-carry, labels-along, steps-of, serials-one, gaps-weigh, strings-weigh, strings-texts, sets-few, same-counts, few-cut, journal-rising}
+use Rattle.herm_world.proofs.StraightEnd.{nodes-from, code-is, exact-carry, labels-along, steps-of, serials-one, gaps-weigh, strings-weigh, sets-few, same-counts, few-cut}
 
 held-one : (o : Option (Option Text)) → length (held o) ≤ 1
 held-one None = omega arith
@@ -51,10 +49,7 @@ sent-most (TheVariants.Set n bytes ∷ lines) values = omega (arith, sent-most l
 sent-most (TheVariants.Send n ∷ lines) values = omega (arith, held-one (slice_get values n), sent-most lines (slice_set values n None), length-append (held (slice_get values n)) (sent_from (slice_set values n None) lines))
 sent-most (TheVariants.Discard n ∷ lines) values = omega (arith, sent-most lines (slice_set values n None))
 
-abbrev Done : Modules → Limits → Text → List Line → List Text → System → Type 0
-Done modules limits arg lines strings final = Reports modules limits arg (report_of arg lines strings) final × Writes modules (journal_of arg strings) strings final
-
-strings-lines : (queue : List (ℕ × Cell Name)) (strings : List Text) → AreStrings queue strings → flat_map (λ c. line (bytes_of c)) (map (λ (q : ℕ × Cell Name). q.1) queue) ≡ flat_map line strings
+pub strings-lines : (queue : List (ℕ × Cell Name)) (strings : List Text) → AreStrings queue strings → flat_map (λ c. line (bytes_of c)) (map (λ (q : ℕ × Cell Name). q.1) queue) ≡ flat_map line strings
 strings-lines [] [] are = refl
 strings-lines [] (s ∷ strings) are = absurd are
 strings-lines (q ∷ queue) [] are = absurd are
@@ -73,7 +68,7 @@ none-steps c limits p g (suc zero) = refl
 none-steps c limits p g (suc (suc i)) = refl
 
 -- the numbers of the final state, where the ledger holds
-final-counts : (c : Code) (limits : Limits) (q p : Progress) (g : List Name) (lines : List Line) (strings : List Text) → HasLedger (final_system limits p g)
+pub final-counts : (c : Code) (limits : Limits) (q p : Progress) (g : List Name) (lines : List Line) (strings : List Text) → HasLedger (final_system limits p g)
     → Totals lines [] strings q p → q.serial ≡ 0 → q.steps ≡ 1 → q.actions ≡ 1 → length lines ≤ 1024 → length strings ≤ length lines
     → counts (modules_with c) (final_system limits p g) ≡ counts_of (TheVariants.Receive ∷ lines) strings
 final-counts c limits q p g lines strings ledger totals serial_first steps_first actions_first few fewer =
@@ -89,14 +84,25 @@ final-counts c limits q p g lines strings ledger totals serial_first steps_first
     steps acted (few-cut (made_in one s) (omega arith) ∙ made) (few-cut (held_in one s) (omega arith) ∙ held) (few-cut (queued_in one s) (omega arith) ∙ queued) (few-cut (finalised_in one s) (omega arith) ∙ gone)
 
 -- at most one string for each line is sent
-pub sent-few : (count : ℕ) (lines : List Line) (slots : Slots) → AllByRecursion (IsLine count) lines → FindsStrings (values_of slots) lines → length (sent_from (values_of slots) lines) ≤ length lines
+sent-few : (count : ℕ) (lines : List Line) (slots : Slots) → AllByRecursion (IsLine count) lines → FindsStrings (values_of slots) lines → length (sent_from (values_of slots) lines) ≤ length lines
 sent-few count lines slots well finds = sent-most lines (values_of slots)
 
 -- in a state of a run no cell is lost, and none is made twice
-keeps-once : (modules : Modules) (c : Code) (limits : Limits) (arg : Text) → slice_get modules.codes modules.main ≡ Some c → (s : System) (journal : List Entry) → IsRunTo modules (opening modules limits arg) journal s → HasLedger s × IsMadeOnce s
+pub keeps-once : (modules : Modules) (c : Code) (limits : Limits) (arg : Text) → slice_get modules.codes modules.main ≡ Some c → (s : System) (journal : List Entry) → IsRunTo modules (opening modules limits arg) journal s → HasLedger s × IsMadeOnce s
 keeps-once modules c limits arg main s journal along =
     let r : Run = record { system = s; journal = journal } in
     (runs-keep beginnings-keep local-steps-keep answers-keep modules limits arg c along.0 r main along.1, numbered-once modules s (runs-numbered modules limits arg c along.0 r main along.1))
+
+-- The lines behind the receive stand as nodes, the labels have what the values tell before each, each finds its string, and
+-- they are few.
+pub record AreSet (count : ℕ) (nodes : List Node) (label : ℕ → Fact → Bool) (limits : Limits) (arg : Text) (lines : List Line) : Type 0 where
+  pub here : HaveNodes nodes 0 (TheVariants.Receive ∷ lines)
+  pub begins : (f : Fact) → label 0 f ≡ tells (before_receive (empty_slots count)) f
+  pub labels : HaveLabels arg label 1 (received count nodes label limits arg) lines
+  pub well : AllByRecursion (IsLine count) lines
+  pub finds : FindsStrings (values_of (empty_slots count)) lines
+  pub few : length (TheVariants.Receive ∷ lines) ≤ 1024
+  pub enough : length (TheVariants.Receive ∷ lines) ≤ limits.steps
 
 module _ (count : ℕ) (nodes : List Node) (label : ℕ → Fact → Bool) (limits : Limits) (arg : Text) where
   abbrev modules : Modules
@@ -109,7 +115,7 @@ module _ (count : ℕ) (nodes : List Node) (label : ℕ → Fact → Bool) (limi
   Ends lines = (g : List Name) × (run modules ((acts 1 (port 1) ∷ map event_of lines) ++ acts 1 (port 1) ∷ []) (start modules limits arg)
       ≡ Some (record { system = final_system limits (after_lines lines first) g; journal = final_journal (after_lines lines first) }))
 
-  pub whole-run : (lines : List Line) → HaveNodes nodes 0 (TheVariants.Receive ∷ lines) → ((f : Fact) → label 0 f ≡ tells (before_receive (empty_slots count)) f) → HaveLabels arg label 1 first lines
+  whole-run : (lines : List Line) → HaveNodes nodes 0 (TheVariants.Receive ∷ lines) → ((f : Fact) → label 0 f ≡ tells (before_receive (empty_slots count)) f) → HaveLabels arg label 1 first lines
       → AllByRecursion (IsLine count) lines → FindsStrings (values_of (empty_slots count)) lines → suc (length lines) ≤ limits.steps → suc (length lines) < greatest_actions
       → length (after_lines lines first).slots ≡ count → (after_lines lines first).actions < greatest_actions → Ends lines
   whole-run lines here begins labels well finds enough few size fewer =
@@ -126,7 +132,7 @@ module _ (count : ℕ) (nodes : List Node) (label : ℕ → Fact → Bool) (limi
   first-clocked : IsClocked first.journal 1
   first-clocked = record { process = refl; place = λ n. either-below (nat_eq 1 n) 1 0 1 (omega arith) (omega arith) }
 
-  pub journal-is : (lines : List Line) → AllByRecursion (IsLine count) lines → FindsStrings (values_of (empty_slots count)) lines → final_journal (after_lines lines first) ≡ journal_of arg (sent_from (values_of (empty_slots count)) lines)
+  journal-is : (lines : List Line) → AllByRecursion (IsLine count) lines → FindsStrings (values_of (empty_slots count)) lines → final_journal (after_lines lines first) ≡ journal_of arg (sent_from (values_of (empty_slots count)) lines)
   journal-is lines well finds =
       let says = lines-journal count lines first 1 well finds first-clocked in
       let strings : List Text = sent_from (values_of (empty_slots count)) lines in
@@ -135,42 +141,33 @@ module _ (count : ℕ) (nodes : List Node) (label : ℕ → Fact → Bool) (limi
       ap (λ n. p.journal ++ closed_at n ∷ []) (next-clock p.journal (1 + length strings) 1 says.1 ∙ two)
       ∙ ap (λ (es : List Entry). es ++ closed_at (2 + length strings) ∷ []) says.0
 
-  -- lines that run, with exact labels, run to their final state
-  done : (lines : List Line) → HaveNodes nodes 0 (TheVariants.Receive ∷ lines) → ((f : Fact) → label 0 f ≡ tells (before_receive (empty_slots count)) f) → HaveLabels arg label 1 first lines
-      → AllByRecursion (IsLine count) lines → FindsStrings (values_of (empty_slots count)) lines → length (TheVariants.Receive ∷ lines) ≤ 1024 → length (TheVariants.Receive ∷ lines) ≤ limits.steps
-      → (final : System) × Done modules limits arg (TheVariants.Receive ∷ lines) (sent_from (values_of (empty_slots count)) lines) final
-  done lines here begins labels well finds small enough =
+  -- the events: the receive, each line, and the closing of the port
+  abbrev pub all_events : List Line → List Event
+  all_events lines = (acts 1 (port 1) ∷ map event_of lines) ++ acts 1 (port 1) ∷ []
+
+  -- the run of lines to a final state
+  pub record HasEnd (lines : List Line) : Type 0 where
+    pub names : List Name
+    pub is_run : run modules (all_events lines) (start modules limits arg)
+        ≡ Some (record { system = final_system limits (after_lines lines first) names; journal = journal_of arg (sent_from (values_of (empty_slots count)) lines) })
+    pub totals : Totals lines [] (sent_from (values_of (empty_slots count)) lines) first (after_lines lines first)
+    pub fewer : length (sent_from (values_of (empty_slots count)) lines) ≤ length lines
+
+  pub lines-end : (lines : List Line) → AreSet count nodes label limits arg lines → HasEnd lines
+  lines-end lines set =
       let p : Progress = after_lines lines first in
-      let strings : List Text = sent_from (values_of (empty_slots count)) lines in
-      let totals = lines-totals count lines first [] well finds tt in
-      let fewer : length strings ≤ length lines = sent-few count lines (empty_slots count) well finds in
-      let acted : p.actions < 16384 = omega (arith, totals.actions) in
-      let room : suc (length lines) < 16384 = omega arith in
-      let more : suc (length lines) ≤ limits.steps = omega arith in
-      let ends = whole-run lines here begins labels well finds more room (totals.size ∙ length-empty count) acted in
-      let events : List Event = (acts 1 (port 1) ∷ map event_of lines) ++ acts 1 (port 1) ∷ [] in
-      let final : System = final_system limits p ends.0 in
-      let is_run : run modules events (start modules limits arg) ≡ Some (record { system = final; journal = journal_of arg strings }) =
-      ends.1 ∙ ap (λ j. Some (record { system = final; journal = j })) (journal-is lines well finds) in
-      let ledger = runs-keep beginnings-keep local-steps-keep answers-keep in
-      let few : length lines ≤ 1024 = omega arith in
-      let reports : Reports modules limits arg (report_of arg (TheVariants.Receive ∷ lines) strings) final = record {
-        is_ordered = journal-rising arg strings;
-        is_stamped = run-stamped modules limits arg events (record { system = final; journal = journal_of arg strings }) is_run;
-        is_a_run = (events, is_run);
-        is_final = none-steps (code_with count nodes label) limits p ends.0;
-        has_ledger = λ s along. keeps-once modules (code_with count nodes label) limits arg refl s along.0 along.3;
-        ends = refl;
-        queues = ap (λ (ts : List Text). ts ∷ [] ∷ []) (strings-texts p.queue strings totals.queue);
-        counts = final-counts (code_with count nodes label) limits first p ends.0 lines strings
-            (ledger modules limits arg (code_with count nodes label) events (record { system = final; journal = journal_of arg strings }) refl is_run)
-            totals refl refl refl few fewer;
-      } in
-      let writes : Writes modules (journal_of arg strings) strings final = record {
-        status = refl;
-        text = λ names. append-nil (flat_map (λ c. line (bytes_of c)) (map (λ (q : ℕ × Cell Name). q.1) p.queue)) ∙ strings-lines p.queue strings totals.queue;
-      } in
-      (final, (reports, writes))
+      let totals = lines-totals count lines first [] set.well set.finds tt in
+      let fewer = sent-few count lines (empty_slots count) set.well set.finds in
+      let acted : p.actions < 16384 = omega (arith, totals.actions, set.few) in
+      let room : suc (length lines) < 16384 = omega (arith, set.few) in
+      let more : suc (length lines) ≤ limits.steps = omega (arith, set.enough) in
+      let ends = whole-run lines set.here set.begins set.labels set.well set.finds more room (totals.size ∙ length-empty count) acted in
+      record {
+        names = ends.0;
+        is_run = ends.1 ∙ ap (λ j. Some (record { system = final_system limits p ends.0; journal = j })) (journal-is lines set.well set.finds);
+        totals = totals;
+        fewer = fewer;
+      }
 
 -- the modules of the one process
 abbrev pub IsAlone : ℕ → List Line → Modules → Type 0
@@ -189,38 +186,47 @@ alone count lines types (c ∷ []) main t are m =
     )
 alone count lines types (c ∷ d ∷ codes) main t are m = absurd are.1
 
--- what lines end in, by the lines behind the receive
-rest-done : (count : ℕ) (lines : List Line) (arg : Text) (limits : Limits) (label : ℕ → Fact → Bool) → AllByRecursion (IsLine count) lines → FindsStrings (replicate count None) lines
+abbrev nodes_with : ℕ → List Line → List Node
+nodes_with count lines = process_nodes (process_of count (TheVariants.Receive ∷ lines))
+
+are-set : (count : ℕ) (lines : List Line) (arg : Text) (limits : Limits) (label : ℕ → Fact → Bool) → AllByRecursion (IsLine count) lines → FindsStrings (replicate count None) lines
     → length (TheVariants.Receive ∷ lines) ≤ 1024 → length (TheVariants.Receive ∷ lines) ≤ limits.steps → AreExact (flow_of predefined (process_of count (TheVariants.Receive ∷ lines))) label
-    → (final : System) × Done (modules_with (code_of predefined (process_of count (TheVariants.Receive ∷ lines)) label)) limits arg (TheVariants.Receive ∷ lines) (sent count (TheVariants.Receive ∷ lines)) final
-rest-done count lines arg limits label well finds small enough exact =
+    → AreSet count (nodes_with count lines) label limits arg lines
+are-set count lines arg limits label well finds small enough exact =
     let all : List Line = TheVariants.Receive ∷ lines in
-    let nodes : List Node = process_nodes (process_of count all) in
     let flow : Flow = flow_of predefined (process_of count all) in
     let is : flow ≡ straight all = flow_is count all (tt, steps-of count lines well) in
     let found = subst (λ v. FindsStrings v lines) (sym (values-empty count)) finds in
-    let p : Progress = received count nodes label limits arg in
-    let here = nodes-from nodes [] 0 all refl refl in
-    let begins : (f : Fact) → label 0 f ≡ tells (before_receive (empty_slots count)) f = λ f. exact-carry flow all [] TheVariants.Receive lines label f is exact refl ∙ sym (start-told count f) in
+    let p : Progress = received count (nodes_with count lines) label limits arg in
     let told : (f : Fact) → tells (variables_with arg (empty_slots count)) f ≡ carry f (held_at_start f) (TheVariants.Receive ∷ []) = λ f. receive-told arg (empty_slots count) f ∙ ap (hold f TheVariants.Receive) (start-told count f) in
-    let labels = labels-along arg count label flow all is exact lines (TheVariants.Receive ∷ []) p refl well found (length-empty count) told in
-    let result = done count nodes label limits arg lines here begins labels well found small enough in
-    subst (λ c. (final : System) × Done (modules_with c) limits arg all (sent count all) final) (sym (code-is count TheVariants.Receive lines label))
-    (subst (λ v. (final : System) × Done (modules_with (code_with count nodes label)) limits arg all (sent_from v lines) final) (values-empty count) result)
+    record {
+      here = nodes-from (nodes_with count lines) [] 0 all refl refl;
+      begins = λ f. exact-carry flow all [] TheVariants.Receive lines label f is exact refl ∙ sym (start-told count f);
+      labels = labels-along arg count label flow all is exact lines (TheVariants.Receive ∷ []) p refl well found (length-empty count) told;
+      well = well;
+      finds = found;
+      few = small;
+      enough = enough;
+    }
 
-by-body : (count : ℕ) (lines : List Line) (arg : Text) (limits : Limits) (label : ℕ → Fact → Bool) → IsRunnable count lines → IsBody count lines → length lines ≤ limits.steps → AreExact (flow_of predefined (process_of count lines)) label
-    → (final : System) × Done (modules_with (code_of predefined (process_of count lines) label)) limits arg lines (sent count lines) final
-by-body count [] arg limits label can body enough exact = absurd body
-by-body count (TheVariants.Receive ∷ lines) arg limits label can body enough exact = rest-done count lines arg limits label body can.finds can.few_lines enough exact
-by-body count (TheVariants.Set n bytes ∷ lines) arg limits label can body enough exact = absurd body
-by-body count (TheVariants.Send n ∷ lines) arg limits label can body enough exact = absurd body
-by-body count (TheVariants.Discard n ∷ lines) arg limits label can body enough exact = absurd body
+-- What holds of lines that are set, and of what they send, holds of each program that can be run, whatever modules are
+-- accepted for it.
+module _ (count : ℕ) (limits : Limits) (arg : Text) (IsSo : List Line → Modules → List Text → Type 0)
+    (step : (lines : List Line) (nodes : List Node) (label : ℕ → Fact → Bool) → AreSet count nodes label limits arg lines
+    → IsSo (TheVariants.Receive ∷ lines) (modules_with (code_with count nodes label)) (sent_from (values_of (empty_slots count)) lines)) where
+  by-body : (lines : List Line) (label : ℕ → Fact → Bool) → IsRunnable count lines → IsBody count lines → length lines ≤ limits.steps → AreExact (flow_of predefined (process_of count lines)) label
+      → IsSo lines (modules_with (code_of predefined (process_of count lines) label)) (sent count lines)
+  by-body [] label can body enough exact = absurd body
+  by-body (TheVariants.Receive ∷ lines) label can body enough exact =
+      let set = are-set count lines arg limits label body can.finds can.few_lines enough exact in
+      subst (λ c. IsSo (TheVariants.Receive ∷ lines) (modules_with c) (sent count (TheVariants.Receive ∷ lines))) (sym (code-is count TheVariants.Receive lines label))
+      (subst (λ v. IsSo (TheVariants.Receive ∷ lines) (modules_with (code_with count (nodes_with count lines) label)) (sent_from v lines)) (values-empty count)
+      (step lines (nodes_with count lines) label set))
+  by-body (TheVariants.Set n bytes ∷ lines) label can body enough exact = absurd body
+  by-body (TheVariants.Send n ∷ lines) label can body enough exact = absurd body
+  by-body (TheVariants.Discard n ∷ lines) label can body enough exact = absurd body
 
-pub straight-lines-run : StraightLinesRun
-straight-lines-run count lines arg can = record {
-  has_modules = lines-accepted count lines can;
-  is_run = λ limits modules enough accepted.
+  pub by-lines : (lines : List Line) (modules : Modules) → IsRunnable count lines → length lines ≤ limits.steps → AreAccepted (program_of count lines) modules → IsSo lines modules (sent count lines)
+  by-lines lines modules can enough accepted =
       let a = alone count lines modules.types modules.codes modules.main accepted.types accepted.codes accepted.main in
-      let d = subst (λ m. (final : System) × Done m limits arg lines (sent count lines) final) (sym a.1) (by-body count lines arg limits a.0 can can.body enough a.2) in
-      (d.0, d.1.0, d.1.1);
-}
+      subst (λ m. IsSo lines m (sent count lines)) (sym a.1) (by-body lines a.0 can can.body enough a.2)

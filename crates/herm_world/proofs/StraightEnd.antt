@@ -23,7 +23,7 @@ use Rattle.herm_compile.specs.declared.compiled.Line.TheVariants
 use Rattle.herm_world.specs.Lines.{FindsStrings}
 use Rattle.herm_world.specs.StraightRuns.{string_text, taken_at, sent_at, sent_all, closed_at, journal_of, sets}
 use Rattle.herm_world.proofs.Slots.{values_of}
-use Rattle.herm_world.proofs.Progress.{code_with, modules_with, node_for, Progress, after_line, event_of, variables_with, body_at, open_port, system_with, run_with, arrived}
+use Rattle.herm_world.proofs.Progress.{code_with, node_for, Progress, after_line, variables_with}
 use Rattle.herm_world.proofs.Progress
 use Rattle.herm_world.proofs.StraightRun.{next_of, HaveNodes, HaveLabels, able, behind-line}
 use Rattle.herm_world.proofs.StraightJournal.{AreStrings}

@@ -17,6 +17,8 @@ use Rattle.herm_compile.specs.declared.compiled.Line.{Line}
 use Rattle.herm_compile.specs.declared.compiled.Line.TheVariants
 use Rattle.herm_world.specs.Lines.{FindsStrings}
 use Rattle.herm_world.proofs.Slots.{size-strings, Made, Slots, string_cell, strings_of, empty_slots, slot_at, set_slot, values_of, part-slot, set-some, set-none, slot-found}
+use Rattle.herm_world.proofs.Apart.{not-zero, far-one, one-far}
+use Rattle.herm_world.proofs.NothingThere.{none-there}
 use Rattle.herm_world.proofs.Progress.{Progress, after_send, after_discard, after_line, variables_with}
 
 -- a path through the part at its first place
@@ -27,11 +29,6 @@ below (j ∷ q) o = cell_at (j ∷ q) (inside o)
 cell-below : (i : ℕ) (q : Path) (ps : Parts Name) → cell_at (i ∷ q) ps ≡ below q (part_at i ps)
 cell-below i [] ps = refl
 cell-below i (j ∷ q) ps = refl
-
-none-there : (p : Path) → cell_at {N = Name} p no_parts ≡ None
-none-there [] = refl
-none-there (i ∷ []) = refl
-none-there (i ∷ j ∷ q) = none-there (j ∷ q)
 
 none-below : (q : Path) → below q None ≡ None
 none-below [] = refl
@@ -194,15 +191,6 @@ discard-told arg slots k h (case p c) = case-told arg slots (set_slot k None slo
 
 -- the receive
 
-far-one : (n : ℕ) → nat_eq (suc (suc n)) 1 ≡ false
-far-one n = ne_eqb (suc (suc n)) 1 (λ e. omega arith)
-
-far-zero : (n : ℕ) → nat_eq (suc (suc n)) 0 ≡ false
-far-zero n = ne_eqb (suc (suc n)) 0 (λ e. omega arith)
-
-one-far : (n : ℕ) → nat_eq 1 (suc (suc n)) ≡ false
-one-far n = ne_eqb 1 (suc (suc n)) (λ e. omega arith)
-
 abbrev Receives : Text → Slots → Fact → Type 0
 Receives arg slots f = tells (variables_with arg slots) f ≡ hold f TheVariants.Receive (tells (before_receive slots) f)
 
@@ -215,10 +203,10 @@ receive-told arg slots (init (zero ∷ q)) = ap IsThere (cell-below 0 q (variabl
 receive-told arg slots (init (suc zero ∷ [])) = refl
 receive-told arg slots (init (suc zero ∷ zero ∷ [])) = refl
 receive-told arg slots (init (suc zero ∷ suc zero ∷ [])) = refl
-receive-told arg slots (init (suc zero ∷ suc (suc j) ∷ [])) = rw (far-zero j, far-one j) refl
+receive-told arg slots (init (suc zero ∷ suc (suc j) ∷ [])) = rw (not-zero (suc j), far-one j) refl
 receive-told arg slots (init (suc zero ∷ zero ∷ j ∷ q)) = ap IsThere (none-there (j ∷ q))
 receive-told arg slots (init (suc zero ∷ suc zero ∷ j ∷ q)) = ap IsThere (none-there (j ∷ q))
-receive-told arg slots (init (suc zero ∷ suc (suc i) ∷ j ∷ q)) = ap IsThere (none-there (j ∷ q)) ∙ (rw (far-zero i, far-one i) refl)
+receive-told arg slots (init (suc zero ∷ suc (suc i) ∷ j ∷ q)) = ap IsThere (none-there (j ∷ q)) ∙ (rw (not-zero (suc i), far-one i) refl)
 receive-told arg slots (init (suc (suc i) ∷ q)) =
     ap IsThere (cell-below (suc (suc i)) q (variables_with arg slots) ∙ sym (cell-below (suc (suc i)) q (before_receive slots)))
     ∙ (rw (far-one i, one-far i) refl)
@@ -237,7 +225,7 @@ start-told count (init (zero ∷ j ∷ q)) = ap IsThere (none-there (j ∷ q))
 start-told count (init (suc zero ∷ q)) = ap IsThere (cell-below 1 q (before_receive (empty_slots count)) ∙ none-below q)
 start-told count (init (suc (suc i) ∷ q)) =
     ap IsThere (cell-below (suc (suc i)) q (before_receive (empty_slots count)) ∙ ap (below q) (part-slot i (empty_slots count) ∙ ap (λ (o : Option Made). option_map string_cell o) (empty-slot i count)) ∙ none-below q)
-    ∙ (rw (far-zero i) refl)
+    ∙ (rw (not-zero (suc i)) refl)
 start-told count (case p c) = no-component_first (empty_slots count) p c
 
 -- a line that finds its string changes the facts as the statement table says

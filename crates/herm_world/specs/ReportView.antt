@@ -5,6 +5,7 @@ use Rattle.herm_journal.specs.Actions as actions
 use Rattle.herm_journal.specs.Actions.{values, raised, gone, make_port, make_process, put, take, close, answer, hear}
 use Rattle.herm_journal.specs.Entries as source
 use Rattle.herm_journal.specs.Entries.{Text, Record, port, reply_cell, book}
+use Rattle.herm_source.specs.Headline as headline
 use Rattle.herm_source.specs.Statuses as statuses
 use Rattle.herm_source.specs.Statuses.{Fate, ended_normally, ended_by, waits, spent_steps, spent_actions}
 use Rattle.herm_base.specs.declared.numbers.PortNo.{PortNo}
@@ -24,7 +25,6 @@ use Rattle.herm_world.specs.declared.report.ProcEnd.{ProcEnd}
 use Rattle.herm_world.specs.declared.report.ProcEnd.TheVariants.{Ended, Waiting, Stopped}
 use Rattle.herm_world.specs.declared.report.Counts.{Counts}
 use Rattle.herm_world.specs.declared.report.Report.{Report}
-use Rattle.herm_world.specs.StraightRuns.{RunReport}
 
 abbrev pub place_of : Place → source.Place
 place_of (Port p) = port p.number
@@ -89,11 +89,13 @@ numbers_of c = record {
   finalised = c.finalised;
 }
 
--- the report
-abbrev pub report_as : Report → RunReport
-report_as r = record {
+-- the report of a run that ends with this status and text
+abbrev pub report_as : Report → (status : ℕ) → (text : Text) → headline.Report
+report_as r status text = record {
   journal = entries_of r.journal.entries.items;
   ends = fates_of r.ends.items;
-  queues = map (λ (q : PortNo × List Text). q.1) r.queued.items;
+  queued = numbered_queues r.queued.items;
   counts = numbers_of r.counts;
+  status = status;
+  text = text;
 }

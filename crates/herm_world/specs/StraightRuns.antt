@@ -1,19 +1,17 @@
 -- The run of a straight-line program: its journal and its final state.
 -- Language reference, "Straight-line programs".
-use Rattle.std.specs.Prelude.{ℕ, suc, ◌≡◌, ◌+◌, ◌-◌, ◌≤◌, List, [], ◌∷◌, ◌++◌, length, map, replicate, None, Some, flat_map}
+use Rattle.std.specs.Prelude.{ℕ, suc, ◌≡◌, ◌+◌, ◌-◌, ◌≤◌, IsTrue, List, [], ◌∷◌, ◌++◌, length, map, replicate, None, Some, flat_map}
 use Rattle.herm_model.specs.Types.{predefined}
-use Rattle.herm_model.specs.Values.{a_text, Cell}
+use Rattle.herm_model.specs.Typed.{is_text}
+use Rattle.herm_model.specs.Values.{a_text}
 use Rattle.herm_model.specs.Texts.{text_of}
 use Rattle.herm_journal.specs.Actions.{put, take, close}
 use Rattle.herm_journal.specs.Entries.{Text, Entry, Place, Record, port}
 use Rattle.herm_source.specs.Evaluate.{scalar_value}
-use Rattle.herm_source.specs.Systems.{Program, Modules, System, opening, first_message, IsFinal, Event, Run, run, start}
-use Rattle.herm_journal.specs.Places.{Limits, Port, left_in}
-use Rattle.herm_journal.specs.Journals.{IsRising, IsStamped}
-use Rattle.herm_source.specs.Bodies.{Name}
-use Rattle.herm_source.specs.Ledger.{HasLedger, IsMadeOnce}
-use Rattle.herm_source.specs.Statuses.{Fate, Counts, counts, fates, ended_normally, status_of, text_of_run, plainly, line}
-use Rattle.herm_source.specs.Headline.{AreAccepted, IsRunTo, IsAlong}
+use Rattle.herm_source.specs.Systems.{Program, Modules, System, first_message, IsFinal, Event, Run, run, start}
+use Rattle.herm_journal.specs.Places.{Limits}
+use Rattle.herm_source.specs.Statuses.{Counts, ended_normally, plainly, line}
+use Rattle.herm_source.specs.Headline.{AreAccepted, Report, Describes}
 use Rattle.herm_compile.specs.Form.{IsBody}
 use Rattle.herm_compile.specs.Straight.{process_of}
 use Rattle.herm_compile.specs.declared.compiled.Line.{Line}
@@ -106,49 +104,25 @@ counts_from stepped acted made queued = record {
   finalised = made - 1 - queued;
 }
 
--- The texts that are queued at each port.
-abbrev pub queues_of : System → List (List Text)
-queues_of s = map (λ (p : Port (Cell Name)). map text_of (left_in p)) s.ports
-
--- What is reported of a run: its entries, what became of each process, the texts of each port's queue, and the numbers.
-pub record RunReport : Type 0 where
-  pub journal : List Entry
-  pub ends : List Fate
-  pub queues : List (List Text)
-  pub counts : Counts
-
--- The report of lines that send these strings. Language reference, "Straight-line programs".
-abbrev pub report_of : (arg : Text) → List Line → (strings : List Text) → RunReport
+-- The report of lines that send these strings: the text is a line for each.
+-- Language reference, "Straight-line programs".
+abbrev pub report_of : (arg : Text) → List Line → (strings : List Text) → Report
 report_of arg lines strings = record {
   journal = journal_of arg strings;
   ends = ended_normally ∷ [];
-  queues = map string_text strings ∷ [] ∷ [];
+  queued = (0, map string_text strings) ∷ (1, []) ∷ [];
   counts = counts_of lines strings;
+  status = 0;
+  text = flat_map line strings;
 }
 
--- The report is that of a run from the opening state to this final state. The journal's order and stamps are right, every
--- state along it has the ledger, and ends, queues and numbers are those of the final state.
-pub record Reports (modules : Modules) (limits : Limits) (arg : Text) (report : RunReport) (final : System) : Type 0 where
-  pub is_ordered : IsRising report.journal
-  pub is_stamped : IsStamped report.journal
-  pub is_a_run : IsRunTo modules (opening modules limits arg) report.journal final
-  pub is_final : IsFinal modules final
-  pub has_ledger : (s : System) → IsAlong modules (opening modules limits arg) report.journal s → HasLedger s × IsMadeOnce s
-  pub ends : fates modules final ≡ report.ends
-  pub queues : queues_of final ≡ report.queues
-  pub counts : counts modules final ≡ report.counts
-
--- What is written of the final state behind this journal, where nothing more is asked for: each string sent, as a line; the
--- status is 0. Language reference, "The text of a run".
-pub record Writes (modules : Modules) (journal : List Entry) (strings : List Text) (final : System) : Type 0 where
-  pub status : status_of modules final ≡ 0
-  pub text : (names : List Text) → text_of_run names plainly modules (record { system = final; journal = journal }) ≡ flat_map line strings
-
--- The report is that of a run of these lines, whatever modules are accepted for them, where the limit of steps is not less
--- than the lines; and there are such modules. Language reference, "Straight-line programs".
-pub record IsReported (count : ℕ) (lines : List Line) (arg : Text) (report : RunReport) : Type 0 where
+-- The report is that of a run of these lines, whatever modules are accepted for them, where the argument is a text and the
+-- limit of steps is not less than the lines, and nothing more is asked for; and there are such modules.
+-- Language reference, "Straight-line programs".
+pub record IsReported (count : ℕ) (lines : List Line) (arg : Text) (report : Report) : Type 0 where
   pub has_modules : (modules : Modules) × AreAccepted (program_of count lines) modules
-  pub is_run : (limits : Limits) (modules : Modules) → length lines ≤ limits.steps → AreAccepted (program_of count lines) modules → (final : System) × Reports modules limits arg report final × Writes modules report.journal (sent count lines) final
+  pub is_described : (limits : Limits) (modules : Modules) (names : List Text) → IsTrue (is_text arg) → length lines ≤ limits.steps → AreAccepted (program_of count lines) modules
+      → Describes modules limits arg names plainly report
 
 -- Lines that run have a run, with this report.
 abbrev pub StraightLinesRun : Type 0

@@ -12,5 +12,5 @@ pub use report::{
     Action, Counts, End, Entry, Journal, Place, ProcEnd, ReplyTrace, Report, Spent, Stamp,
 };
 pub use run::run_lines;
-pub use texts::{push_quoted, push_unquoted};
+pub use texts::push_unquoted;
 pub use trace::{Trace, Traces};

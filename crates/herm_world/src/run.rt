@@ -6,12 +6,12 @@ ghost use Rattle.herm_world.specs.Reports.{queue_of};
 ghost use Rattle.herm_world.specs.StringTexts.{quoted};
 ghost use Rattle.herm_world.specs.StraightRuns.{IsRunnable, IsReported, an_entry, taken_at, counts_from, sent_at, sent_all, closed_at, journal_of, sets, counts_of, start_text, string_text};
 ghost use Rattle.herm_world.specs.ReportView.{entries_of, fates_of, numbered_queues, numbers_of, report_as, place_of, record_of};
-ghost use Rattle.herm_source.specs.Statuses.{ended_normally};
+ghost use Rattle.herm_source.specs.Statuses.{ended_normally, line};
+ghost use Rattle.std.specs.List.{flat_map};
 ghost use Rattle.herm_journal.specs.Entries as source;
 
-use crate::{
-    Action, Counts, End, Entry, Journal, Place, ProcEnd, Report, Stamp, Trace, Traces, push_quoted,
-};
+use crate::texts::push_quoted;
+use crate::{Action, Counts, End, Entry, Journal, Place, ProcEnd, Report, Stamp, Trace, Traces};
 use herm_base::{PortNo, ProcNo, Word};
 use herm_compile::{Compiled, Line};
 use std::alloc::{AllocError, Global};
@@ -300,7 +300,8 @@ pub fn run_lines(alloc: Global, compiled: &Compiled, arg: &[u8]) -> Result<Repor
         ≡ (0, map quoted (sent (length compiled.now.names.items) compiled.now.lines.items)) ∷ (1, []) ∷ []) }
     ensures counts { IfOk result (λ r. numbers_of r.counts
         ≡ counts_of compiled.now.lines.items (sent (length compiled.now.names.items) compiled.now.lines.items)) }
-    ensures is_run { IfOk result (λ r. IsReported (length compiled.now.names.items) compiled.now.lines.items arg.now (report_as r)) }
+    ensures is_run { IfOk result (λ r. IsReported (length compiled.now.names.items) compiled.now.lines.items arg.now
+        (report_as r 0 (flat_map line (sent (length compiled.now.names.items) compiled.now.lines.items)))) }
 {
     let mut run = Run::begin(alloc, compiled.names.len())?;
     run.receive(alloc, arg)?;

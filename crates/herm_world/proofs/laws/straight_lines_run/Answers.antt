@@ -1,4 +1,4 @@
-use Rattle.herm_world.proofs.StraightDone.{straight-lines-run}
+use Rattle.herm_world.proofs.StraightReports.{straight-lines-run}
 use Rattle.herm_world.proofs.laws.straight_lines_run.Goals as goal
 
 pub returns : goal.returns

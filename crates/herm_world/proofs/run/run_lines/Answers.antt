@@ -1,11 +1,12 @@
-use Rattle.std.proofs.Common.{◌≡◌, ℕ, ◌+◌, List, [], ◌∷◌, map, length, drop, ap, subst, sym, ◌∙◌, arith}
+use Rattle.herm_source.specs.Statuses.{line}
+use Rattle.std.proofs.Common.{flat_map, ◌≡◌, ℕ, ◌+◌, List, [], ◌∷◌, map, length, drop, ap, subst, sym, ◌∙◌, arith}
 use Rattle.std.proofs.Math.ListN.{drop_of_length-le}
 use Rattle.herm_world.specs.Lines.{sent}
 use Rattle.herm_world.specs.StraightRuns.{journal_of, sets, counts_of, report_of, IsReported}
 use Rattle.herm_world.specs.StringTexts.{quoted}
 use Rattle.herm_world.specs.ReportView.{entries_of, fates_of, numbered_queues, numbers_of, report_as}
 use Rattle.herm_world.proofs.StraightEnd.{sets-few}
-use Rattle.herm_world.proofs.StraightDone.{straight-lines-run}
+use Rattle.herm_world.proofs.StraightReports.{straight-lines-run}
 use Rattle.herm_world.proofs.RunLines.{at-end, counts-are, report-is}
 use Rattle.herm_world.proofs.run.run_lines.Goals as goal
 
@@ -56,9 +57,9 @@ returns-clause-is_run c =
     ∙ ap (λ ls. counts_of ls (sent (length c.args.compiled.now.names.items) ls)) c.deref-line-items.ensures.value in
     let queued : numbered_queues c.in_ok-report.report.queued.items ≡ (0, map quoted (sent (length c.args.compiled.now.names.items) c.args.compiled.now.lines.items)) ∷ (1, []) ∷ [] =
     c.in_ok-report.ensures.queued ∙ ap (λ (ts : List (List ℕ)). (0, ts) ∷ (1, []) ∷ []) (ends.said ∙ ap (λ ls. map quoted (sent (length c.args.compiled.now.names.items) ls)) c.deref-line-items.ensures.value) in
-    let same : report_as c.in_ok-report.report ≡ report_of c.args.arg.now c.args.compiled.now.lines.items (sent (length c.args.compiled.now.names.items) c.args.compiled.now.lines.items) =
+    let same : report_as c.in_ok-report.report 0 (flat_map line (sent (length c.args.compiled.now.names.items) c.args.compiled.now.lines.items)) ≡ report_of c.args.arg.now c.args.compiled.now.lines.items (sent (length c.args.compiled.now.names.items) c.args.compiled.now.lines.items) =
     report-is c.args.arg.now c.args.compiled.now.lines.items (sent (length c.args.compiled.now.names.items) c.args.compiled.now.lines.items)
-    (entries_of c.in_ok-report.report.journal.entries.items) (fates_of c.in_ok-report.report.ends.items) c.in_ok-report.report.queued.items (numbers_of c.in_ok-report.report.counts)
+    (entries_of c.in_ok-report.report.journal.entries.items) (fates_of c.in_ok-report.report.ends.items) (numbered_queues c.in_ok-report.report.queued.items) (numbers_of c.in_ok-report.report.counts)
     journal c.in_ok-report.ensures.ends queued counts in
     subst (IsReported (length c.args.compiled.now.names.items) c.args.compiled.now.lines.items c.args.arg.now) (sym same)
     (straight-lines-run (length c.args.compiled.now.names.items) c.args.compiled.now.lines.items c.args.arg.now c.requires.runnable)
