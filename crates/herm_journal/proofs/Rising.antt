@@ -2,35 +2,15 @@
 use Rattle.std.proofs.Common.{◌≡◌, ℕ, List, [], ◌∷◌, Bool, true, false, cond, inl, inr, refl, sym, ap, subst, ◌∙◌, nat_eq, arith, filter}
 use Rattle.std.proofs.lemmas.Bool.Decides.{nat_tests}
 use Rattle.herm_model.specs.Lists.{IsIn}
+use Rattle.herm_model.proofs.Lists.{cons-tail, in-filter_from}
 use Rattle.herm_journal.specs.Entries.{Entry}
 use Rattle.herm_journal.specs.Journals.{IsBefore, IsRisingFrom, IsRising, part_of_process}
-
-abbrev is_empty : {X : Type 0} → List X → Bool
-is_empty [] = true
-is_empty (x ∷ xs) = false
-
-abbrev head_or : {X : Type 0} → X → List X → X
-head_or d [] = d
-head_or d (x ∷ xs) = x
-
-abbrev tail : {X : Type 0} → List X → List X
-tail [] = []
-tail (x ∷ xs) = xs
 
 pub same-true : (n : ℕ) → nat_eq n n ≡ true
 same-true n = grind (arith, nat_tests)
 
 kept-first : {X : Type 0} (test : X → Bool) (x : X) (xs : List X) → test x ≡ true → filter test (x ∷ xs) ≡ x ∷ filter test xs
 kept-first test x xs e = ap (λ b. cond b (x ∷ filter test xs) (filter test xs)) e
-
-in-choice : {X : Type 0} (x y : X) (ys zs : List X) (b : Bool) → (IsIn x zs → IsIn x ys) → IsIn x (cond b (y ∷ zs) zs) → IsIn x (y ∷ ys)
-in-choice x y ys zs true again (inl e) = inl e
-in-choice x y ys zs true again (inr i) = inr (again i)
-in-choice x y ys zs false again i = inr (again i)
-
-in-kept : {X : Type 0} (test : X → Bool) (x : X) (xs : List X) → IsIn x (filter test xs) → IsIn x xs
-in-kept test x [] h = h
-in-kept test x (y ∷ ys) h = in-choice x y ys (filter test ys) (test y) (in-kept test x ys) h
 
 before-next : (e f g : Entry) → IsBefore e f → IsBefore f g → IsBefore e g
 before-next e f g (inl a) (inl b) = inl (omega arith)
@@ -58,7 +38,7 @@ SameParts j k = (p : ℕ) → part_of_process p j ≡ part_of_process p k
 
 -- the first entry of one list is in the other
 first-in : (e : Entry) (es k : List Entry) → SameParts (e ∷ es) k → IsIn e k
-first-in e es k same = in-kept (λ (x : Entry). nat_eq x.process e.process) e k (subst (IsIn e) (sym (kept-first (λ (x : Entry). nat_eq x.process e.process) e es (same-true e.process)) ∙ same e.process) (inl refl))
+first-in e es k same = (in-filter_from (λ (x : Entry). nat_eq x.process e.process) e k (subst (IsIn e) (sym (kept-first (λ (x : Entry). nat_eq x.process e.process) e es (same-true e.process)) ∙ same e.process) (inl refl))).0
 
 first-same : (e f : Entry) (es fs : List Entry) → IsRisingFrom e es → IsRisingFrom f fs → IsIn e (f ∷ fs) → IsIn f (e ∷ es) → e ≡ f
 first-same e f es fs r s (inl p) h = p
@@ -66,7 +46,7 @@ first-same e f es fs r s (inr i) (inl p) = sym p
 first-same e f es fs r s (inr i) (inr j) = not-both e f (before-all e es r f j) (before-all f fs s e i)
 
 tail-same : (p : ℕ) (e : Entry) (js ks : List Entry) (b : Bool) → cond b (e ∷ js) js ≡ cond b (e ∷ ks) ks → js ≡ ks
-tail-same p e js ks true h = ap tail h
+tail-same p e js ks true h = cons-tail h
 tail-same p e js ks false h = h
 
 rest-same : (e : Entry) (es fs : List Entry) → SameParts (e ∷ es) (e ∷ fs) → SameParts es fs

@@ -5,8 +5,7 @@ use Rattle.herm_model.specs.Paths.{Fact, init}
 use Rattle.herm_model.specs.Types.{TypeTable, is_within_depth, greatest_depth, full_parts, steps}
 use Rattle.herm_model.specs.Facts.{facts_to, prefixes, with_prefixes, IsClosed, full_facts, message_facts}
 use Rattle.herm_model.proofs.Lists.{in-map, in-flat_map, in-flat_map_from}
-use Rattle.herm_model.proofs.Steps.{full-named, steps-listed}
-use Rattle.herm_model.proofs.FullFacts.{within-known}
+use Rattle.herm_model.proofs.Steps.{full-named, steps-listed, within-known}
 use Rattle.herm_model.proofs.Prefixes.{with-closed, full-closed}
 use Rattle.herm_model.proofs.ClosedFacts.{once-IsIn, IsIn-once}
 

@@ -10,24 +10,8 @@ use Rattle.herm_model.specs.Outcomes.{Outcome, ok, is_true, is_false, turn, done
 use Rattle.herm_model.specs.Nodes.{Node, process_nodes, Exit, exits}
 use Rattle.herm_model.specs.Control.{Edge, edge, Point, point, flow_of}
 use Rattle.herm_model.specs.FlowLaws.{Rise, EdgesDiffer}
-use Rattle.herm_model.proofs.Lists.{in-map_from, in-append_cases}
+use Rattle.herm_model.proofs.Lists.{in-map_from, joined-Differ, mapped-Differ}
 use Rattle.herm_model.proofs.NodeExits.{exits-outcomes, node-arms}
-
--- a list in front of another, with no element of it
-joined-Differ : {X : Type 0} (xs ys : List X) → Differ xs → Differ ys → ((x : X) → IsIn x xs → IsIn x ys → ⊥) → Differ (xs ++ ys)
-joined-Differ [] ys h k apart = k
-joined-Differ {X} (x ∷ xs) ys h k apart = (λ member. by (in-append_cases x xs ys member), joined-Differ xs ys h.1 k (λ y a b. apart y (inr a) b))
-  where
-    by : IsIn x xs ⊎ IsIn x ys → ⊥
-    by (inl a) = h.0 a
-    by (inr b) = apart x (inl refl) b
-
-mapped-Differ : {X Y : Type 0} (f : X → Y) → ((a b : X) → f a ≡ f b → a ≡ b) → (xs : List X) → Differ xs → Differ (map f xs)
-mapped-Differ f injective [] h = tt
-mapped-Differ {X} f injective (x ∷ xs) h = (λ member. by (in-map_from f (f x) xs member), mapped-Differ f injective xs h.1)
-  where
-    by : (y : X) × IsIn y xs × (f x ≡ f y) → ⊥
-    by found = h.0 (subst (λ z. IsIn z xs) (sym (injective x found.0 found.2)) found.1)
 
 -- a number's place keeps a list rising, and every number of it is the new one or was there
 with_number-IsIn : (n m : ℕ) (ns : List ℕ) → IsIn m (with_number n ns) → (m ≡ n) ⊎ IsIn m ns

@@ -1,9 +1,9 @@
 -- No path of a type is listed twice.
-use Rattle.std.proofs.Common.{◌⊎◌, inl, inr, ℕ, zero, suc, ◌≤◌, List, [], ◌∷◌, ◌++◌, map, flat_map, Option, Some, None, slice_get, refl, sym, subst, arith}
+use Rattle.std.proofs.Common.{◌⊎◌, inl, inr, ℕ, zero, suc, ◌≤◌, List, [], ◌∷◌, map, flat_map, Option, Some, None, slice_get, sym, subst, arith}
 use Rattle.herm_model.specs.Lists.{IsIn, numbered, with_some}
 use Rattle.herm_model.specs.Statements.{Differ}
 use Rattle.herm_model.specs.Types.{Mode, by_in, by_inout, by_out, Parameter, Shape, fields, cases, callmessage, TypeTable, filled, if_filled, full_parts, held_parts, all_parts, steps_within}
-use Rattle.herm_model.proofs.Lists.{in-append_cases, in-map_from, in-flat_map_from, cons-not_nil, cons-head, cons-tail}
+use Rattle.herm_model.proofs.Lists.{in-append_cases, in-map_from, in-flat_map_from, cons-not_nil, cons-head, cons-tail, joined-Differ, mapped-Differ}
 
 -- the places of parts rise from a first one on
 abbrev RiseFrom : ℕ → List (ℕ × ℕ) → Type 0
@@ -46,21 +46,6 @@ all-rise (cases ts) = numbered-rise 0 ts
 all-rise (callmessage ps es) = numbered-rise 0 (map (λ p. p.content) ps)
 all-rise s = tt
 
-differ-map : (i : ℕ) (xs : List (List ℕ)) → Differ xs → Differ (map (i ∷◌) xs)
-differ-map i [] d = d
-differ-map i (x ∷ xs) d = ((λ h. let r = in-map_from (i ∷◌) (i ∷ x) xs h in d.0 (subst (λ y. IsIn y xs) (sym (cons-tail r.2)) r.1)), differ-map i xs d.1)
-
-differ-append : (xs ys : List (List ℕ)) → Differ xs → Differ ys → ((x : List ℕ) → IsIn x xs → IsIn x ys → ⊥) → Differ (xs ++ ys)
-differ-append [] ys d e apart = e
-differ-append (x ∷ xs) ys d e apart = (not-there, differ-append xs ys d.1 e (λ y i j. apart y (inr i) j))
-  where
-    by : IsIn x xs ⊎ IsIn x ys → ⊥
-    by (inl a) = d.0 a
-    by (inr b) = apart x (inl refl) b
-
-    not-there : IsIn x (xs ++ ys) → ⊥
-    not-there h = by (in-append_cases x xs ys h)
-
 module _ (next : ℕ → List (List ℕ)) (each : (u : ℕ) → Differ (next u)) where
   abbrev all_below : List (ℕ × ℕ) → List (List ℕ)
   all_below parts = flat_map (λ part. map (part.0 ∷◌) (next part.1)) parts
@@ -76,7 +61,7 @@ module _ (next : ℕ → List (List ℕ)) (each : (u : ℕ) → Differ (next u))
 
   differ-below : (k : ℕ) (parts : List (ℕ × ℕ)) → RiseFrom k parts → Differ (all_below parts)
   differ-below k [] r = tt
-  differ-below k (x ∷ xs) r = differ-append (map (x.0 ∷◌) (next x.1)) (all_below xs) (differ-map x.0 (next x.1) (each x.1)) (differ-below (suc x.0) xs r.1) apart
+  differ-below k (x ∷ xs) r = joined-Differ (map (x.0 ∷◌) (next x.1)) (all_below xs) (mapped-Differ (x.0 ∷◌) (λ a b e. cons-tail e) (next x.1) (each x.1)) (differ-below (suc x.0) xs r.1) apart
     where
       apart : (y : List ℕ) → IsIn y (map (x.0 ∷◌) (next x.1)) → IsIn y (all_below xs) → ⊥
       apart y a b =

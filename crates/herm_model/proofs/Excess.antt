@@ -5,7 +5,7 @@ use Rattle.herm_model.specs.Paths.{Path}
 use Rattle.herm_model.specs.Types.{Shape, TypeTable, named_types, is_within_depth, held_parts, Leads}
 use Rattle.herm_model.specs.Finalising.{excess_from}
 use Rattle.herm_model.proofs.Lists.{in-flat_map, in-flat_map_from, every-in, not_true, cons-head, cons-tail, cons-not_nil}
-use Rattle.herm_model.proofs.Steps.{held-named}
+use Rattle.herm_model.proofs.Steps.{held-named, within-known}
 
 module _ (left : Path → Bool) (table : TypeTable) where
   -- a path that leads to what is left, with nothing left before it
@@ -31,10 +31,6 @@ module _ (left : Path → Bool) (table : TypeTable) where
   nil-not_longer [] i more e = cons-not_nil i more (sym e)
   nil-not_longer (k ∷ r) i more e = cons-not_nil k (r ++ i ∷ more) (sym e)
 
-  is_there : (o : Option Shape) (test : Shape → Bool) → IsTrue (with_some false test o) → IsTrue (is_some o)
-  is_there None test w = not_true w
-  is_there (Some s) test w = refl
-
   here-top : (p : Path) (t : ℕ) (x : Path) → IsTrue (is_some (slice_get table t)) → IsTrue (left p) → IsIn x (p ∷ []) → Top p t x
   here-top p t x s l (inl e) = record { steps = []; whole = e ∙ sym (append-nil p); leads = s; is_left = subst (λ q. IsTrue (left q)) (sym e) l; first = λ r i more e'. nil-not_longer r i more e' }
   here-top p t x s l (inr h) = absurd h
@@ -52,7 +48,7 @@ module _ (left : Path → Bool) (table : TypeTable) where
   excess-top (suc n) p t x w h = by (left p) refl h (parts-top n p (slice_get table t) x (λ i u k. excess-top n (p ++ i ∷ []) u x (within-part n (slice_get table t) i u w k)))
     where
       by : (b : Bool) → left p ≡ b → IsIn x (cond b (p ∷ []) (parts_excess n p (slice_get table t))) → (IsIn x (parts_excess n p (slice_get table t)) → (part : ℕ × ℕ) × IsIn part (list_of held_parts (slice_get table t)) × Top (p ++ part.0 ∷ []) part.1 x) → Top p t x
-      by true e k again = here-top p t x (is_there (slice_get table t) (λ s. every (is_within_depth n table) (named_types s)) w) e k
+      by true e k again = here-top p t x (within-known table (suc n) t w) e k
       by false e k again = let r = again k in down p t r.0.0 r.0.1 x r.1 e r.2
 
   part-excess : (n : ℕ) (p : Path) (o : Option Shape) (i u : ℕ) (x : Path) → IsIn (i, u) (list_of held_parts o) → IsIn x (excess_from left n table (p ++ i ∷ []) u) → IsIn x (parts_excess n p o)

@@ -28,6 +28,9 @@ numbered-IsIn (y ∷ ys) k (suc i) x h =
     let place : suc k + i ≡ k + suc i = omega arith in
     inr (subst (λ n. IsIn (n, x) (numbered (suc k) ys)) place (numbered-IsIn ys (suc k) i x h))
 
+pub at-numbered : {X : Type 0} (xs : List X) (i : ℕ) (x : X) → slice_get xs i ≡ Some x → IsIn (i, x) (numbered 0 xs)
+at-numbered xs i x h = let start : 0 + i ≡ i = omega arith in subst (λ n. IsIn (n, x) (numbered 0 xs)) start (numbered-IsIn xs 0 i x h)
+
 -- an element at a place is in the list
 pub got-IsIn : {X : Type 0} (xs : List X) (i : ℕ) (x : X) → slice_get xs i ≡ Some x → IsIn x xs
 got-IsIn [] i x h = cc

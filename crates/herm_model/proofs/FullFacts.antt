@@ -3,16 +3,13 @@ use Rattle.std.proofs.Common.{◌≡◌, inl, inr, ℕ, zero, suc, ◌+◌, List
 use Rattle.herm_model.specs.Lists.{IsIn, numbered, every, with_some, list_of}
 use Rattle.herm_model.specs.Types.{Mode, by_in, by_inout, by_out, Parameter, Raised, Shape, fields, callmessage, TypeTable, filled, if_filled, full_parts, Leads, is_within_depth, named_types}
 use Rattle.herm_model.specs.Values.{Kind, a_record, a_callmessage, Cell, cell, Parts, no_parts, gap, part, part_at, opens, inside, has_value}
-use Rattle.herm_model.specs.Typed.{Degree, whole, partly, Content, a_value, nothing, Layout, exactly, unfit, parameter_content, layout, MayBeEmpty, IsOf, Fits}
-use Rattle.herm_model.proofs.Lists.{not_true, and-both, every-in}
-use Rattle.herm_model.proofs.Steps.{full-named}
-use Rattle.herm_model.proofs.Prefixes.{full-part}
-
-some-same : {X : Type 0} (x y : X) → Some x ≡ Some y → x ≡ y
-some-same x y e = ap (with_some x (λ z. z)) e
-
-none-some : {A X : Type 0} (x : X) → None ≡ Some x → A
-none-some x e = absurd (true≢false (ap is_none e))
+use Rattle.herm_model.specs.Typed.{Degree, whole, partly, Content, a_value, nothing, Layout, exactly, parameter_content, MayBeEmpty, IsOf, Fits}
+use Rattle.herm_model.proofs.Lists.{not_true, and-both, every-in, slice_get-map}
+use Rattle.herm_model.proofs.Options.{some-injective, none-not_some}
+use Rattle.herm_model.proofs.Steps.{full-named, LeadsOf, within-known}
+use Rattle.herm_model.proofs.Prefixes.{full-part, numbered-get}
+use Rattle.herm_model.proofs.NothingThere.{nothing-there}
+use Rattle.herm_model.proofs.Typing.{layout_of}
 
 abbrev field_contents : List ℕ → List Content
 field_contents ts = map (a_value whole) ts
@@ -23,11 +20,11 @@ parameter_contents ps = map (λ p. parameter_content whole p.mode p.content) ps
 abbrev partly_parameters : List Parameter → Layout
 partly_parameters qs = exactly (map (λ q. parameter_content partly q.mode q.content) qs)
 
-abbrev type_of : Content → ℕ
+abbrev pub type_of : Content → ℕ
 type_of (a_value d u) = u
 type_of nothing = 0
 
-abbrev degree_of : Content → Degree
+abbrev pub degree_of : Content → Degree
 degree_of (a_value d u) = d
 degree_of nothing = whole
 
@@ -46,18 +43,16 @@ first : (k u v : ℕ) → v ≡ u → ◌≡◌ {A = ℕ × ℕ} (k + 0, u) (k, 
 first k u v e = let z : k + 0 ≡ k = omega arith in λ i. (z i, sym e i)
 
 contents-fields : (k j u : ℕ) (d : Degree) (ts : List ℕ) → slice_get (field_contents ts) j ≡ Some (a_value d u) → Asks (numbered k ts) (k + j) u d
-contents-fields k j u d [] e = none-some _ e
-contents-fields k zero u d (t ∷ ts) e = let z = some-same _ _ e in (inl (first k u t (ap type_of z)), sym (ap degree_of z))
+contents-fields k j u d [] e = none-not_some e
+contents-fields k zero u d (t ∷ ts) e = let z = some-injective e in (inl (first k u t (ap type_of z)), sym (ap degree_of z))
 contents-fields k (suc j) u d (t ∷ ts) e = let r = contents-fields (suc k) j u d ts e in (inr (shifted k j u (numbered (suc k) ts) r.0), r.1)
 
 fields-contents : (i k u : ℕ) (ts : List ℕ) → IsIn (i, u) (numbered k ts) → (j : ℕ) × (i ≡ k + j) × (slice_get (field_contents ts) j ≡ Some (a_value whole u))
-fields-contents i k u [] h = absurd h
-fields-contents i k u (t ∷ ts) (inl e) = (0, ap (λ (x : ℕ × ℕ). x.0) e ∙ omega arith, ap (λ (x : ℕ × ℕ). Some (a_value whole x.1)) (sym e))
-fields-contents i k u (t ∷ ts) (inr h) = let r = fields-contents i (suc k) u ts h in (suc r.0, omega (arith, r.1), r.2)
+fields-contents i k u ts h = let r = numbered-get i u k ts h in (r.0, r.1, slice_get-map (a_value whole) ts r.0 ∙ ap (option_map (a_value whole)) r.2)
 
 contents-parameters : (k j u : ℕ) (d : Degree) (ps : List Parameter) → slice_get (parameter_contents ps) j ≡ Some (a_value d u) → Asks (filled k ps) (k + j) u d
-contents-parameters k j u d [] e = none-some _ e
-contents-parameters k zero u d (p ∷ ps) e = by p.mode (some-same _ _ e)
+contents-parameters k j u d [] e = none-not_some e
+contents-parameters k zero u d (p ∷ ps) e = by p.mode (some-injective e)
   where
     by : (m : Mode) → parameter_content whole m p.content ≡ a_value d u → Asks (if_filled m (k, p.content) (filled (suc k) ps)) (k + 0) u d
     by by_in z = (inl (first k u p.content (ap type_of z)), sym (ap degree_of z))
@@ -88,11 +83,7 @@ parameters-contents i k u (p ∷ ps) h = by p.mode h (parameters-contents i (suc
     by by_out x again = further by_out (again x)
 
 has-no : {A : Type 0} (N : Type 0) (j : ℕ) (q : List ℕ) → IsTrue (has_value {N = N} no_parts (j ∷ q)) → A
-has-no N j [] h = not_true h
-has-no N j (k ∷ q) h = has-no N k q h
-
-abbrev layout_of : Degree → Option Shape → Kind → Layout
-layout_of d o k = with_some unfit (λ s. layout d s k) o
+has-no N j q h = not_true (sym (nothing-there N (j ∷ q)) ∙ h)
 
 module _ {N : Type 0} (table : TypeTable) where
   abbrev Held : Cell N → Content → Type 0
@@ -100,24 +91,24 @@ module _ {N : Type 0} (table : TypeTable) where
   Held c nothing = ⊥
 
   -- what the layout says at a place, and what is there
-  at-fits : (xs : List Content) (ps : Parts N) (j : ℕ) (c : Cell N) → Fits table (exactly xs) ps → part_at j ps ≡ Some c → (d : Degree) × (u : ℕ) × (slice_get xs j ≡ Some (a_value d u)) × IsOf d table u c
-  at-fits [] no_parts j c h e = none-some _ e
+  pub at-fits : (xs : List Content) (ps : Parts N) (j : ℕ) (c : Cell N) → Fits table (exactly xs) ps → part_at j ps ≡ Some c → (d : Degree) × (u : ℕ) × (slice_get xs j ≡ Some (a_value d u)) × IsOf d table u c
+  at-fits [] no_parts j c h e = none-not_some e
   at-fits [] (gap ps) j c h e = absurd h
   at-fits [] (part a ps) j c h e = absurd h
   at-fits (x ∷ xs) no_parts j c h e = absurd h
-  at-fits (x ∷ xs) (gap ps) zero c h e = none-some _ e
+  at-fits (x ∷ xs) (gap ps) zero c h e = none-not_some e
   at-fits (x ∷ xs) (gap ps) (suc j) c h e = at-fits xs ps j c h.1 e
   at-fits (nothing ∷ xs) (part a ps) j c h e = absurd h
-  at-fits (a_value d u ∷ xs) (part a ps) zero c h e = (d, u, refl, subst (λ b. IsOf d table u b) (some-same _ _ e) h.0)
+  at-fits (a_value d u ∷ xs) (part a ps) zero c h e = (d, u, refl, subst (λ b. IsOf d table u b) (some-injective e) h.0)
   at-fits (a_value d u ∷ xs) (part a ps) (suc j) c h e = at-fits xs ps j c h.1 e
 
   fits-at : (xs : List Content) (ps : Parts N) (j u : ℕ) → Fits table (exactly xs) ps → slice_get xs j ≡ Some (a_value whole u) → (c : Cell N) × (part_at j ps ≡ Some c) × IsOf whole table u c
-  fits-at [] ps j u h e = none-some _ e
+  fits-at [] ps j u h e = none-not_some e
   fits-at (x ∷ xs) no_parts j u h e = absurd h
-  fits-at (x ∷ xs) (gap ps) zero u h e = absurd (subst MayBeEmpty (some-same _ _ e) h.0)
+  fits-at (x ∷ xs) (gap ps) zero u h e = absurd (subst MayBeEmpty (some-injective e) h.0)
   fits-at (x ∷ xs) (gap ps) (suc j) u h e = fits-at xs ps j u h.1 e
   fits-at (nothing ∷ xs) (part a ps) j u h e = absurd h
-  fits-at (a_value d v ∷ xs) (part a ps) zero u h e = (a, refl, subst (Held a) (some-same _ _ e) h.0)
+  fits-at (a_value d v ∷ xs) (part a ps) zero u h e = (a, refl, subst (Held a) (some-injective e) h.0)
   fits-at (a_value d v ∷ xs) (part a ps) (suc j) u h e = fits-at xs ps j u h.1 e
 
   first-there : (ps : Parts N) (j : ℕ) (q : List ℕ) → IsTrue (has_value ps (j ∷ q)) → (d : Cell N) × (part_at j ps ≡ Some d)
@@ -156,44 +147,34 @@ module _ {N : Type 0} (table : TypeTable) where
   type-there None k ps h = absurd h
   type-there (Some s) k ps h = refl
 
-  pub value-leads : (q : List ℕ) (i t : ℕ) (ps : Parts N) (c : Cell N) → part_at i ps ≡ Some c → IsOf whole table t c → IsTrue (has_value ps (i ∷ q)) → Leads full_parts table t q
+  value-leads : (q : List ℕ) (i t : ℕ) (ps : Parts N) (c : Cell N) → part_at i ps ≡ Some c → IsOf whole table t c → IsTrue (has_value ps (i ∷ q)) → Leads full_parts table t q
   value-leads [] i t ps (cell n k qs) e h v = type-there (slice_get table t) k qs h.0
   value-leads (j ∷ q) i t ps (cell n k qs) e h v =
       let w : IsTrue (has_value (cond (opens k) qs no_parts) (j ∷ q)) = subst (λ o. IsTrue (has_value (inside o) (j ∷ q))) e v in
       let s = step-down (slice_get table t) k qs j q h.0 w in (s.1, s.3, value-leads q j s.1 (cond (opens k) qs no_parts) s.0 s.2 s.4 w)
 
-  pub leads-value : (q : List ℕ) (i t : ℕ) (ps : Parts N) (c : Cell N) → part_at i ps ≡ Some c → IsOf whole table t c → Leads full_parts table t q → IsTrue (has_value ps (i ∷ q))
+  leads-value : (q : List ℕ) (i t : ℕ) (ps : Parts N) (c : Cell N) → part_at i ps ≡ Some c → IsOf whole table t c → Leads full_parts table t q → IsTrue (has_value ps (i ∷ q))
   leads-value [] i t ps c e h l = ap is_some e
   leads-value (j ∷ q) i t ps (cell n k qs) e h l =
       let s = step-to (slice_get table t) k qs j l.0 h.0 l.1 in
       subst (λ o. IsTrue (has_value (inside o) (j ∷ q))) (sym e) (leads-value q j l.0 (cond (opens k) qs no_parts) s.0 s.1 s.2 l.2)
 
+  -- the same of a value alone
+  pub full-leads : (q : List ℕ) (t : ℕ) (c : Cell N) → IsOf whole table t c → IsTrue (has_value (part c no_parts) (0 ∷ q)) → Leads full_parts table t q
+  full-leads q t c h v = value-leads q 0 t (part c no_parts) c refl h v
+
+  pub leads-full : (q : List ℕ) (t : ℕ) (c : Cell N) → IsOf whole table t c → Leads full_parts table t q → IsTrue (has_value (part c no_parts) (0 ∷ q))
+  leads-full q t c h l = leads-value q 0 t (part c no_parts) c refl h l
+
 -- the other way: a value of the type with values exactly there is full
-slice_get-map : {X Y : Type 0} (f : X → Y) (xs : List X) (j : ℕ) → slice_get (map f xs) j ≡ option_map f (slice_get xs j)
-slice_get-map f [] j = refl
-slice_get-map f (x ∷ xs) zero = refl
-slice_get-map f (x ∷ xs) (suc j) = slice_get-map f xs j
-
 module _ (table : TypeTable) where
-  abbrev LeadsOf : Option Shape → List ℕ → Type 0
-  LeadsOf o [] = IsTrue (is_some o)
-  LeadsOf o (i ∷ q) = (u : ℕ) × IsIn (i, u) (list_of full_parts o) × Leads full_parts table u q
-
   one-type : (o : Option Shape) (j u v : ℕ) → IsIn (j, u) (list_of full_parts o) → IsIn (j, v) (list_of full_parts o) → u ≡ v
-  one-type o j u v h g = some-same u v (sym (full-part o j u h) ∙ full-part o j v g)
-
-  there : (o : Option Shape) (test : Shape → Bool) → IsTrue (with_some false test o) → IsTrue (is_some o)
-  there None test w = not_true w
-  there (Some s) test w = refl
-
-  pub within-known : (n u : ℕ) → IsTrue (is_within_depth n table u) → IsTrue (is_some (slice_get table u))
-  within-known zero u w = not_true w
-  within-known (suc n) u w = there (slice_get table u) (λ s. every (is_within_depth n table) (named_types s)) w
+  one-type o j u v h g = some-injective (sym (full-part o j u h) ∙ full-part o j v g)
 
   module _ {N : Type 0} where
     -- below these parts there are values exactly where full asks for them
     abbrev ExactIn : Option Shape → Parts N → Type 0
-    ExactIn o ps = (i : ℕ) (q : List ℕ) → (IsTrue (has_value ps (i ∷ q)) → LeadsOf o (i ∷ q)) × (LeadsOf o (i ∷ q) → IsTrue (has_value ps (i ∷ q)))
+    ExactIn o ps = (i : ℕ) (q : List ℕ) → (IsTrue (has_value ps (i ∷ q)) → LeadsOf full_parts table o (i ∷ q)) × (LeadsOf full_parts table o (i ∷ q) → IsTrue (has_value ps (i ∷ q)))
 
     abbrev ExactAt : ℕ → Cell N → Type 0
     ExactAt t c = (i : ℕ) (q : List ℕ) → (IsTrue (has_value (inside (Some c)) (i ∷ q)) → Leads full_parts table t (i ∷ q)) × (Leads full_parts table t (i ∷ q) → IsTrue (has_value (inside (Some c)) (i ∷ q)))
@@ -214,7 +195,7 @@ module _ (table : TypeTable) where
     Demand by_out o u = IsTrue (is_none o)
 
     exact-at : (o : Option Shape) (ps : Parts N) (n j u : ℕ) → ExactIn o ps → IsIn (j, u) (list_of full_parts o) → IsTrue (is_within_depth n table u) → Exact (part_at j ps) u
-    exact-at o ps n j u E h w = ((E j []).1 (u, h, within-known n u w), λ d e. part-exact o ps j u d E h e)
+    exact-at o ps n j u E h w = ((E j []).1 (u, h, within-known table n u w), λ d e. part-exact o ps j u d E h e)
 
     field-demand : (ts : List ℕ) (ps : Parts N) (n j u : ℕ) → ExactIn (Some (fields ts)) ps → IsTrue (every (is_within_depth n table) ts) → slice_get ts j ≡ Some u → Exact (part_at j ps) u
     field-demand ts ps n j u E w e =
@@ -236,7 +217,7 @@ module _ (table : TypeTable) where
         not-asked f (Some d) g =
             let l = (E j []).0 (ap is_some g) in
             let r = parameters-contents j 0 l.0 qs l.1 in
-            absurd (true≢false (sym (ap is_value (some-same nothing (a_value whole l.0) (sym f ∙ ap (slice_get (parameter_contents qs)) (r.1 ∙ zero-add r.0) ∙ r.2)))))
+            absurd (true≢false (sym (ap is_value (some-injective (sym f ∙ ap (slice_get (parameter_contents qs)) (r.1 ∙ zero-add r.0) ∙ r.2)))))
 
         by : (m : Mode) → slice_get (parameter_contents qs) j ≡ Some (parameter_content whole m p.content) → Demand m (part_at j ps) p.content
         by by_in f = filled-demand f

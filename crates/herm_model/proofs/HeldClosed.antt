@@ -1,18 +1,20 @@
 -- What is held on a control path is closed, and so is what holds at a statement.
-use Rattle.std.proofs.Common.{◌≡◌, ℕ, List, [], ◌∷◌, ◌++◌, Bool, true, false, cond, ◌||◌, nat_eq, Option, Some, None, slice_get, option_and_then, refl, sym, ap, ◌∙◌, subst, true≢false}
+use Rattle.std.proofs.Common.{◌≡◌, ℕ, List, [], ◌∷◌, ◌++◌, Bool, true, false, cond, ◌||◌, Option, Some, None, slice_get, option_and_then, refl, sym, ap, ◌∙◌, subst, true≢false}
 use Rattle.herm_model.specs.Lists.{IsIn, some_of}
 use Rattle.herm_model.specs.Paths.{Path, Fact, init, path_of, same_fact, is_at_or_below}
 use Rattle.herm_model.specs.Types.{TypeTable}
 use Rattle.herm_model.specs.Facts.{prefixes, facts_to, IsClosed}
 use Rattle.herm_model.specs.Statements.{Process}
 use Rattle.herm_model.specs.Nodes.{Target, node, Node, Exit, exits, process_nodes}
-use Rattle.herm_model.specs.Control.{Edge, edge, Point, point, flow_of, Hop, Standing, held_behind, held_at_start, walk, edge_from, Leads, Holds}
-use Rattle.herm_model.proofs.Lists.{and-both, both-and, in-map_from, or-left, or-right}
-use Rattle.herm_model.proofs.Prefixes.{Begins, speaks, before-path}
+use Rattle.herm_model.specs.Control.{Edge, edge, Point, point, flow_of, Hop, held_behind, held_at_start, walk, edge_from, Leads, Holds}
+use Rattle.herm_model.proofs.Lists.{in-map_from, or-left, or-right}
+use Rattle.herm_model.proofs.Beginnings.{Begins, longer-below}
+use Rattle.herm_model.proofs.Prefixes.{speaks, before-path}
 use Rattle.herm_model.proofs.Equality.{same_fact-is}
 use Rattle.herm_model.proofs.FactTests.{listed-IsIn, IsIn-listed, got-IsIn}
 use Rattle.herm_model.proofs.ClosedFacts.{closed-IsClosed}
 use Rattle.herm_model.proofs.Walks.{IsEdgeOf, edge_from-IsEdgeOf, same_held, walk-common}
+use Rattle.herm_model.proofs.Reached.{standing_at}
 
 -- a fact before another speaks of a beginning of its path
 prefix-Begins : (types : TypeTable) (variables : List ℕ) (f g : Fact) → IsIn g (prefixes types variables f) → Begins (path_of g) (path_of f)
@@ -24,12 +26,7 @@ prefix-Begins types variables f g h = by (path_of f) (before-path types variable
         let s = speaks types (v ∷ []) (slice_get variables v) false p g k in
         (s.1.0, ap (v ∷◌) s.1.1 ∙ sym (ap (λ (q : Path). q ++ s.1.0) s.2))
 
--- what is at a path or below it stays so when it is longer
-longer-below : (p q r : Path) → is_at_or_below p q ≡ true → is_at_or_below p (q ++ r) ≡ true
-longer-below [] q r h = refl
-longer-below (i ∷ p) [] r h = absurd (true≢false (sym h))
-longer-below (i ∷ p) (j ∷ q) r h = let both = and-both (nat_eq i j) _ h in both-and (nat_eq i j) _ both.0 (longer-below p q r both.1)
-
+-- what kills a fact kills those of longer paths
 longer-gone : (ps : List Path) (q r : Path) → some_of (λ p. is_at_or_below p q) ps ≡ true → some_of (λ p. is_at_or_below p (q ++ r)) ps ≡ true
 longer-gone [] q r h = h
 longer-gone (p ∷ ps) q r h = go (is_at_or_below p q) refl (longer-gone ps q r) h
@@ -70,9 +67,6 @@ edge-makes types p here e of = by (in-map_from (point types p.variables) of.poin
 
     by : (n : Node) × IsIn n (process_nodes p) × (of.point ≡ point types p.variables n) → IsClosed types p.variables (λ f. IsIn f e.makes)
     by found = by_exit found.0 (in-map_from (edge types p.variables (found.0).form) e (exits types p.variables found.0) (subst (λ (r : Point). IsIn e r.edges) found.2 of.edge))
-
-abbrev standing_at : Target → Bool → Option Standing
-standing_at t held = Some (record { here = t; held = held })
 
 -- along a walk, a fact before another stays held where that one is
 walk-closed : (types : TypeTable) (p : Process) (f g : Fact) → IsIn g (prefixes types p.variables f) → (hops : List Hop) (here there : Target) (bf bg vf vg : Bool) → (bf ≡ true → bg ≡ true) → walk (flow_of types p) f hops here bf ≡ standing_at there vf → walk (flow_of types p) g hops here bg ≡ standing_at there vg → vf ≡ true → vg ≡ true

@@ -1,10 +1,11 @@
 -- Rows by key: what is found, and that keys stay different.
 use Rattle.std.proofs.Common.{◌≡◌, ◌⊎◌, inl, inr, ℕ, zero, suc, List, Bool, true, false, cond, not, ◌&&◌, ◌||◌, Option, Some, None, option_map, is_some, is_none, IsTrue, refl, sym, ap, ap₂, subst, ◌∙◌, true≢false}
-use Rattle.herm_model.specs.Lists.{with_some}
+use Rattle.std.proofs.Math.Bool.{or_assoc}
 use Rattle.herm_model.specs.Values.{Scalar, Cell, Parts, no_parts, gap, part, part_at, joined}
 use Rattle.herm_model.specs.Tables.{same_key, key_of, has_key, place_of_key, has_distinct_keys, without_part}
 use Rattle.herm_model.proofs.Lists.{and-both, both-and, or-either, or-left, or-right}
 use Rattle.herm_model.proofs.Equality.{same_key-is, same_key_self}
+use Rattle.herm_model.proofs.Options.{some-injective, is_some-map}
 
 -- two tests that imply each other are equal
 same-tests : (a b : Bool) → (IsTrue a → IsTrue b) → (IsTrue b → IsTrue a) → a ≡ b
@@ -16,10 +17,6 @@ same-tests false false f g = refl
 same_key-swap : (a b : List Scalar) → same_key a b ≡ same_key b a
 same_key-swap a b = same-tests (same_key a b) (same_key b a) (λ h. subst (λ x. IsTrue (same_key x a)) (same_key-is a b h) (same_key_self a)) (λ h. subst (λ x. IsTrue (same_key x b)) (same_key-is b a h) (same_key_self b))
 
-is_some-suc : (o : Option ℕ) → is_some (option_map suc o) ≡ is_some o
-is_some-suc None = refl
-is_some-suc (Some i) = refl
-
 swap-tests : (a b c d : Bool) → (not (a || (b || false)) && (c && not d)) ≡ ((not a && c) && not (b || d))
 swap-tests true b c d = refl
 swap-tests false true true d = refl
@@ -30,14 +27,11 @@ not-more : (a b : Bool) → (IsTrue b → IsTrue a) → IsTrue (not a) → IsTru
 not-more a true f h = absurd (true≢false (sym (sym (ap not (f refl)) ∙ h)))
 not-more a false f h = refl
 
-some-same : {X : Type 0} (x y : X) → Some x ≡ Some y → x ≡ y
-some-same x y e = ap (with_some x (λ z. z)) e
-
 module _ {N : Type 0} (key : List ℕ) where
   pub place-there : (k : List Scalar) (ps : Parts N) → is_some (place_of_key key k ps) ≡ has_key key k ps
   place-there k no_parts = refl
-  place-there k (gap ps) = is_some-suc (place_of_key key k ps) ∙ place-there k ps
-  place-there k (part row ps) = by (same_key (key_of key row) k) (is_some-suc (place_of_key key k ps) ∙ place-there k ps)
+  place-there k (gap ps) = is_some-map suc (place_of_key key k ps) ∙ place-there k ps
+  place-there k (part row ps) = by (same_key (key_of key row) k) (is_some-map suc (place_of_key key k ps) ∙ place-there k ps)
     where
       by : (b : Bool) → is_some (option_map suc (place_of_key key k ps)) ≡ has_key key k ps → is_some (cond b (Some 0) (option_map suc (place_of_key key k ps))) ≡ (b || has_key key k ps)
       by true e = refl
@@ -49,7 +43,7 @@ module _ {N : Type 0} (key : List ℕ) where
 
   further : (k : List Scalar) (ps : Parts N) (i : ℕ) (rows : ℕ → Option (Cell N)) → ((j : ℕ) → rows (suc j) ≡ part_at j ps) → (o : Option ℕ) → place_of_key key k ps ≡ o → ((j : ℕ) → place_of_key key k ps ≡ Some j → Found k (part_at j ps)) → option_map suc o ≡ Some i → Found k (rows i)
   further k ps i rows same None e again f = absurd (true≢false (ap is_none f))
-  further k ps i rows same (Some j) e again f = let r = again j e in (r.0, ap rows (sym (some-same (suc j) i f)) ∙ same j ∙ r.1, r.2)
+  further k ps i rows same (Some j) e again f = let r = again j e in (r.0, ap rows (sym (some-injective f)) ∙ same j ∙ r.1, r.2)
 
   pub place-row : (k : List Scalar) (ps : Parts N) (i : ℕ) → place_of_key key k ps ≡ Some i → Found k (part_at i ps)
   place-row k no_parts i e = absurd (true≢false (ap is_none e))
@@ -57,17 +51,13 @@ module _ {N : Type 0} (key : List ℕ) where
   place-row k (part row ps) i e = by (same_key (key_of key row) k) refl (further k ps i (λ j. part_at j (part row ps)) (λ j. refl) (place_of_key key k ps) refl (place-row k ps)) e
     where
       by : (b : Bool) → same_key (key_of key row) k ≡ b → (option_map suc (place_of_key key k ps) ≡ Some i → Found k (part_at i (part row ps))) → cond b (Some 0) (option_map suc (place_of_key key k ps)) ≡ Some i → Found k (part_at i (part row ps))
-      by true t again f = (row, ap (λ j. part_at j (part row ps)) (sym (some-same 0 i f)), same_key-is (key_of key row) k t)
+      by true t again f = (row, ap (λ j. part_at j (part row ps)) (sym (some-injective f)), same_key-is (key_of key row) k t)
       by false t again f = again f
 
   has_key-joined : (k : List Scalar) (ps qs : Parts N) → has_key key k (joined ps qs) ≡ (has_key key k ps || has_key key k qs)
   has_key-joined k no_parts qs = refl
   has_key-joined k (gap ps) qs = has_key-joined k ps qs
-  has_key-joined k (part c ps) qs = ap (same_key (key_of key c) k ||◌) (has_key-joined k ps qs) ∙ sym (or-assoc (same_key (key_of key c) k) (has_key key k ps) (has_key key k qs))
-    where
-      or-assoc : (a b c : Bool) → ((a || b) || c) ≡ (a || (b || c))
-      or-assoc true b c = refl
-      or-assoc false b c = refl
+  has_key-joined k (part c ps) qs = ap (same_key (key_of key c) k ||◌) (has_key-joined k ps qs) ∙ sym (or_assoc (same_key (key_of key c) k) (has_key key k ps) (has_key key k qs))
 
   -- a row behind others keeps keys different exactly where its key is not there
   pub distinct-joined : (row : Cell N) (ps : Parts N) → has_distinct_keys key (joined ps (part row no_parts)) ≡ (has_distinct_keys key ps && not (has_key key (key_of key row) ps))

@@ -1,5 +1,5 @@
 -- Labels as lists of facts, and a test that they flow and settle each demand.
-use Rattle.std.proofs.Common.{◌≡◌, ℕ, zero, suc, ◌+◌, map, set, filter, flat_map, refl, sym, subst, ap₂, arith, List, [], ◌∷◌, Bool, true, false, cond, not, ◌&&◌, nat_eq, Option, Some, None, slice_get}
+use Rattle.std.proofs.Common.{◌≡◌, ℕ, zero, suc, map, set, filter, flat_map, refl, sym, subst, ap₂, List, [], ◌∷◌, Bool, true, false, cond, not, ◌&&◌, nat_eq, Option, Some, None, slice_get}
 use Rattle.herm_model.specs.Lists.{IsIn, every, some_of, list_of, numbered}
 use Rattle.herm_model.specs.Paths.{Fact, init, same_fact}
 use Rattle.herm_model.specs.Facts.{without_repeats}
@@ -7,7 +7,7 @@ use Rattle.herm_model.specs.Nodes.{Target, node, end, end_by}
 use Rattle.herm_model.specs.Control.{Edge, Point, Flow, Hop, Standing, held_behind, held_at_start, walk, LacksBy}
 use Rattle.herm_model.specs.Refusals.{Demand, demands, Refusal, AreRefusals, none, missing, holds, Labels, label_at, Flows}
 use Rattle.herm_model.proofs.Equality.{same_fact-is}
-use Rattle.herm_model.proofs.FactTests.{listed-IsIn, numbered-IsIn}
+use Rattle.herm_model.proofs.FactTests.{listed-IsIn, at-numbered}
 use Rattle.herm_model.proofs.Lists.{every-in}
 use Rattle.herm_model.proofs.Walks.{flows-Holds}
 use Rattle.std.proofs.lemmas.Bool.{and_parts, eqb-true, not-true}
@@ -64,11 +64,6 @@ label_at-IsIn : (lists : List (List Fact)) (t : Target) (f : Fact) → label_at 
 label_at-IsIn lists (node i) f h = listed-IsIn f (facts_at lists i) h
 label_at-IsIn lists end f h = cc
 label_at-IsIn lists (end_by e) f h = cc
-
-at-numbered : (points : List Point) (i : ℕ) (p : Point) → slice_get points i ≡ Some p → IsIn (i, p) (numbered 0 points)
-at-numbered points i p is =
-    let e : 0 + i ≡ i = omega arith in
-    subst (λ n. IsIn (n, p) (numbered 0 points)) e (numbered-IsIn points 0 i p is)
 
 -- labels that pass the test flow
 pub labels_flow-Flows : (flow : Flow) (lists : List (List Fact)) → labels_flow flow lists ≡ true → Flows flow (listed lists)

@@ -1,6 +1,9 @@
 pub mod Lists
+pub mod Options
+pub mod NothingThere
 pub mod Steps
 pub mod Copyable
+pub mod Beginnings
 pub mod Prefixes
 pub mod Equality
 pub mod Renaming

@@ -1,6 +1,7 @@
 -- Lemmas on lists that compute on the first element.
-use Rattle.std.proofs.Common.{◌≡◌, ℕ, suc, length, List, [], ◌∷◌, ◌++◌, map, flat_map, Bool, true, false, ◌&&◌, ◌||◌, ◌⊎◌, inl, inr, IsTrue, refl, sym, ap, subst, true≢false}
-use Rattle.herm_model.specs.Lists.{IsIn, every, numbered}
+use Rattle.std.proofs.Common.{◌≡◌, ℕ, zero, suc, ◌+◌, length, List, [], ◌∷◌, ◌++◌, map, flat_map, filter, find, Bool, true, false, cond, Some, option_map, slice_get, ◌&&◌, ◌||◌, ◌⊎◌, inl, inr, IsTrue, refl, sym, ap, subst, arith, true≢false}
+use Rattle.herm_model.specs.Statements.{Differ}
+use Rattle.herm_model.specs.Lists.{IsIn, every, numbered, total}
 
 abbrev is_cons : {X : Type 0} → List X → Bool
 is_cons [] = false
@@ -92,6 +93,42 @@ pub or-right : (a b : Bool) → IsTrue b → IsTrue (a || b)
 or-right true b h = refl
 or-right false b h = h
 
+pub in-filter : {X : Type 0} (test : X → Bool) (x : X) (xs : List X) → IsIn x xs → IsTrue (test x) → IsIn x (filter test xs)
+in-filter test x [] h passes = absurd h
+in-filter test x (z ∷ xs) (inl e) passes = go (test z) (subst (λ x. IsTrue (test x)) e passes)
+  where
+    go : (b : Bool) → IsTrue b → IsIn x (cond b (z ∷ filter test xs) (filter test xs))
+    go true h = inl e
+    go false h = not_true h
+in-filter test x (z ∷ xs) (inr member) passes = go (test z) (in-filter test x xs member passes)
+  where
+    go : (b : Bool) → IsIn x (filter test xs) → IsIn x (cond b (z ∷ filter test xs) (filter test xs))
+    go true k = inr k
+    go false k = k
+
+pub in-filter_from : {X : Type 0} (test : X → Bool) (x : X) (xs : List X) → IsIn x (filter test xs) → IsIn x xs × IsTrue (test x)
+in-filter_from test x [] h = absurd h
+in-filter_from {X} test x (z ∷ xs) h = go (test z) refl (in-filter_from test x xs) h
+  where
+    go : (b : Bool) → test z ≡ b → (IsIn x (filter test xs) → IsIn x xs × IsTrue (test x)) → IsIn x (cond b (z ∷ filter test xs) (filter test xs)) → IsIn x (z ∷ xs) × IsTrue (test x)
+    go true passes later (inl e) = (inl e, subst (λ x. IsTrue (test x)) (sym e) passes)
+    go true passes later (inr k) = let r = later k in (inr r.0, r.1)
+    go false passes later k = let r = later k in (inr r.0, r.1)
+
+-- what is found is of the list, and passes
+pub found-in : {X : Type 0} (test : X → Bool) (x : X) (xs : List X) → find test xs ≡ Some x → IsIn x xs × IsTrue (test x)
+found-in test x [] h = cc
+found-in {X} test x (z ∷ xs) h = go (test z) refl (found-in test x xs) h
+  where
+    go : (b : Bool) → test z ≡ b → (find test xs ≡ Some x → IsIn x xs × IsTrue (test x)) → cond b (Some z) (find test xs) ≡ Some x → IsIn x (z ∷ xs) × IsTrue (test x)
+    go true passes later h = let same : x ≡ z = cc h in (inl same, subst (λ x. IsTrue (test x)) (sym same) passes)
+    go false passes later h = let r = later h in (inr r.0, r.1)
+
+pub slice_get-map : {X Y : Type 0} (f : X → Y) (xs : List X) (j : ℕ) → slice_get (map f xs) j ≡ option_map f (slice_get xs j)
+slice_get-map f [] j = refl
+slice_get-map f (x ∷ xs) zero = refl
+slice_get-map f (x ∷ xs) (suc j) = slice_get-map f xs j
+
 pub every-in : {X : Type 0} (test : X → Bool) (x : X) (xs : List X) → IsTrue (every test xs) → IsIn x xs → IsTrue (test x)
 every-in test x [] h i = absurd i
 every-in test x (z ∷ xs) h (inl e) = subst (λ w. IsTrue (test w)) (sym e) (and-both (test z) _ h).0
@@ -109,3 +146,23 @@ numbered-in i k x (z ∷ xs) (inr h) = inr (numbered-in i (suc k) x xs h)
 pub length-map : {X Y : Type 0} (f : X → Y) (xs : List X) → length (map f xs) ≡ length xs
 length-map f [] = refl
 length-map f (x ∷ xs) = ap suc (length-map f xs)
+
+pub total-append : {X : Type 0} (f : X → ℕ) (xs ys : List X) → total f (xs ++ ys) ≡ total f xs + total f ys
+total-append f [] ys = omega arith
+total-append f (x ∷ xs) ys = omega (arith, total-append f xs ys)
+
+-- a list in front of another, with no element of it
+pub joined-Differ : {X : Type 0} (xs ys : List X) → Differ xs → Differ ys → ((x : X) → IsIn x xs → IsIn x ys → ⊥) → Differ (xs ++ ys)
+joined-Differ [] ys h k apart = k
+joined-Differ {X} (x ∷ xs) ys h k apart = (λ member. by (in-append_cases x xs ys member), joined-Differ xs ys h.1 k (λ y a b. apart y (inr a) b))
+  where
+    by : IsIn x xs ⊎ IsIn x ys → ⊥
+    by (inl a) = h.0 a
+    by (inr b) = apart x (inl refl) b
+
+pub mapped-Differ : {X Y : Type 0} (f : X → Y) → ((a b : X) → f a ≡ f b → a ≡ b) → (xs : List X) → Differ xs → Differ (map f xs)
+mapped-Differ f injective [] h = tt
+mapped-Differ {X} f injective (x ∷ xs) h = (λ member. by (in-map_from f (f x) xs member), mapped-Differ f injective xs h.1)
+  where
+    by : (y : X) × IsIn y xs × (f x ≡ f y) → ⊥
+    by found = h.0 (subst (λ z. IsIn z xs) (sym (injective x found.0 found.2)) found.1)

@@ -1,12 +1,13 @@
 -- What is at a path behind a change at another, and the weight of the names that are there.
 use Rattle.std.proofs.Common.{◌≡◌, ◌≢◌, ◌⊎◌, inl, inr, ◌<◌, ℕ, zero, suc, ◌+◌, List, [], ◌∷◌, ◌++◌, map, flat_map, Bool, true, false, cond, not, ◌||◌, Option, Some, None, option_map, nat_eq, IsTrue, refl, sym, ap, ap₂, subst, length, length-append, append_assoc, ◌∙◌, arith, true≢false}
 use Rattle.std.proofs.lemmas.Bool.{eq-eqb, eqb-true, ltb-true}
-use Rattle.herm_model.specs.Lists.{weight, range, list_of}
+use Rattle.herm_model.specs.Lists.{total, range, list_of}
 use Rattle.herm_model.specs.Paths.{Path, are_apart}
 use Rattle.herm_model.specs.Values.{Kind, Cell, cell, Parts, no_parts, gap, part, part_at, place, set_part, size, opens, inside, cell_at, has_place, behind_gaps, readable_of, read_at, change_readable, change_behind, change_from, change_at, a_variant, a_record, a_callmessage, change_inside, change_part, set_at, names_of, names_in, count, count_in, copy_from, copy_in}
 use Rattle.herm_model.specs.Finalising.{waits, finalised, finalised_in, pending, pending_in}
-use Rattle.herm_model.proofs.Lists.{not_true}
+use Rattle.herm_model.proofs.Lists.{not_true, total-append}
 use Rattle.herm_model.proofs.Renaming.{map-append}
+use Rattle.herm_model.proofs.NothingThere.{none-read}
 
 apart-cases : (i j : ℕ) (p q : Path) → IsTrue (not (nat_eq i j) || are_apart p q) → (i ≢ j) ⊎ ((i ≡ j) × IsTrue (are_apart p q))
 apart-cases i j p q h = by (nat_eq i j) refl h
@@ -16,6 +17,23 @@ apart-cases i j p q h = by (nat_eq i j) refl h
     by false e k = inl (λ s. true≢false (sym (eq-eqb i j s) ∙ e))
 
 module _ {N : Type 0} where
+  -- what is at a path, by the part at its first place
+  abbrev pub cell_below : Path → Option (Cell N) → Option (Cell N)
+  cell_below [] o = o
+  cell_below (j ∷ q) o = cell_at (j ∷ q) (inside o)
+
+  pub cell-below : (i : ℕ) (q : Path) (ps : Parts N) → cell_at (i ∷ q) ps ≡ cell_below q (part_at i ps)
+  cell-below i [] ps = refl
+  cell-below i (j ∷ q) ps = refl
+
+  abbrev pub read_below : Path → Option (Cell N) → Option (Cell N)
+  read_below [] o = o
+  read_below (j ∷ q) o = read_at (j ∷ q) (readable_of o)
+
+  pub read-below : (i : ℕ) (q : Path) (ps : Parts N) → read_at (i ∷ q) ps ≡ read_below q (part_at i ps)
+  read-below i [] ps = refl
+  read-below i (j ∷ q) ps = refl
+
   part_at-place_zero : (o : Option (Cell N)) (ps : Parts N) → part_at zero (place o ps) ≡ o
   part_at-place_zero None ps = refl
   part_at-place_zero (Some c) ps = refl
@@ -114,41 +132,37 @@ module _ {N : Type 0} where
       by (inl d) again = ap (λ c. cell_at (l ∷ q) (inside c)) (part_at-change_other i j (change_inside (set_at (k ∷ p) o)) ps d)
       by (inr e) again = subst (λ m. cell_at (m ∷ l ∷ q) (set_at (i ∷ k ∷ p) o ps) ≡ cell_at (m ∷ l ∷ q) ps) e.0 (ap (cell_at (l ∷ q)) (inside-set i k p o ps) ∙ again e.1)
 
-pub weight-append : {X : Type 0} (w : X → ℕ) (xs ys : List X) → weight w (xs ++ ys) ≡ weight w xs + weight w ys
-weight-append w [] ys = omega arith
-weight-append w (x ∷ xs) ys = omega (arith, weight-append w xs ys)
-
 -- what the names of values weigh
 module _ {N : Type 0} (w : N → ℕ) where
   abbrev own : Option (Cell N) → ℕ
-  own o = weight w (list_of names_of o)
+  own o = total w (list_of names_of o)
 
   abbrev all : Parts N → ℕ
-  all ps = weight w (names_in ps)
+  all ps = total w (names_in ps)
 
   weigh-place : (o : Option (Cell N)) (ps : Parts N) → all (place o ps) ≡ own o + all ps
   weigh-place None ps = omega arith
-  weigh-place (Some c) ps = weight-append w (names_of c) (names_in ps)
+  weigh-place (Some c) ps = total-append w (names_of c) (names_in ps)
 
   weigh-set_part : (i : ℕ) (o : Option (Cell N)) (ps : Parts N) → i < size ps → all (set_part i o ps) + own (part_at i ps) ≡ all ps + own o
   weigh-set_part i o no_parts h = absurd (omega arith)
   weigh-set_part zero o (gap ps) h = omega (arith, weigh-place o ps)
-  weigh-set_part zero o (part c ps) h = omega (arith, weigh-place o ps, weight-append w (names_of c) (names_in ps))
+  weigh-set_part zero o (part c ps) h = omega (arith, weigh-place o ps, total-append w (names_of c) (names_in ps))
   weigh-set_part (suc i) o (gap ps) h = weigh-set_part i o ps (omega arith)
-  weigh-set_part (suc i) o (part c ps) h = omega (arith, weigh-set_part i o ps (omega arith), weight-append w (names_of c) (names_in ps), weight-append w (names_of c) (names_in (set_part i o ps)))
+  weigh-set_part (suc i) o (part c ps) h = omega (arith, weigh-set_part i o ps (omega arith), total-append w (names_of c) (names_in ps), total-append w (names_of c) (names_in (set_part i o ps)))
 
   weigh-change_part : (i a b : ℕ) (g : Cell N → Cell N) (ps : Parts N) → own (option_map g (part_at i ps)) + a ≡ own (part_at i ps) + b → all (change_part i g ps) + a ≡ all ps + b
   weigh-change_part i a b g no_parts e = e
   weigh-change_part zero a b g (gap ps) e = omega (arith, e)
-  weigh-change_part zero a b g (part c ps) e = omega (arith, e, weight-append w (names_of c) (names_in ps), weight-append w (names_of (g c)) (names_in ps))
+  weigh-change_part zero a b g (part c ps) e = omega (arith, e, total-append w (names_of c) (names_in ps), total-append w (names_of (g c)) (names_in ps))
   weigh-change_part (suc i) a b g (gap ps) e = weigh-change_part i a b g ps e
-  weigh-change_part (suc i) a b g (part c ps) e = omega (arith, weigh-change_part i a b g ps e, weight-append w (names_of c) (names_in ps), weight-append w (names_of c) (names_in (change_part i g ps)))
+  weigh-change_part (suc i) a b g (part c ps) e = omega (arith, weigh-change_part i a b g ps e, total-append w (names_of c) (names_in ps), total-append w (names_of c) (names_in (change_part i g ps)))
 
   weigh-inside : (h : Parts N → Parts N) (a b : ℕ) (o : Option (Cell N)) → h no_parts ≡ no_parts → all (h (inside o)) + a ≡ all (inside o) + b → own (option_map (change_inside h) o) + a ≡ own o + b
   weigh-inside h a b None e f = subst (λ ps. all ps + a ≡ 0 + b) e f
   weigh-inside h a b (Some (cell n k ps)) e f = by (opens k) f
     where
-      by : (t : Bool) → all (h (cond t ps no_parts)) + a ≡ all (cond t ps no_parts) + b → weight w (n ∷ names_in (cond t (h ps) ps)) + a ≡ weight w (n ∷ names_in ps) + b
+      by : (t : Bool) → all (h (cond t ps no_parts)) + a ≡ all (cond t ps no_parts) + b → total w (n ∷ names_in (cond t (h ps) ps)) + a ≡ total w (n ∷ names_in ps) + b
       by true f = omega (arith, f)
       by false f = let z : 0 + a ≡ 0 + b = subst (λ qs. all qs + a ≡ 0 + b) e f in omega (arith, z)
 
@@ -160,8 +174,23 @@ module _ {N : Type 0} (w : N → ℕ) where
       weigh-change_part i (own (cell_at (j ∷ p) (inside (part_at i ps)))) (own o) (change_inside (set_at (j ∷ p) o)) ps
       (weigh-inside (set_at (j ∷ p) o) (own (cell_at (j ∷ p) (inside (part_at i ps)))) (own o) (part_at i ps) (set_at-none (j ∷ p) o) (weigh-set_at (j ∷ p) o (inside (part_at i ps)) h))
 
+  -- what is taken out of a path, where there is a place or none
+  weigh-clear_part : (i : ℕ) (ps : Parts N) → all (set_part i None ps) + own (part_at i ps) ≡ all ps + 0
+  weigh-clear_part i no_parts = refl
+  weigh-clear_part zero (gap ps) = omega arith
+  weigh-clear_part zero (part c ps) = omega (arith, total-append w (names_of c) (names_in ps))
+  weigh-clear_part (suc i) (gap ps) = weigh-clear_part i ps
+  weigh-clear_part (suc i) (part c ps) = omega (arith, weigh-clear_part i ps, total-append w (names_of c) (names_in ps), total-append w (names_of c) (names_in (set_part i None ps)))
+
+  pub weigh-clear_at : (p : Path) (ps : Parts N) → all (set_at p None ps) + own (cell_at p ps) ≡ all ps + 0
+  weigh-clear_at [] ps = refl
+  weigh-clear_at (i ∷ []) ps = weigh-clear_part i ps
+  weigh-clear_at (i ∷ j ∷ p) ps =
+      weigh-change_part i (own (cell_at (j ∷ p) (inside (part_at i ps)))) 0 (change_inside (set_at (j ∷ p) None)) ps
+      (weigh-inside (set_at (j ∷ p) None) (own (cell_at (j ∷ p) (inside (part_at i ps)))) 0 (part_at i ps) (set_at-none (j ∷ p) None) (weigh-clear_at (j ∷ p) (inside (part_at i ps))))
+
   -- what is finalised and what waits are all that was there
-  weigh-own : (b : Bool) (n : N) (k : Kind) (fs : List N) (qs : List (Cell N)) (a : ℕ) → a ≡ weight w fs + weight w (flat_map names_of qs) → w n + a ≡ weight w (cond b [] (n ∷ []) ++ fs) + weight w (flat_map names_of (cond b (cell n k no_parts ∷ []) [] ++ qs))
+  weigh-own : (b : Bool) (n : N) (k : Kind) (fs : List N) (qs : List (Cell N)) (a : ℕ) → a ≡ total w fs + total w (flat_map names_of qs) → w n + a ≡ total w (cond b [] (n ∷ []) ++ fs) + total w (flat_map names_of (cond b (cell n k no_parts ∷ []) [] ++ qs))
   weigh-own true n k fs qs a e = omega (arith, e)
   weigh-own false n k fs qs a e = omega (arith, e)
 
@@ -170,16 +199,16 @@ module _ {N : Type 0} (w : N → ℕ) where
   flat_map-append (x ∷ xs) ys = ap (names_of x ++◌) (flat_map-append xs ys) ∙ sym (append_assoc (names_of x) (flat_map names_of xs) (flat_map names_of ys))
 
   mutual
-    pub weigh-finalised : (c : Cell N) → weight w (names_of c) ≡ weight w (finalised c) + weight w (flat_map names_of (pending c))
-    weigh-finalised (cell n k ps) = weigh-own (waits k) n k (finalised_in ps) (pending_in ps) (weight w (names_in ps)) (weigh-finalised_in ps)
+    pub weigh-finalised : (c : Cell N) → total w (names_of c) ≡ total w (finalised c) + total w (flat_map names_of (pending c))
+    weigh-finalised (cell n k ps) = weigh-own (waits k) n k (finalised_in ps) (pending_in ps) (total w (names_in ps)) (weigh-finalised_in ps)
 
-    pub weigh-finalised_in : (ps : Parts N) → weight w (names_in ps) ≡ weight w (finalised_in ps) + weight w (flat_map names_of (pending_in ps))
+    pub weigh-finalised_in : (ps : Parts N) → total w (names_in ps) ≡ total w (finalised_in ps) + total w (flat_map names_of (pending_in ps))
     weigh-finalised_in no_parts = omega arith
     weigh-finalised_in (gap ps) = weigh-finalised_in ps
-    weigh-finalised_in (part c ps) = omega (arith, weigh-finalised c, weigh-finalised_in ps, weight-append w (names_of c) (names_in ps), weight-append w (finalised c) (finalised_in ps), ap (weight w) (flat_map-append (pending c) (pending_in ps)), weight-append w (flat_map names_of (pending c)) (flat_map names_of (pending_in ps)))
+    weigh-finalised_in (part c ps) = omega (arith, weigh-finalised c, weigh-finalised_in ps, total-append w (names_of c) (names_in ps), total-append w (finalised c) (finalised_in ps), ap (total w) (flat_map-append (pending c) (pending_in ps)), total-append w (flat_map names_of (pending c)) (flat_map names_of (pending_in ps)))
 
 -- the names of a copy are those of the serials from the first on, as many as there are cells
-range-add : (s m n : ℕ) → range s (m + n) ≡ range s m ++ range (s + m) n
+pub range-add : (s m n : ℕ) → range s (m + n) ≡ range s m ++ range (s + m) n
 range-add s zero n = let e : s ≡ s + 0 = omega arith in let z : 0 + n ≡ n = omega arith in ap₂ range e z
 range-add s (suc m) n =
     let e : suc m + n ≡ suc (m + n) = omega arith in
@@ -217,8 +246,7 @@ module _ {N : Type 0} where
   Follows p g = (i : ℕ) (ps : Parts N) → read_at p (behind_gaps i (change_from p g i ps)) ≡ option_map g (read_at p (behind_gaps i ps))
 
   read-none : (j : ℕ) (p : Path) (g : Cell N → Cell N) → read_at (j ∷ p) no_parts ≡ option_map g (read_at (j ∷ p) no_parts)
-  read-none j [] g = refl
-  read-none j (k ∷ p) g = read-none k p g
+  read-none j p g = none-read (j ∷ p) ∙ sym (ap (option_map g) (none-read (j ∷ p)))
 
   read-readable : (j : ℕ) (p : Path) (g : Cell N → Cell N) → Follows (j ∷ p) g → (o : Option (Cell N)) → read_at (j ∷ p) (readable_of (option_map (change_readable (change_from (j ∷ p) g)) o)) ≡ option_map g (read_at (j ∷ p) (readable_of o))
   read-readable j p g again None = read-none j p g
@@ -244,12 +272,8 @@ module _ {N : Type 0} where
     abbrev Weighs : List ℕ → Type 0
     Weighs p = (i : ℕ) (ps : Parts N) → own w (option_map g (read_at p (behind_gaps i ps))) + a ≡ own w (read_at p (behind_gaps i ps)) + b → all w (change_from p g i ps) + a ≡ all w ps + b
 
-    read-no : (j : ℕ) (p : Path) → read_at {N = N} (j ∷ p) no_parts ≡ None
-    read-no j [] = refl
-    read-no j (k ∷ p) = read-no k p
-
     no-change : (j : ℕ) (p : Path) → own w (option_map g (read_at (j ∷ p) no_parts)) + a ≡ own w (read_at (j ∷ p) no_parts) + b → a ≡ b
-    no-change j p e = let z : 0 + a ≡ 0 + b = subst (λ o. own w (option_map g o) + a ≡ own w o + b) (read-no j p) e in omega (arith, z)
+    no-change j p e = let z : 0 + a ≡ 0 + b = subst (λ o. own w (option_map g o) + a ≡ own w o + b) (none-read (j ∷ p)) e in omega (arith, z)
 
     weigh-readable : (j : ℕ) (p : Path) → Weighs (j ∷ p) → (o : Option (Cell N)) → own w (option_map g (read_at (j ∷ p) (readable_of o))) + a ≡ own w (read_at (j ∷ p) (readable_of o)) + b → own w (option_map (change_readable (change_from (j ∷ p) g)) o) + a ≡ own w o + b
     weigh-readable j p again None e = let z = no-change j p e in omega (arith, z)

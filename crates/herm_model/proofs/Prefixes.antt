@@ -1,25 +1,15 @@
 -- What comes before a fact is closed, and so are the facts of a full value with those of its path.
 use Rattle.std.proofs.Common.{◌≡◌, ℕ, suc, List, [], ◌∷◌, ◌++◌, Bool, true, false, cond, ◌||◌, ◌⊎◌, inl, inr, IsTrue, Option, Some, None, slice_get, option_map, is_some, is_none, ◌+◌, arith, refl, sym, ap, subst, subst₂, ◌∙◌, append_assoc, append-nil, true≢false}
+use Rattle.std.proofs.Math.Bool.{or-false, or_assoc}
 use Rattle.herm_model.specs.Lists.{IsIn, numbered, with_some, list_of}
 use Rattle.herm_model.specs.Paths.{Path, Fact, init, case, path_of, parent}
 use Rattle.herm_model.specs.Types.{Mode, by_in, by_inout, by_out, Parameter, filled, if_filled, Shape, fields, callmessage, TypeTable, part_of, part_type, is_variant, is_cases, type_below, type_at, enters_component, passes_component, full_parts, Leads, steps, is_within_depth, greatest_depth}
 use Rattle.herm_model.specs.Facts.{facts_from, facts_to, prefixes, with_prefixes, IsClosed, full_facts}
 use Rattle.herm_model.proofs.Steps.{full-named, steps-listed, steps-lead}
+use Rattle.herm_model.proofs.Beginnings.{Begins}
 use Rattle.herm_model.proofs.Lists.{in-append_left, in-append_right, in-append_more, in-append_cases, in-map, in-map_from}
 
-or-false : (b : Bool) → (b || false) ≡ b
-or-false true = refl
-or-false false = refl
-
-or-assoc : (a b c : Bool) → ((a || b) || c) ≡ (a || (b || c))
-or-assoc true b c = refl
-or-assoc false b c = refl
-
--- q is a beginning of p
-abbrev pub Begins : List ℕ → List ℕ → Type 0
-Begins q p = (r : List ℕ) × (p ≡ q ++ r)
-
-numbered-get : (i u k : ℕ) (ts : List ℕ) → IsIn (i, u) (numbered k ts) → (j : ℕ) × (i ≡ k + j) × (slice_get ts j ≡ Some u)
+pub numbered-get : (i u k : ℕ) (ts : List ℕ) → IsIn (i, u) (numbered k ts) → (j : ℕ) × (i ≡ k + j) × (slice_get ts j ≡ Some u)
 numbered-get i u k [] h = absurd h
 numbered-get i u k (t ∷ ts) (inl e) = (0, ap (λ (x : ℕ × ℕ). x.0) e ∙ omega arith, ap (λ (x : ℕ × ℕ). Some x.1) (sym e))
 numbered-get i u k (t ∷ ts) (inr h) = let r = numbered-get i u (suc k) ts h in (suc r.0, omega (arith, r.1), r.2)
@@ -142,7 +132,7 @@ module _ (table : TypeTable) where
       Rest = IsIn f (facts_from table (at ++ i ∷ p) (type_below table (part_of table t i) p) (w || (is_variant table t || enters_component table (part_of table t i) p)) r)
 
       far : IsIn f (facts_from table ((at ++ i ∷ []) ++ p) (type_below table (part_of table t i) p) ((w || is_variant table t) || enters_component table (part_of table t i) p) r) → Rest
-      far k = subst₂ (λ a v. IsIn f (facts_from table a (type_below table (part_of table t i) p) v r)) (append_assoc at (i ∷ []) p) (or-assoc w (is_variant table t) (enters_component table (part_of table t i) p)) k
+      far k = subst₂ (λ a v. IsIn f (facts_from table a (type_below table (part_of table t i) p) v r)) (append_assoc at (i ∷ []) p) (or_assoc w (is_variant table t) (enters_component table (part_of table t i) p)) k
 
       Again : Type 0
       Again = IsIn f (onward at t w i (p ++ r)) → IsIn f (onward at t w i p) ⊎ IsIn f (facts_from table ((at ++ i ∷ []) ++ p) (type_below table (part_of table t i) p) ((w || is_variant table t) || enters_component table (part_of table t i) p) r)

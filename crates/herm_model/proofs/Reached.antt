@@ -1,4 +1,4 @@
--- Control paths lead to the targets that edges lead to.
+-- Control paths lead to the targets that edges lead to: the hop that takes an edge, and walks that go on with it.
 use Rattle.std.proofs.Common.{◌≡◌, ◌↔◌, ℕ, List, [], ◌∷◌, ◌++◌, map, Bool, true, false, cond, nat_eq, find, Option, Some, None, slice_get, option_and_then, refl, sym, ap, ◌∙◌, subst, inl, inr, true≢false}
 use Rattle.std.proofs.lemmas.Bool.{eq-eqb, eqb-true}
 use Rattle.herm_model.specs.Lists.{IsIn}
@@ -28,7 +28,7 @@ walk-IsLedTo flow f (hop ∷ hops) here there held value led leads =
     go (Some e) is later leads = later e.target (held_behind e f held) (hop-IsLedTo flow here e led (edge_from-IsEdgeOf flow here hop e is)) leads
 
 -- outcomes that are the same are equal, and each is the same as itself
-same_outcome-is : (o q : Outcome) → same_outcome o q ≡ true → o ≡ q
+pub same_outcome-is : (o q : Outcome) → same_outcome o q ≡ true → o ≡ q
 same_outcome-is ok ok h = refl
 same_outcome-is is_true is_true h = refl
 same_outcome-is is_false is_false h = refl
@@ -64,10 +64,10 @@ found (d ∷ edges) e h (inr member) = go (same_outcome d.outcome e.outcome) ref
     go false t later = later
 
 -- the hop that takes an edge
-abbrev hop_by : Point → Edge → Hop
+abbrev pub hop_by : Point → Edge → Hop
 hop_by p e = record { number = p.number; outcome = e.outcome }
 
-hop-taken : (flow : Flow) → EdgesDiffer flow → (i : ℕ) (p : Point) (e : Edge) → slice_get flow.points i ≡ Some p → IsIn p flow.points → IsIn e p.edges → edge_from flow (node i) (hop_by p e) ≡ Some e
+pub hop-taken : (flow : Flow) → EdgesDiffer flow → (i : ℕ) (p : Point) (e : Edge) → slice_get flow.points i ≡ Some p → IsIn p flow.points → IsIn e p.edges → edge_from flow (node i) (hop_by p e) ≡ Some e
 hop-taken flow differ i p e is at member = ap (edge_at (hop_by p e)) is ∙ number (nat_eq p.number p.number) (eq-eqb p.number p.number refl)
   where
     number : (b : Bool) → b ≡ true → cond b (find (λ (d : Edge). same_outcome d.outcome e.outcome) p.edges) None ≡ Some e

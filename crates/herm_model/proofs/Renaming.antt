@@ -2,10 +2,11 @@
 use Rattle.std.proofs.Common.{◌≡◌, ℕ, zero, suc, ◌+◌, max, List, [], ◌∷◌, ◌++◌, map, Bool, true, false, cond, not, ◌&&◌, ◌||◌, Option, Some, None, option_map, is_some, refl, sym, ap, ap₂, ◌∙◌}
 use Rattle.herm_model.specs.Lists.{list_of}
 use Rattle.herm_model.specs.Paths.{Path, Fact, init, case}
-use Rattle.herm_model.specs.Values.{Scalar, a_callmessage, a_record, Kind, a_scalar, a_variant, Cell, cell, Parts, no_parts, gap, part, part_at, place, set_part, size, joined, opens, inside, cell_at, has_value, change_inside, change_part, set_at, behind_gaps, readable_of, read_at, change_readable, change_behind, change_from, change_at, is_component, tells, names_of, names_in, count, count_in, copy_from, copy_in, rename, rename_in, deeper, polymorph_depth, depth_in}
+use Rattle.herm_model.specs.Values.{Scalar, a_callmessage, a_record, Kind, a_scalar, a_variant, Cell, cell, Parts, no_parts, gap, gaps, part, part_at, place, set_part, size, joined, opens, inside, cell_at, has_value, change_inside, change_part, set_at, behind_gaps, readable_of, read_at, change_readable, change_behind, change_from, change_at, is_component, tells, names_of, names_in, count, count_in, copy_from, copy_in, rename, rename_in, deeper, polymorph_depth, depth_in}
 use Rattle.herm_model.specs.Tables.{scalars_of, key_of, same_key, has_key, place_of_key, has_distinct_keys, without_part}
 use Rattle.herm_model.specs.Finalising.{waits, finalised, finalised_in, pending, pending_in, cells_at, clear_all}
 use Rattle.herm_model.specs.Texts.{opening, closing, text_of, parts_text}
+use Rattle.herm_model.proofs.Options.{is_some-map}
 
 pub map-append : {X Y : Type 0} (f : X → Y) (xs ys : List X) → map f (xs ++ ys) ≡ map f xs ++ map f ys
 map-append f [] ys = refl
@@ -32,12 +33,12 @@ module _ {N M : Type 0} (f : N → M) where
   cell_at-rename (i ∷ []) ps = part_at-rename i ps
   cell_at-rename (i ∷ j ∷ p) ps = ap (λ o. cell_at (j ∷ p) (inside o)) (part_at-rename i ps) ∙ ap (cell_at (j ∷ p)) (inside-rename (part_at i ps)) ∙ cell_at-rename (j ∷ p) (inside (part_at i ps))
 
-  is_some-map : {X Y : Type 0} (g : X → Y) (o : Option X) → is_some (option_map g o) ≡ is_some o
-  is_some-map g None = refl
-  is_some-map g (Some x) = refl
-
   pub has_value-rename : (ps : Parts N) (p : Path) → has_value (rename_in f ps) p ≡ has_value ps p
   has_value-rename ps p = ap is_some (cell_at-rename p ps) ∙ is_some-map (rename f) (cell_at p ps)
+
+  pub gaps-rename : (n : ℕ) → rename_in f (gaps n) ≡ gaps n
+  gaps-rename zero = refl
+  gaps-rename (suc n) = ap gap (gaps-rename n)
 
   behind_gaps-rename : (i : ℕ) (ps : Parts N) → behind_gaps i (rename_in f ps) ≡ rename_in f (behind_gaps i ps)
   behind_gaps-rename zero ps = refl

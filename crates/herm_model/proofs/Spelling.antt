@@ -1,14 +1,14 @@
 -- Values of one type are told by their texts, also where more follows that does not begin with a digit.
 use Rattle.std.proofs.Common.{◌≡◌, ◌≢◌, ◌<◌, pos, negsuc, ℕ, List, [], ◌∷◌, ◌++◌, flat_map, Bool, true, false, not, ◌&&◌, Option, Some, None, slice_get, nat_eq, nat_lt, IsTrue, IsFalse, refl, sym, ap, ap₂, subst, ◌∙◌, arith, append_assoc, true≢false, codes}
-use Rattle.herm_model.specs.Lists.{with_some}
 use Rattle.herm_model.specs.Types.{Shape, boolean, integer, text, polymorph, names, fields, cases, rows, inport, outport, callmessage, TypeTable}
 use Rattle.herm_model.specs.Values.{Scalar, a_boolean, an_integer, a_text, a_tag, Kind, a_scalar, a_record, a_variant, a_table, a_polymorph, a_callmessage, an_inport, an_outport, cell, Parts, no_parts, gap, part, Value}
-use Rattle.herm_model.specs.Typed.{Degree, whole, a_value, nothing, Layout, exactly, many, unfit, leaf_if, one_whole, is_integer, is_text, layout, IsOf, Fits}
+use Rattle.herm_model.specs.Typed.{Degree, whole, a_value, nothing, Layout, exactly, many, unfit, leaf_if, one_whole, is_integer, is_text, IsOf, Fits}
 use Rattle.herm_model.specs.Texts.{numeral, escaped, scalar_text, opening, closing, text_of, parts_text, is_digit, begins_with_digit}
 use Rattle.std.specs.Bool.{⊤}
 use Rattle.std.proofs.lemmas.Bool.{eq-eqb}
 use Rattle.herm_model.proofs.Lists.{not_true, and-both, cons-head, cons-tail}
 use Rattle.herm_model.proofs.Numerals.{numeral-split, signed-split, string-split, numeral-starts}
+use Rattle.herm_model.proofs.Typing.{layout_of}
 
 append-cancel : {X : Type 0} (xs ys zs : List X) → xs ++ ys ≡ xs ++ zs → ys ≡ zs
 append-cancel [] ys zs e = e
@@ -49,9 +49,6 @@ ends_in_digit (a_scalar (a_tag i)) = true
 ends_in_digit (an_inport p) = true
 ends_in_digit (an_outport p) = true
 ends_in_digit k = false
-
-abbrev layout_of : Degree → Option Shape → Kind → Layout
-layout_of d o k = with_some unfit (λ s. layout d s k) o
 
 module _ {N : Type 0} (table : TypeTable) (d : Degree) where
   family-fits : (o : Option Shape) (k : Kind) (ps : Parts N) → Fits table (layout_of d o k) ps → family k ≡ family_of o

@@ -38,8 +38,17 @@ all-named (cases ts) i u h = numbered-in i 0 u ts h
 all-named (callmessage ps raises) i u h = numbered-in i 0 u (map (λ p. p.content) ps) h
 all-named s i u h = absurd h
 
+-- a type within a depth is there
+pub within-known : (table : TypeTable) (n u : ℕ) → IsTrue (is_within_depth n table u) → IsTrue (is_some (slice_get table u))
+within-known table zero u w = not_true w
+within-known table (suc n) u w = there (slice_get table u) w
+  where
+    there : (o : Option Shape) → IsTrue (with_some false (λ s. every (is_within_depth n table) (named_types s)) o) → IsTrue (is_some o)
+    there None w = not_true w
+    there (Some s) w = refl
+
 module _ (parts : Shape → List (ℕ × ℕ)) (table : TypeTable) where
-  abbrev LeadsOf : Option Shape → List ℕ → Type 0
+  abbrev pub LeadsOf : Option Shape → List ℕ → Type 0
   LeadsOf o [] = IsTrue (is_some o)
   LeadsOf o (i ∷ p) = (u : ℕ) × IsIn (i, u) (list_of parts o) × Leads parts table u p
 

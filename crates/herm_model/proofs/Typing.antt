@@ -1,10 +1,14 @@
 -- Types of values do not depend on the names of cells; a full value has its type.
-use Rattle.std.proofs.Common.{◌≡◌, ℕ, List, [], ◌∷◌, map, false, ◌&&◌, Option, Some, None, slice_get, nat_le, nat_lt, IsTrue, refl, sym, ap, ap₂, subst}
+use Rattle.std.proofs.Common.{◌≡◌, ℕ, List, [], ◌∷◌, map, length, false, ◌&&◌, Option, Some, None, slice_get, nat_le, nat_lt, IsTrue, refl, sym, ap, ap₂, subst}
 use Rattle.herm_model.specs.Lists.{with_some}
 use Rattle.herm_model.specs.Types.{Mode, by_in, by_inout, by_out, Parameter, TypeTable, Shape, polymorph, fields, rows, callmessage}
-use Rattle.herm_model.specs.Values.{Kind, a_record, a_callmessage, Cell, cell, Parts, no_parts, gap, part, rename, rename_in}
+use Rattle.herm_model.specs.Values.{Kind, a_record, a_callmessage, Cell, cell, Parts, no_parts, gap, gaps, part, rename, rename_in}
 use Rattle.herm_model.specs.Typed.{Degree, whole, partly, Content, a_value, nothing, Layout, exactly, many, unfit, parameter_content, layout, layout_at, is_bounded, greatest_rows, greatest_polymorph, IsOf, Fits}
 use Rattle.herm_model.proofs.Renaming.{size-rename, depth_in-rename, has_distinct_keys-rename}
+
+-- the layout of a kind in the shape of a type, if there is one
+abbrev pub layout_of : Degree → Option Shape → Kind → Layout
+layout_of d o k = with_some unfit (λ s. layout d s k) o
 
 module _ {N M : Type 0} (f : N → M) where
   is_bounded-rename : (o : Option Shape) (ps : Parts N) → with_some false (λ s. is_bounded s (rename_in f ps)) o ≡ with_some false (λ s. is_bounded s ps) o
@@ -91,3 +95,8 @@ module _ {N : Type 0} (table : TypeTable) where
     parameters-typed (q ∷ qs) no_parts h = h
     parameters-typed (q ∷ qs) (gap ps) h = gap-typed q.mode q.content _ _ ps (parameters-typed qs ps) h
     parameters-typed (q ∷ qs) (part c ps) h = part-typed q.mode q.content _ _ c ps (full-typed q.content c) (parameters-typed qs ps) h
+
+-- empty places have any types
+pub gaps-typed : (N : Type 0) (table : TypeTable) (ts : List ℕ) → Fits {N = N} table (exactly (map (a_value partly) ts)) (gaps (length ts))
+gaps-typed N table [] = tt
+gaps-typed N table (t ∷ ts) = (tt, gaps-typed N table ts)

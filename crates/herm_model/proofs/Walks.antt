@@ -1,27 +1,19 @@
 -- What is held along walks: labels that flow, and walks that carry different facts.
-use Rattle.std.proofs.Common.{◌≡◌, ℕ, List, [], ◌∷◌, Bool, true, false, cond, nat_eq, find, Option, Some, None, slice_get, option_and_then, refl, sym, ap, ◌∙◌, subst, inl, inr}
+use Rattle.std.proofs.Common.{◌≡◌, ℕ, List, [], ◌∷◌, Bool, true, false, cond, nat_eq, find, Option, Some, None, slice_get, option_and_then, refl, sym, ap, ◌∙◌, subst}
 use Rattle.herm_model.specs.Lists.{IsIn, some_of}
 use Rattle.herm_model.specs.Paths.{Fact, same_fact, is_at_or_below, path_of}
 use Rattle.herm_model.specs.Outcomes.{same_outcome}
 use Rattle.herm_model.specs.Nodes.{Target, node, end, end_by}
 use Rattle.herm_model.specs.Control.{Edge, Point, Flow, Hop, Standing, held_behind, held_at_start, walk, edge_at, edge_from, Holds}
 use Rattle.herm_model.specs.Refusals.{Labels, label_at, Flows}
-
--- the edge that is found is one of the list
-found-IsIn : (test : Edge → Bool) (edges : List Edge) (e : Edge) → find test edges ≡ Some e → IsIn e edges
-found-IsIn test [] e h = cc
-found-IsIn test (d ∷ edges) e h = go (found-IsIn test edges e) (test d) h
-  where
-    go : (find test edges ≡ Some e → IsIn e edges) → (b : Bool) → cond b (Some d) (find test edges) ≡ Some e → IsIn e (d ∷ edges)
-    go later true h = inl cc
-    go later false h = inr (later h)
+use Rattle.herm_model.proofs.Lists.{found-in}
 
 -- an edge that a hop takes is one of the point's
 pub edge_at-IsIn : (hop : Hop) (p : Point) (e : Edge) → edge_at hop (Some p) ≡ Some e → IsIn e p.edges
 edge_at-IsIn hop p e h = go (nat_eq p.number hop.number) h
   where
     go : (b : Bool) → cond b (find (λ (d : Edge). same_outcome d.outcome hop.outcome) p.edges) None ≡ Some e → IsIn e p.edges
-    go true h = found-IsIn _ p.edges e h
+    go true h = (found-in _ e p.edges h).0
     go false h = cc
 
 -- what is held before an edge in more cases is held behind it in more cases

@@ -38,9 +38,9 @@ same_numbers (m ∷ ms) [] = false
 same_numbers (m ∷ ms) (n ∷ ns) = nat_eq m n && same_numbers ms ns
 
 -- the sum of what a function gives at each element
-abbrev pub weight : {X : Type 0} → (X → ℕ) → List X → ℕ
-weight w [] = 0
-weight w (x ∷ xs) = w x + weight w xs
+abbrev pub total : {X : Type 0} → (X → ℕ) → List X → ℕ
+total f [] = 0
+total f (x ∷ xs) = f x + total f xs
 
 -- so many numbers in order, from a first one on
 abbrev pub range : ℕ → ℕ → List ℕ

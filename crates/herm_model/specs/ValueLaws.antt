@@ -1,6 +1,6 @@
 -- What is proved of values, of their parts and of the names of their cells.
 use Rattle.std.specs.Prelude.{◌≡◌, ℕ, ◌+◌, List, [], ◌∷◌, ◌++◌, map, flat_map, Bool, not, ◌&&◌, Option, Some, is_some, option_map, length, IsTrue, IsFalse, ◌↔◌}
-use Rattle.herm_model.specs.Lists.{IsIn, weight, range, list_of}
+use Rattle.herm_model.specs.Lists.{IsIn, total, range, list_of}
 use Rattle.herm_model.specs.Paths.{Path, Fact, init, are_apart}
 use Rattle.herm_model.specs.Facts.{full_facts}
 use Rattle.herm_model.specs.Types.{TypeTable, held_parts, steps_within, is_within_depth, greatest_depth}
@@ -26,18 +26,18 @@ KeepsCellsAbove = (i : ℕ) (q : Path) (j : ℕ) (r : Path) (o : Option (Cell Na
 -- The names that are there and those of what was at the path weigh as much as those before and those of what was set.
 abbrev pub WeighsTheChange : Type 0
 WeighsTheChange = (w : Name → ℕ) (p : Path) (o : Option (Cell Name)) (ps : Parts Name) → IsTrue (has_place ps p) →
-    weight w (names_in (set_at p o ps)) + weight w (list_of names_of (cell_at p ps)) ≡ weight w (names_in ps) + weight w (list_of names_of o)
+    total w (names_in (set_at p o ps)) + total w (list_of names_of (cell_at p ps)) ≡ total w (names_in ps) + total w (list_of names_of o)
 
 -- A change through components changes what is read at the path, and the names weigh so much more or less as those of
 -- what is changed.
 pub record IsChangedThrough (j : ℕ) (p : Path) (f : Cell Name → Cell Name) (ps : Parts Name) : Type 0 where
   pub read : read_at (j ∷ p) (change_at (j ∷ p) f ps) ≡ option_map f (read_at (j ∷ p) ps)
-  pub names : (w : Name → ℕ) (a b : ℕ) → weight w (list_of names_of (option_map f (read_at (j ∷ p) ps))) + a ≡ weight w (list_of names_of (read_at (j ∷ p) ps)) + b →
-      weight w (names_in (change_at (j ∷ p) f ps)) + a ≡ weight w (names_in ps) + b
+  pub names : (w : Name → ℕ) (a b : ℕ) → total w (list_of names_of (option_map f (read_at (j ∷ p) ps))) + a ≡ total w (list_of names_of (read_at (j ∷ p) ps)) + b →
+      total w (names_in (change_at (j ∷ p) f ps)) + a ≡ total w (names_in ps) + b
 
 -- The names of a value are those that are finalised at once and those that wait.
 abbrev pub WeighsTheFinalised : Type 0
-WeighsTheFinalised = (w : Name → ℕ) (c : Cell Name) → weight w (names_of c) ≡ weight w (finalised c) + weight w (flat_map names_of (pending c))
+WeighsTheFinalised = (w : Name → ℕ) (c : Cell Name) → total w (names_of c) ≡ total w (finalised c) + total w (flat_map names_of (pending c))
 
 -- A copy is the same value, its names are those of the serials from the first on, and there are as many as cells.
 pub record IsCopy (name : ℕ → Name) (s : ℕ) (c : Cell Name) : Type 0 where

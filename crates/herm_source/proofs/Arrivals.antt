@@ -1,5 +1,5 @@
 -- The edges and beginnings of accepted processes keep their values sound.
-use Rattle.std.proofs.Common.{◌≡◌, ℕ, zero, suc, List, [], ◌∷◌, map, length, Bool, true, false, Some, None, refl, sym, ap, ◌∙◌, subst, arith}
+use Rattle.std.proofs.Common.{◌≡◌, ℕ, zero, suc, List, [], ◌∷◌, length, Bool, true, false, Some, None, refl, sym, ap, ◌∙◌, subst, arith}
 use Rattle.std.specs.Prelude.{pred, slice_get, IsTrue, is_some}
 use mathlib.Core.Bool.{false≢true}
 use Rattle.herm_model.specs.Paths.{Path, Fact, init, same_path}
@@ -10,10 +10,12 @@ use Rattle.herm_model.specs.Nodes.{Target, node, end, end_by, entry_of}
 use Rattle.herm_model.specs.Control.{flow_of, held_behind, held_at_start, IsReached, Leads}
 use Rattle.herm_model.specs.Refusals.{Labels, label_at, AreExact}
 use Rattle.herm_model.specs.FlowLaws.{goes_on}
-use Rattle.herm_model.specs.Values.{Cell, cell, Parts, no_parts, gaps, part, part_at, inside, has_value, kind_of, opens, HasExactly}
-use Rattle.herm_model.specs.Typed.{partly, a_value, exactly, Fits, HaveTypes}
+use Rattle.herm_model.specs.Values.{Cell, cell, Parts, no_parts, gaps, part, inside, has_value, kind_of, opens, HasExactly}
+use Rattle.herm_model.specs.Typed.{HaveTypes}
 use Rattle.herm_model.proofs.DifferentOutcomes.{process-EdgesDiffer}
 use Rattle.herm_model.proofs.Reached.{reached-IsLedTo, reached-led}
+use Rattle.herm_model.proofs.NothingThere.{nothing-there, nothing-in_gaps}
+use Rattle.herm_model.proofs.Typing.{gaps-typed}
 use Rattle.herm_source.specs.Bodies.{Name}
 use Rattle.herm_source.specs.Edges.{code_of}
 use Rattle.herm_source.specs.Arrival.{EdgesArrive, BeginningsAreSound}
@@ -35,16 +37,6 @@ edges-arrive types p labels formed exact deep i point e reached at member b soun
     (closed-at types p labels exact e.target there)
 
 -- the values of a process that begins
-nothing_in_gaps : (n i : ℕ) → part_at i (gaps {N = Name} n) ≡ None
-nothing_in_gaps zero i = refl
-nothing_in_gaps (suc n) zero = refl
-nothing_in_gaps (suc n) (suc i) = nothing_in_gaps n i
-
-nothing_below : (p : Path) → has_value (let none : Parts Name = no_parts in none) p ≡ false
-nothing_below [] = refl
-nothing_below (i ∷ []) = refl
-nothing_below (i ∷ j ∷ p) = nothing_below (j ∷ p)
-
 module _ (port : Cell Name) (plain : opens (kind_of port) ≡ false) (n : ℕ) where
   abbrev first : Parts Name
   first = part port (gaps n)
@@ -59,9 +51,9 @@ module _ (port : Cell Name) (plain : opens (kind_of port) ≡ false) (n : ℕ) w
   first_has : (p : Path) → has_value first p ≡ held_at_start (init p)
   first_has [] = refl
   first_has (zero ∷ []) = refl
-  first_has (suc i ∷ []) = ap is_some (nothing_in_gaps n i) ∙ sym (later_same i [] (Rattle.std.specs.Prelude.nat_eq (suc i) 0) refl)
-  first_has (zero ∷ j ∷ p) = ap (λ ps. has_value ps (j ∷ p)) (inside_port port plain) ∙ nothing_below (j ∷ p)
-  first_has (suc i ∷ j ∷ p) = ap (λ o. has_value (inside o) (j ∷ p)) (nothing_in_gaps n i) ∙ nothing_below (j ∷ p) ∙ sym (later_same i (j ∷ p) (Rattle.std.specs.Prelude.nat_eq (suc i) 0) refl)
+  first_has (suc i ∷ []) = nothing-in_gaps Name n (i ∷ []) ∙ sym (later_same i [] (Rattle.std.specs.Prelude.nat_eq (suc i) 0) refl)
+  first_has (zero ∷ j ∷ p) = ap (λ ps. has_value ps (j ∷ p)) (inside_port port plain) ∙ nothing-there Name (j ∷ p)
+  first_has (suc i ∷ j ∷ p) = nothing-in_gaps Name n (i ∷ j ∷ p) ∙ sym (later_same i (j ∷ p) (Rattle.std.specs.Prelude.nat_eq (suc i) 0) refl)
 
   first_exact : HasExactly first (λ f. IsTrue (held_at_start f))
   first_exact = record {
@@ -69,17 +61,13 @@ module _ (port : Cell Name) (plain : opens (kind_of port) ≡ false) (n : ℕ) w
     components = λ p c h. absurd (false≢true h);
   }
 
-gaps_typed : (types : TypeTable) (ts : List ℕ) → Fits types (exactly (map (a_value partly) ts)) (gaps {N = Name} (length ts))
-gaps_typed types [] = tt
-gaps_typed types (t ∷ ts) = (tt, gaps_typed types ts)
-
 pub beginnings-sound : BeginningsAreSound
 beginnings-sound types p labels exact deep t more are code number port typed plain =
     let c = code_of types p labels in
     let variables = first port plain (pred (length p.variables)) in
     let one_less : pred (length p.variables) ≡ length more = ap (λ (ts : List ℕ). pred (length ts)) are in
     let fits : HaveTypes types p.variables variables =
-    subst (λ ts. HaveTypes types ts variables) (sym are) (subst (λ n. HaveTypes types (t ∷ more) (part port (gaps n))) (sym one_less) (typed, gaps_typed types more)) in
+    subst (λ ts. HaveTypes types ts variables) (sym are) (subst (λ n. HaveTypes types (t ∷ more) (part port (gaps n))) (sym one_less) (typed, gaps-typed Name types more)) in
     let reached : IsReached (flow_of types p) (entry_of p) = ([], held_at_start (init (0 ∷ [])), refl) in
     edges-exact c (entry_of p)
     (record { number = number; variables = variables; loops = []; work = []; call = None; calls = 0; steps = 0; actions = 0; serial = 0; finalised = [] })

@@ -1,8 +1,10 @@
 -- Behind an edge the values have exactly the facts of its target.
-use Rattle.std.proofs.Common.{◌≡◌, ◌⊎◌, inl, inr, ℕ, zero, suc, List, [], ◌∷◌, ◌++◌, map, length, Bool, true, false, cond, not, ◌&&◌, ◌||◌, Option, Some, None, refl, sym, ap, ap₂, ◌∙◌, subst, arith, append_assoc}
+use Rattle.std.proofs.Common.{◌≡◌, ◌⊎◌, inl, inr, ℕ, zero, suc, List, [], ◌∷◌, ◌++◌, map, length, Bool, true, false, cond, not, ◌&&◌, Option, Some, None, refl, sym, ap, ap₂, ◌∙◌, subst, arith, append_assoc}
+use Rattle.std.proofs.lemmas.Bool.{or_parts}
 use Rattle.std.proofs.lemmas.List.{append-nil}
-use Rattle.std.specs.Prelude.{is_some, slice_get, IsTrue, ◌↔◌, filter}
+use Rattle.std.specs.Prelude.{is_some, slice_get, IsTrue, filter}
 use mathlib.Core.Bool.{true≢false, false≢true}
+use borrow.Author.Tests.{not-true}
 use Rattle.herm_model.specs.Lists.{IsIn, every, numbered}
 use Rattle.herm_model.specs.Paths.{Path, Fact, init, case, parent, is_at_or_below}
 use Rattle.herm_model.specs.Types.{TypeTable, part_of, is_variant, is_within_depth, greatest_depth, enters_component, passes_component, held_parts, steps, variable_paths}
@@ -12,25 +14,21 @@ use Rattle.herm_model.specs.Refusals.{label_at}
 use Rattle.herm_model.specs.Values.{Cell, cell, Parts, no_parts, gap, part, part_at, inside, opens, cell_at, has_value, read_at, set_part, set_at, change_part, change_inside, clear_at, HasExactly, is_component, tells}
 use Rattle.herm_model.specs.Typed.{partly, a_value, exactly, Fits, HasType, HaveTypes}
 use Rattle.herm_model.specs.Finalising.{is_left, excess_at, excess, clear_all}
-use Rattle.herm_model.proofs.Lists.{in-append_right, in-map, in-map_from, in-flat_map, in-flat_map_from, in-every, every-in}
+use Rattle.herm_model.proofs.Lists.{and-both, in-append_right, in-map, in-map_from, in-flat_map, in-flat_map_from, in-every, every-in}
 use Rattle.herm_model.proofs.Excess.{excess-top, top-excess}
 use Rattle.herm_model.proofs.Steps.{steps-lead}
+use Rattle.herm_model.proofs.Beginnings.{begins-with}
 use Rattle.herm_model.proofs.Prefixes.{to-longer}
 use Rattle.herm_source.specs.Bodies.{Name, Loop, Body, let_go_old, let_go_parts, cleared, drop_at, drop}
 use Rattle.herm_source.specs.Edges.{Code, keeps, keeps_loop, let_go_loops, arrive}
 use Rattle.herm_source.specs.Arrival.{AreDeep, EdgesAreExact}
 use Rattle.herm_source.proofs.TypedReading.{opening, typed-read, read-listed}
-use Rattle.herm_source.proofs.Dropped.{is_path_at, not-true, both-true, at_or_above, all_cleared-has, all_cleared-reads, proper_prefixes, topmost, top_of, from_topmost}
+use Rattle.herm_source.proofs.Dropped.{is_path_at, at_or_above, all_cleared-has, all_cleared-reads, proper_prefixes, topmost, top_of, from_topmost}
 
-or-false : (a b : Bool) → a || b ≡ false → (a ≡ false) × (b ≡ false)
-or-false true b h = absurd (true≢false h)
-or-false false b h = (refl, h)
-
--- the facts before a path that passes through no component
 from-direct : (table : TypeTable) (at : Path) (t : Option ℕ) (p : List ℕ) → enters_component table t p ≡ false → IsIn (init (at ++ p)) (facts_from table at t false p)
 from-direct table at t [] h = inl (ap init (append-nil at))
 from-direct table at t (i ∷ p) h =
-    let none = or-false (is_variant table t) (enters_component table (part_of table t i) p) h in
+    let none = or_parts (is_variant table t) (enters_component table (part_of table t i) p) h in
     let rest = from-direct table (at ++ i ∷ []) (part_of table t i) p none.1 in
     let same : (at ++ i ∷ []) ++ p ≡ at ++ i ∷ p = append_assoc at (i ∷ []) p in
     let within : IsIn (init (at ++ i ∷ p)) (facts_from table (at ++ i ∷ []) (part_of table t i) (is_variant table t) p) =
@@ -39,14 +37,6 @@ from-direct table at t (i ∷ p) h =
 
 to-direct : (table : TypeTable) (variables : List ℕ) (v : ℕ) (p : List ℕ) → passes_component table variables (v ∷ p) ≡ false → IsIn (init (v ∷ p)) (facts_to table variables (v ∷ p))
 to-direct table variables v p h = from-direct table (v ∷ []) (slice_get variables v) p h
-
--- a path above another one begins it
-pub begins-with : (q p : Path) → is_at_or_below q p ≡ true → (r : Path) × (p ≡ q ++ r)
-begins-with [] p h = (p, refl)
-begins-with (i ∷ q) [] h = absurd (false≢true h)
-begins-with (i ∷ q) (j ∷ p) h =
-    let both = both-true (Rattle.std.specs.Prelude.nat_eq i j) (is_at_or_below q p) h in
-    let r = begins-with q p both.1 in (r.0, ap₂ ◌∷◌ (sym (borrow.Author.Tests.eqb-true i j both.0)) r.1)
 
 pub parent-begins : (q p : Path) → IsIn q (proper_prefixes p) → (r : Path) × (parent p ≡ q ++ r)
 parent-begins q [] h = absurd h
@@ -112,10 +102,6 @@ module _ (types : TypeTable) (variables : List ℕ) (deep : (t : ℕ) → IsIn t
           not-true (is_left here kept (v ∷ r)) (every-in (λ q. not (is_left here kept q)) (v ∷ r) (proper_prefixes (v ∷ p)) none (subst (λ p. IsIn (v ∷ r) (proper_prefixes (v ∷ p))) (sym e) (begins-properly v r i more)))
 
 -- a test and its value
-test_or : (b : Bool) → (b ≡ true) ⊎ (b ≡ false)
-test_or true = inl refl
-test_or false = inr refl
-
 some-there : {X : Type 0} (o : Option X) → is_some o ≡ true → (x : X) × (o ≡ Some x)
 some-there None h = absurd (false≢true h)
 some-there (Some x) h = (x, refl)
@@ -146,7 +132,7 @@ module _ {N : Type 0} (c : Code) (t : Target) (ps : Parts N) (has : Fact → Boo
   lost-is : (q : Path) → IsIn q lost → (here q ≡ true) × (keeps c t q ≡ false)
   lost-is q h =
       let l = excess-left c.types c.variables deep here (keeps c t) q h in
-      let both = both-true (here q) (not (keeps c t q)) l in (both.0, not-true (keeps c t q) both.1)
+      let both = and-both (here q) (not (keeps c t q)) l in (both.0, not-true (keeps c t q) both.1)
 
   path-if : (q : Path) → here q ≡ true → is_path_at q ≡ true
   path-if [] h = absurd (false≢true h)
@@ -198,7 +184,7 @@ module _ {N : Type 0} (c : Code) (t : Target) (ps : Parts N) (has : Fact → Boo
   arrived-exact = record {
     values = λ p. (
       (λ h.
-          let both = both-true (here p) (every (λ q. not (is_at_or_below q p)) lost) (sym (all_cleared-has N lost p ps lost-paths) ∙ h) in
+          let both = and-both (here p) (every (λ q. not (is_at_or_below q p)) lost) (sym (all_cleared-has N lost p ps lost-paths) ∙ h) in
           stays-kept p both.0 both.1 (keeps c t p) refl),
       (λ label.
           let there = (exact.values p).1 (less (init p) label) in

@@ -18,13 +18,13 @@ use Rattle.herm_model.proofs.Prefixes.{full-closed}
 use Rattle.herm_model.proofs.Steps.{full-named, steps-listed}
 use Rattle.herm_model.proofs.Renaming.{rename-copy_from, copy_from-constant}
 use Rattle.herm_model.proofs.Typing.{IsOf-renamed, renamed-IsOf}
+use Rattle.herm_model.proofs.FullFacts.{full-leads}
 use Rattle.herm_source.specs.Evaluate.{Evaluated, gives, raises, no_value, evaluate}
 use Rattle.herm_source.specs.Bodies.{Name, Body, goes, stuck, put}
 use Rattle.herm_source.specs.Forms.{with_value, assign}
 use Rattle.herm_source.specs.Edges.{Code}
 use Rattle.herm_source.specs.Arrival.{AreSound, with_full, held_after, AssignmentsAreSound}
 use Rattle.herm_source.proofs.Arrived.{old-variables}
-use Rattle.herm_source.proofs.FullValues.{full-leads}
 use Rattle.herm_source.proofs.SetValues.{setting-sound}
 use Rattle.herm_source.proofs.PlainForms.{same_body, same_outcome_of, never, same_facts}
 
@@ -93,7 +93,7 @@ module _ (c : Code) (v t : ℕ) (there : slice_get c.variables v ≡ Some t) (de
   set-sound : (d : Cell Name) (b : Body Name) → AreSound c has b.variables → IsFull c.types t d → IsTrue (has_place b.variables (v ∷ []))
       → AreSound c (held_after c.types c.variables (Assign (v ∷ []) e) ok has) (put (v ∷ []) d b).variables
   set-sound d b sound whole' place =
-      let root = steps-listed full_parts c.types full-named greatest_depth t deep [] (full-leads Name c.types [] t d whole' refl) in
+      let root = steps-listed full_parts c.types full-named greatest_depth t deep [] (full-leads c.types [] t d whole' refl) in
       let set = setting-sound c has v [] t d b.variables sound place there deep whole' in
       let facts = same_facts c (with_full c t (v ∷ []) has) (held_after c.types c.variables (Assign (v ∷ []) e) ok has) (put_at (v ∷ []) d b.variables)
       (λ f. ap (λ a. a || (not (is_at_or_below (v ∷ []) (path_of f)) && has f)) (sym (same_test c.types c.variables v t there deep root (full c.types c.variables (v ∷ [])) (full-members c.types c.variables v t there) (full-whole c.types c.variables v t there) f))

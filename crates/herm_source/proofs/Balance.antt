@@ -6,7 +6,9 @@ use Rattle.herm_model.specs.Values.{has_place, Kind, Cell, cell, Parts, cell_at,
 use Rattle.herm_model.specs.Finalising.{finalised, finalised_in, pending, pending_in}
 use Rattle.herm_source.specs.Bodies.{Name, Body, Result, goes, stays, stuck, if_there, let_go, let_go_parts, let_go_old, let_go_all, end_name, end_cell, cleared, drop_at, drop, taking, put, putting, putting_all, Taken, with_taken, take_all, making, copying, copying_parts}
 use Rattle.herm_source.specs.Weights.{weigh, weigh_in, weigh_all, weigh_serials, kept, made}
-use Rattle.herm_source.proofs.Weights.{weigh_option, none≢some, weigh-set_at, weigh-clear_at, weigh-append, weigh_names-append, weigh-finalised, weigh-finalised_in, weigh-copy, weigh-copy_in, weigh_serials-add}
+use Rattle.herm_model.proofs.Lists.{total-append}
+use Rattle.herm_model.proofs.Options.{none-not_some}
+use Rattle.herm_source.proofs.Weights.{weigh_option, weigh-set_at, weigh-clear_at, weigh-finalised, weigh-finalised_in, weigh-copy, weigh-copy_in, weigh_serials-add}
 
 module _ {N : Type 0} (w : N → ℕ) (name : Name → N) where
   -- A body in balance with what was made and kept before: what it has made since is what it keeps more, with what it
@@ -25,10 +27,10 @@ module _ {N : Type 0} (w : N → ℕ) (name : Name → N) where
 
   module _ (m k : ℕ) where
     pub balanced-let_go : (h : ℕ) (c : Cell N) (b : Body N) → Balanced m k (h + weigh w c) b → Balanced m k h (let_go c b)
-    balanced-let_go h c b e = omega (arith, weigh-append w b.work (pending c), weigh_names-append w b.finalised (finalised c), weigh-finalised w c)
+    balanced-let_go h c b e = omega (arith, total-append (weigh w) b.work (pending c), total-append w b.finalised (finalised c), weigh-finalised w c)
 
     pub balanced-let_go_parts : (h : ℕ) (ps : Parts N) (b : Body N) → Balanced m k (h + weigh_in w ps) b → Balanced m k h (let_go_parts ps b)
-    balanced-let_go_parts h ps b e = omega (arith, weigh-append w b.work (pending_in ps), weigh_names-append w b.finalised (finalised_in ps), weigh-finalised_in w ps)
+    balanced-let_go_parts h ps b e = omega (arith, total-append (weigh w) b.work (pending_in ps), total-append w b.finalised (finalised_in ps), weigh-finalised_in w ps)
 
     pub balanced-let_go_old : (h : ℕ) (o : Option (Cell N)) (b : Body N) → Balanced m k (h + weigh_option w o) b → Balanced m k h (let_go_old o b)
     balanced-let_go_old h None b e = omega arith
@@ -39,7 +41,7 @@ module _ {N : Type 0} (w : N → ℕ) (name : Name → N) where
     balanced-let_go_all h (c ∷ cs) b e = balanced-let_go_all h cs (let_go c b) (balanced-let_go (h + weigh_all w cs) c b (omega arith))
 
     pub balanced-end_name : (h : ℕ) (n : N) (b : Body N) → Balanced m k (h + w n) b → Balanced m k h (end_name n b)
-    balanced-end_name h n b e = omega (arith, weigh_names-append w b.finalised (n ∷ []))
+    balanced-end_name h n b e = omega (arith, total-append w b.finalised (n ∷ []))
 
     pub balanced-end_cell : (h : ℕ) (c : Cell N) (b : Body N) → Balanced m k (h + weigh w c) b → Balanced m k h (end_cell c b)
     balanced-end_cell h (cell n kind ps) b e = balanced-let_go_parts h ps (end_name n b) (balanced-end_name (h + weigh_in w ps) n b (omega arith))
@@ -101,7 +103,7 @@ module _ {N : Type 0} (w : N → ℕ) (name : Name → N) where
     took_more : (h : ℕ) (c : Cell N) (o : Option (Taken N)) (t : Taken N)
         → ((t : Taken N) → o ≡ Some t → Balanced m k (h + weigh w c + weigh_all w t.cells) t.body)
         → with_taken c o ≡ Some t → Balanced m k (h + weigh_all w t.cells) t.body
-    took_more h c None t step is = absurd (none≢some is)
+    took_more h c None t step is = none-not_some is
     took_more h c (Some t') t step is =
         let same : record { cells = c ∷ t'.cells; body = t'.body } ≡ t = cc is in
         let e = step t' refl in rw (sym same) (omega arith)
@@ -109,7 +111,7 @@ module _ {N : Type 0} (w : N → ℕ) (name : Name → N) where
     took : (h : ℕ) (p : Path) (paths : List Path) (b : Body N) (o : Option (Cell N)) (t : Taken N) → cell_at p b.variables ≡ o
         → ((t : Taken N) → take_all paths (cleared p b) ≡ Some t → Balanced m k (h + weigh_option w o + weigh_all w t.cells) t.body)
         → elim o [ None ↦ None | Some c ↦ with_taken c (take_all paths (cleared p b)) ] ≡ Some t → Balanced m k (h + weigh_all w t.cells) t.body
-    took h p paths b None t there step is = absurd (none≢some is)
+    took h p paths b None t there step is = none-not_some is
     took h p paths b (Some c) t there step is = took_more h c (take_all paths (cleared p b)) t step is
 
     pub balanced-take_all : (h : ℕ) (paths : List Path) (b : Body N) (t : Taken N) → take_all paths b ≡ Some t → Balanced m k h b → Balanced m k (h + weigh_all w t.cells) t.body

@@ -11,21 +11,18 @@ use Rattle.herm_model.specs.Outcomes.{Outcome, ok, raised}
 use Rattle.herm_model.specs.Values.{a_scalar, a_record, a_variant, a_table, a_polymorph, a_callmessage, an_inport, an_outport, Cell, cell, Parts, no_parts, gap, part, cell_at, has_place, put_at, clear_at}
 use Rattle.herm_model.specs.Typed.{partly, unfit, layout, one_whole, Fits, HasType, IsFull}
 use Rattle.herm_model.proofs.Steps.{full-named, steps-listed}
+use Rattle.herm_model.proofs.FullFacts.{full-leads}
+use Rattle.herm_model.proofs.Options.{some-injective, none-not_some}
 use Rattle.herm_source.specs.Bodies.{Name, Body, goes, stuck, if_there, end_name, cleared, put}
 use Rattle.herm_source.specs.Forms.{Opened, component_in, content_of, moving_content}
 use Rattle.herm_source.specs.Edges.{Code}
 use Rattle.herm_source.specs.Arrival.{AreSound, without, with_full, held_after, ContentsAreSound}
-use Rattle.herm_source.proofs.Weights.{none≢some}
 use Rattle.herm_source.proofs.TypedReading.{typed-read}
 use Rattle.herm_source.proofs.Arrived.{old-variables}
-use Rattle.herm_source.proofs.FullValues.{full-leads}
 use Rattle.herm_source.proofs.SetValues.{setting-sound, clearing-sound}
 use Rattle.herm_source.proofs.PlainForms.{same_body, same_outcome_of, never, same_facts}
 use Rattle.herm_source.proofs.Assignments.{same_test, full-members, full-whole}
 use Rattle.herm_source.proofs.Moves.{moved-or}
-
-some-is : {X : Type 0} {x y : X} → Some x ≡ Some y → x ≡ y
-some-is e = cc e
 
 -- a cell of a known shape
 shaped : (types : TypeTable) (u : ℕ) (s : Shape) (n : Name) (k : Rattle.herm_model.specs.Values.Kind) (ps : Parts Name) → slice_get types u ≡ Some s → HasType types u (cell n k ps) → Fits types (layout partly s k) ps
@@ -41,8 +38,8 @@ component-full types u t k ts (cell n (a_variant m) (part content no_parts)) o s
         let found : slice_get ts m ≡ Some t = ap (slice_get ts) (sym (eqb-true k m e)) ∙ at in
         let fits = subst (λ (x : Option ℕ). Fits types (one_whole x) (part content no_parts)) found (shaped types u (cases ts) n (a_variant m) (part content no_parts) shape h) in
         subst (λ (o : Opened Name). IsFull types t o.content) same fits.0
-    by false e is = absurd (none≢some is)
-component-full types u t k ts d o shape at h is = absurd (none≢some is)
+    by false e is = none-not_some is
+component-full types u t k ts d o shape at h is = none-not_some is
 
 content-full : (types : TypeTable) (u t : ℕ) (d : Cell Name) (o : Opened Name) → slice_get types u ≡ Some polymorph → HasType types u d → content_of t d ≡ Some o → IsFull types t o.content
 content-full types u t (cell n (a_polymorph m) (part content no_parts)) o shape h is = by (nat_eq t m) refl is
@@ -52,8 +49,8 @@ content-full types u t (cell n (a_polymorph m) (part content no_parts)) o shape 
         let same : record { name = n; content = content } ≡ o = cc is in
         let fits = shaped types u polymorph n (a_polymorph m) (part content no_parts) shape h in
         subst (λ (o : Opened Name). IsFull types t o.content) same (subst (λ t. IsFull types t content) (sym (eqb-true t m e)) fits.0)
-    by false e is = absurd (none≢some is)
-content-full types u t d o shape h is = absurd (none≢some is)
+    by false e is = none-not_some is
+content-full types u t d o shape h is = none-not_some is
 
 module _ (c : Code) (i : ℕ) (q : List ℕ) (v t u : ℕ) (there : slice_get c.variables v ≡ Some t) (deep : IsTrue (is_within_depth greatest_depth c.types t)) (type : type_at c.types c.variables (i ∷ q) ≡ Some u) (form : Form)
     (has : Fact → Bool) (b : Body Name) (sound : AreSound c has b.variables)
@@ -61,7 +58,7 @@ module _ (c : Code) (i : ℕ) (q : List ℕ) (v t u : ℕ) (there : slice_get c.
   typed-there : (d : Cell Name) → cell_at (i ∷ q) b.variables ≡ Some d → HasType c.types u d
   typed-there d at =
       let r = typed-read Name c.types c.variables i q b.variables d sound.types at in
-      subst (λ t. HasType c.types t d) (some-is (sym (ap (λ o. type_below c.types o q) r.there ∙ r.below) ∙ type)) r.typed
+      subst (λ t. HasType c.types t d) (some-injective (sym (ap (λ o. type_below c.types o q) r.there ∙ r.below) ∙ type)) r.typed
 
   -- the content is set, and what held it is gone
   content-set : (o : Opened Name) → IsFull c.types t o.content → (x : Outcome) (b' : Body Name) → (p : Bool) → has_place (cleared (i ∷ q) b).variables (v ∷ []) ≡ p
@@ -70,7 +67,7 @@ module _ (c : Code) (i : ℕ) (q : List ℕ) (v t u : ℕ) (there : slice_get c.
   content-set o f x b' true place is =
       let d = o.content in
       let cut : Body Name = end_name o.name (cleared (i ∷ q) b) in
-      let root = steps-listed full_parts c.types full-named greatest_depth t deep [] (full-leads Name c.types [] t d f refl) in
+      let root = steps-listed full_parts c.types full-named greatest_depth t deep [] (full-leads c.types [] t d f refl) in
       let set = setting-sound c (without (i ∷ q) has) v [] t d cut.variables (clearing-sound c has i q b.variables sound) place there deep f in
       let facts = same_facts c (with_full c t (v ∷ []) (without (i ∷ q) has)) (held_after c.types c.variables form ok has) (put_at (v ∷ []) d cut.variables)
       (λ f. ap (λ a. a || (not (is_at_or_below (v ∷ []) (path_of f)) && (not (is_at_or_below (i ∷ q) (path_of f)) && has f)))

@@ -1,5 +1,7 @@
 -- Each process is what its diary says, where what comes in suits it.
-use Rattle.std.proofs.Common.{◌≡◌, ℕ, zero, suc, List, [], ◌∷◌, ◌++◌, map, Bool, true, false, cond, ◌&&◌, ◌||◌, ◌⊎◌, inl, inr, Option, Some, None, option_map, option_and_then, slice_get, slice_set, length, refl, sym, ap, ap₂, subst, ◌∙◌, arith, true≢false}
+use Rattle.std.proofs.Common.{◌≡◌, ℕ, zero, suc, List, [], ◌∷◌, ◌++◌, map, Bool, true, false, cond, ◌&&◌, ◌⊎◌, inl, inr, Option, Some, None, option_map, option_and_then, slice_get, slice_set, length, refl, sym, ap, ap₂, subst, ◌∙◌, arith, true≢false}
+use Rattle.std.proofs.lemmas.Bool.{eqb-true}
+use Rattle.std.proofs.Math.Bool.{or-false}
 use Rattle.std.specs.Prelude.{nat_eq, nat_lt, IsFalse}
 use Rattle.herm_model.specs.Lists.{IsIn, some_of, list_of}
 use Rattle.herm_model.specs.Values.{Cell, rename}
@@ -7,6 +9,7 @@ use Rattle.herm_model.specs.Texts.{text_of}
 use Rattle.herm_model.specs.Nodes.{Node}
 use Rattle.herm_model.proofs.Lists.{length-map}
 use Rattle.herm_model.proofs.Renaming.{text_of-rename}
+use Rattle.herm_model.proofs.Options.{some-injective, none-not_some, chain-some, map-some}
 use Rattle.herm_journal.specs.Actions.{values, raised, gone, new_port, new_process, to_put, to_take, to_close, to_answer, to_hear, make_port, make_process, put, take, close, answer, hear}
 use Rattle.herm_journal.specs.Places.{Limits, Book, after, first_of, Holding, a_port, replies, a_book, left_in}
 use Rattle.herm_journal.specs.Entries.{Text, Place, port, reply_cell, book, same_place, Entry, map_reply, texts_of, more_texts_of, recorded}
@@ -25,9 +28,9 @@ use Rattle.herm_source.proofs.SystemLedger.{process-some, processes-stay}
 use Rattle.herm_source.proofs.RoundsEnd.{get-past, made-book, other-within}
 use Rattle.herm_source.proofs.Histories.{get-set_from_one, get-other_from_one}
 use Rattle.herm_source.proofs.Numbers.{local-stays, answer-stays, begin-number}
-use Rattle.herm_source.proofs.Numbered.{set-found_from_one, more-found_from_one, same-number, step-numbered, opening-numbered}
+use Rattle.herm_source.proofs.Numbered.{set-found_from_one, more-found_from_one, step-numbered, opening-numbered}
 use Rattle.herm_source.proofs.RenamedSteps.{local_step-renamed, answered-renamed, wanted-renamed, begin-renamed}
-use Rattle.herm_source.proofs.Events.{some-injective, none-not_some, chain-some, map-some, filter-kept, filter-passed}
+use Rattle.herm_source.proofs.Events.{filter-kept, filter-passed}
 
 -- what is recorded does not depend on names
 texts-forget : (cs : List (Cell Name)) → more_texts_of (map (rename forget_name) cs) ≡ more_texts_of cs
@@ -152,11 +155,7 @@ stands-as : (test : Standing → Bool) (modules : Modules) (s : System) (p : ℕ
 stands-as test modules s p x c is is_code =
     ap (λ o. some_of test (list_of (λ y. y ∷ []) (option_and_then (λ state. option_and_then (λ code. Some (standing own_name code s.book.limits.steps (can s p) state)) (slice_get modules.codes state.code)) o))) is
     ∙ ap (λ o. some_of test (list_of (λ y. y ∷ []) (option_and_then (λ code. Some (standing own_name code s.book.limits.steps (can s p) x)) o))) is_code
-    ∙ or_false (test (standing own_name c s.book.limits.steps (can s p) x))
-  where
-    or_false : (b : Bool) → (b || false) ≡ b
-    or_false true = refl
-    or_false false = refl
+    ∙ or-false (test (standing own_name c s.book.limits.steps (can s p) x))
 
 not-local : (x : Standing) → is_acting x ≡ true → is_local x ≡ false
 not-local ended e = refl
@@ -356,7 +355,7 @@ module _ (modules : Modules) (limits : Limits) where
 
       by_test : (b : Bool) → nat_eq p q ≡ b → TellsOf q z c (journal ++ e ∷ [])
       by_test true same =
-          let at : p ≡ q = same-number p q same in
+          let at : p ≡ q = eqb-true p q same in
           let mine = get-set_from_one (set_holding place h s).processes p x y (ap (numbered_from_one p) stay ∙ is) in
           found-tells p q x y z d c (journal ++ e ∷ []) is_c told code is_code at (some-injective (sym mine ∙ ap (λ i. numbered_from_one i (set_process p y (set_holding place h s)).processes) at ∙ found))
       by_test false differs =
@@ -367,7 +366,7 @@ module _ (modules : Modules) (limits : Limits) where
   absent-part s p q x journal e k by is none = by_test (nat_eq p q) refl
     where
       by_test : (b : Bool) → nat_eq p q ≡ b → part_of_process q (journal ++ e ∷ []) ≡ []
-      by_test true same = none-not_some (sym none ∙ sym (ap (λ i. numbered_from_one i s.processes) (same-number p q same)) ∙ is)
+      by_test true same = none-not_some (sym none ∙ sym (ap (λ i. numbered_from_one i s.processes) (eqb-true p q same)) ∙ is)
       by_test false differs = filter-passed (λ (f : Entry). nat_eq f.process q) journal e (ap (λ i. nat_eq i q) by ∙ differs) ∙ k.absent q none
 
   pub unmoved-absent : (s : System) (place : Place) (h : Holding (Cell Name) (CellReply Name)) (p q : ℕ) (y : State Name) → numbered_from_one q (set_process p y (set_holding place h s)).processes ≡ None → numbered_from_one q s.processes ≡ None

@@ -1,26 +1,18 @@
 -- What is left of typed variables where the topmost of what is not kept is dropped.
-use Rattle.std.proofs.Common.{◌≡◌, ◌≢◌, ◌⊎◌, inl, inr, ℕ, zero, suc, ◌<◌, ◌≤◌, List, [], ◌∷◌, map, length, Bool, true, false, cond, not, ◌&&◌, Option, Some, None, option_map, refl, sym, ap, ap₂, ◌∙◌, subst, arith}
+use Rattle.std.proofs.Common.{◌≡◌, ◌≢◌, ◌⊎◌, inl, inr, ℕ, zero, suc, ◌<◌, ◌≤◌, List, [], ◌∷◌, map, length, Bool, true, false, not, ◌&&◌, Option, Some, None, option_map, refl, sym, ap, ap₂, ◌∙◌, subst, arith}
+use Rattle.std.proofs.Math.Bool.{and-true, and-false, and_assoc}
 use Rattle.std.specs.Prelude.{nat_eq, is_some, IsTrue, filter}
 use mathlib.Core.Bool.{true≢false, false≢true}
-use borrow.Author.Tests.{eqb-true, eq-eqb}
+use borrow.Author.Tests.{not-true, eqb-true, eq-eqb}
 use Rattle.herm_model.specs.Lists.{IsIn, every}
 use Rattle.herm_model.specs.Paths.{Path, is_at_or_below}
 use Rattle.herm_model.specs.Values.{a_scalar, a_record, a_variant, a_table, a_polymorph, a_callmessage, an_inport, an_outport, Cell, cell, Parts, no_parts, gap, part, part_at, inside, has_value, set_part, set_at, change_inside, clear_at, read_at, readable_of, is_component}
 use Rattle.herm_model.specs.Finalising.{is_left, clear_all}
-use Rattle.herm_model.proofs.Lists.{and-both, in-map, in-map_from}
-use Rattle.herm_model.proofs.Places.{part_at-set_other, part_at-change_same, part_at-change_other, set_at-none, inside-change}
-
-pub not-true : (b : Bool) → not b ≡ true → b ≡ false
-not-true true e = absurd (false≢true e)
-not-true false e = refl
-
-and-true : (b : Bool) → b ≡ b && true
-and-true true = refl
-and-true false = refl
-
-and-false : (b : Bool) → b && false ≡ false
-and-false true = refl
-and-false false = refl
+use Rattle.herm_model.proofs.Lists.{and-both, in-map, in-map_from, in-filter, in-filter_from}
+use Rattle.herm_model.proofs.Options.{is_some-map}
+use Rattle.herm_model.proofs.Beginnings.{below-self, below-trans}
+use Rattle.herm_model.proofs.Places.{cell_below, cell-below, read_below, read-below, part_at-set_other, part_at-change_same, part_at-change_other, set_at-none, inside-change}
+use Rattle.herm_model.proofs.NothingThere.{nothing-there}
 
 same_test : (i k : ℕ) → nat_eq i k ≡ false → i ≢ k
 same_test i k e s = true≢false (sym (eq-eqb i k s) ∙ e)
@@ -30,11 +22,6 @@ is_path_at [] = false
 is_path_at (i ∷ q) = true
 
 module _ (N : Type 0) where
-  nothing_in : (p : Path) → has_value (let none : Parts N = no_parts in none) p ≡ false
-  nothing_in [] = refl
-  nothing_in (i ∷ []) = refl
-  nothing_in (i ∷ j ∷ p) = nothing_in (j ∷ p)
-
   cleared_part : (i : ℕ) (ps : Parts N) → part_at i (set_part i None ps) ≡ None
   cleared_part i no_parts = refl
   cleared_part zero (gap ps) = refl
@@ -44,20 +31,14 @@ module _ (N : Type 0) where
 
   -- a value at a path, by the cell at its first step
   abbrev value_at : Path → Option (Cell N) → Bool
-  value_at [] o = is_some o
-  value_at (j ∷ r) o = has_value (inside o) (j ∷ r)
+  value_at r o = is_some (cell_below r o)
 
   value_by : (k : ℕ) (r : Path) (ps : Parts N) → has_value ps (k ∷ r) ≡ value_at r (part_at k ps)
-  value_by k [] ps = refl
-  value_by k (j ∷ r) ps = refl
+  value_by k r ps = ap is_some (cell-below k r ps)
 
   none_at : (r : Path) → value_at r None ≡ false
   none_at [] = refl
-  none_at (j ∷ r) = nothing_in (j ∷ r)
-
-  is_some-changed : (g : Cell N → Cell N) (o : Option (Cell N)) → is_some (option_map g o) ≡ is_some o
-  is_some-changed g None = refl
-  is_some-changed g (Some c) = refl
+  none_at (j ∷ r) = nothing-there N (j ∷ r)
 
   set-other : (i : ℕ) (q : Path) (k : ℕ) (o : Option (Cell N)) (ps : Parts N) → i ≢ k → part_at k (set_at (i ∷ q) o ps) ≡ part_at k ps
   set-other i [] k o ps d = part_at-set_other i k o ps d
@@ -69,7 +50,7 @@ module _ (N : Type 0) where
   same-on : (i j : ℕ) (q r : Path) (ps : Parts N) → ((p : Path) (qs : Parts N) → has_value (set_at (j ∷ q) None qs) p ≡ has_value qs p && not (is_at_or_below (j ∷ q) p))
       → has_value (set_at (i ∷ j ∷ q) None ps) (i ∷ r) ≡ has_value ps (i ∷ r) && not (is_at_or_below (j ∷ q) r)
   same-on i j q [] ps again =
-      ap is_some (part_at-change_same i (change_inside (set_at (j ∷ q) None)) ps) ∙ is_some-changed (change_inside (set_at (j ∷ q) None)) (part_at i ps) ∙ and-true (is_some (part_at i ps))
+      ap is_some (part_at-change_same i (change_inside (set_at (j ∷ q) None)) ps) ∙ is_some-map (change_inside (set_at (j ∷ q) None)) (part_at i ps) ∙ sym (and-true (is_some (part_at i ps)))
   same-on i j q (s ∷ r) ps again =
       ap (λ o. has_value (inside o) (s ∷ r)) (part_at-change_same i (change_inside (set_at (j ∷ q) None)) ps)
       ∙ ap (λ qs. has_value qs (s ∷ r)) (inside-change (set_at (j ∷ q) None) (part_at i ps) (set_at-none (j ∷ q) None))
@@ -79,7 +60,7 @@ module _ (N : Type 0) where
       → (b : Bool) → nat_eq i k ≡ b → has_value (set_at (i ∷ q) None ps) (k ∷ r) ≡ has_value ps (k ∷ r) && not (b && is_at_or_below q r)
   by-step i q k r ps same true e = subst (λ k. has_value (set_at (i ∷ q) None ps) (k ∷ r) ≡ has_value ps (k ∷ r) && not (is_at_or_below q r)) (eqb-true i k e) same
   by-step i q k r ps same false e =
-      value_by k r (set_at (i ∷ q) None ps) ∙ ap (value_at r) (set-other i q k None ps (same_test i k e)) ∙ sym (value_by k r ps) ∙ and-true (has_value ps (k ∷ r))
+      value_by k r (set_at (i ∷ q) None ps) ∙ ap (value_at r) (set-other i q k None ps (same_test i k e)) ∙ sym (value_by k r ps) ∙ sym (and-true (has_value ps (k ∷ r)))
 
   -- what is cleared is gone, with what is below it, and nothing else is
   pub cleared-has : (q : Path) (i : ℕ) (p : Path) (ps : Parts N) → has_value (set_at (i ∷ q) None ps) p ≡ has_value ps p && not (is_at_or_below (i ∷ q) p)
@@ -87,27 +68,15 @@ module _ (N : Type 0) where
   cleared-has [] i (k ∷ r) ps = by-step i [] k r ps (same-end i r ps) (nat_eq i k) refl
   cleared-has (j ∷ q) i (k ∷ r) ps = by-step i (j ∷ q) k r ps (same-on i j q r ps (cleared-has q j)) (nat_eq i k) refl
 
-  and-swap : (a b c : Bool) → (a && b) && c ≡ a && (b && c)
-  and-swap true b c = refl
-  and-swap false b c = refl
-
   pub all_cleared-has : (lost : List Path) (p : Path) (ps : Parts N) → IsTrue (every is_path_at lost) → has_value (clear_all lost ps) p ≡ has_value ps p && every (λ q. not (is_at_or_below q p)) lost
-  all_cleared-has [] p ps h = and-true (has_value ps p)
+  all_cleared-has [] p ps h = sym (and-true (has_value ps p))
   all_cleared-has ([] ∷ lost) p ps h = absurd (false≢true h)
   all_cleared-has ((i ∷ q) ∷ lost) p ps h =
       all_cleared-has lost p (clear_at (i ∷ q) ps) h
       ∙ ap (λ b. b && every (λ q. not (is_at_or_below q p)) lost) (cleared-has q i p ps)
-      ∙ and-swap (has_value ps p) (not (is_at_or_below (i ∷ q) p)) (every (λ q. not (is_at_or_below q p)) lost)
+      ∙ and_assoc (has_value ps p) (not (is_at_or_below (i ∷ q) p)) (every (λ q. not (is_at_or_below q p)) lost)
 
   -- the kind of what is read elsewhere stays
-  abbrev read_from : Path → Option (Cell N) → Option (Cell N)
-  read_from [] o = o
-  read_from (j ∷ r) o = read_at (j ∷ r) (readable_of o)
-
-  read_by : (k : ℕ) (r : Path) (ps : Parts N) → read_at (k ∷ r) ps ≡ read_from r (part_at k ps)
-  read_by k [] ps = refl
-  read_by k (j ∷ r) ps = refl
-
   component-changed : (h : Parts N → Parts N) (o : Option (Cell N)) (c : ℕ) → is_component (option_map (change_inside h) o) c ≡ is_component o c
   component-changed h None c = refl
   component-changed h (Some (cell n (a_variant d) qs)) c = refl
@@ -135,7 +104,7 @@ module _ (N : Type 0) where
       → (b : Bool) → nat_eq i k ≡ b → b && is_at_or_below q r ≡ false → is_component (read_at (k ∷ r) (set_at (i ∷ q) o ps)) c ≡ is_component (read_at (k ∷ r) ps) c
   read-step i q k r c o ps same true e h = subst (λ k. is_component (read_at (k ∷ r) (set_at (i ∷ q) o ps)) c ≡ is_component (read_at (k ∷ r) ps) c) (eqb-true i k e) (same h)
   read-step i q k r c o ps same false e h =
-      ap (λ x. is_component x c) (read_by k r (set_at (i ∷ q) o ps) ∙ ap (read_from r) (set-other i q k o ps (same_test i k e)) ∙ sym (read_by k r ps))
+      ap (λ x. is_component x c) (read-below k r (set_at (i ∷ q) o ps) ∙ ap (read_below r) (set-other i q k o ps (same_test i k e)) ∙ sym (read-below k r ps))
 
   read-on : (i j : ℕ) (q r : Path) (c : ℕ) (o : Option (Cell N)) (ps : Parts N) → ((p : Path) (qs : Parts N) → is_at_or_below (j ∷ q) p ≡ false → is_component (read_at p (set_at (j ∷ q) o qs)) c ≡ is_component (read_at p qs) c)
       → is_at_or_below (j ∷ q) r ≡ false → is_component (read_at (i ∷ r) (set_at (i ∷ j ∷ q) o ps)) c ≡ is_component (read_at (i ∷ r) ps) c
@@ -158,7 +127,7 @@ module _ (N : Type 0) where
 
   has-on : (i j : ℕ) (q r : Path) (o : Option (Cell N)) (ps : Parts N) → ((p : Path) (qs : Parts N) → is_at_or_below (j ∷ q) p ≡ false → has_value (set_at (j ∷ q) o qs) p ≡ has_value qs p)
       → is_at_or_below (j ∷ q) r ≡ false → has_value (set_at (i ∷ j ∷ q) o ps) (i ∷ r) ≡ has_value ps (i ∷ r)
-  has-on i j q [] o ps again h = ap is_some (part_at-change_same i (change_inside (set_at (j ∷ q) o)) ps) ∙ is_some-changed (change_inside (set_at (j ∷ q) o)) (part_at i ps)
+  has-on i j q [] o ps again h = ap is_some (part_at-change_same i (change_inside (set_at (j ∷ q) o)) ps) ∙ is_some-map (change_inside (set_at (j ∷ q) o)) (part_at i ps)
   has-on i j q (s ∷ r) o ps again h =
       ap (λ x. has_value (inside x) (s ∷ r)) (part_at-change_same i (change_inside (set_at (j ∷ q) o)) ps)
       ∙ ap (λ qs. has_value qs (s ∷ r)) (inside-change (set_at (j ∷ q) o) (part_at i ps) (set_at-none (j ∷ q) o))
@@ -187,35 +156,17 @@ proper_prefixes (i ∷ j ∷ p) = (i ∷ []) ∷ map (i ∷◌) (proper_prefixes
 abbrev pub topmost : (here kept : Path → Bool) → List Path → List Path
 topmost here kept paths = filter (λ p. is_left here kept p && every (λ q. not (is_left here kept q)) (proper_prefixes p)) paths
 
--- beginnings of a path
-pub below-self : (p : Path) → is_at_or_below p p ≡ true
-below-self [] = refl
-below-self (i ∷ p) = ap₂ ◌&&◌ (eq-eqb i i refl) (below-self p)
-
-pub both-true : (a b : Bool) → a && b ≡ true → (a ≡ true) × (b ≡ true)
-both-true true b e = (refl, e)
-both-true false b e = absurd (false≢true e)
-
-pub below-trans : (p q r : Path) → is_at_or_below p q ≡ true → is_at_or_below q r ≡ true → is_at_or_below p r ≡ true
-below-trans [] q r h k = refl
-below-trans (i ∷ p) [] r h k = absurd (false≢true h)
-below-trans (i ∷ p) (j ∷ q) [] h k = absurd (false≢true k)
-below-trans (i ∷ p) (j ∷ q) (l ∷ r) h k =
-    let a = both-true (nat_eq i j) (is_at_or_below p q) h in
-    let b = both-true (nat_eq j l) (is_at_or_below q r) k in
-    ap₂ ◌&&◌ (eq-eqb i l (eqb-true i j a.0 ∙ eqb-true j l b.0)) (below-trans p q r a.1 b.1)
-
 longer-above : (i j k l : ℕ) (q p : Path) → i ≡ j → (k ∷ q ≡ l ∷ p) ⊎ IsIn (k ∷ q) (proper_prefixes (l ∷ p)) → (i ∷ k ∷ q ≡ j ∷ l ∷ p) ⊎ IsIn (i ∷ k ∷ q) (proper_prefixes (j ∷ l ∷ p))
 longer-above i j k l q p e (inl s) = inl (ap₂ ◌∷◌ e s)
 longer-above i j k l q p e (inr s) = inr (inr (subst (λ i'. IsIn (i ∷ k ∷ q) (map (i' ∷◌) (proper_prefixes (l ∷ p)))) e (in-map (i ∷◌) (k ∷ q) (proper_prefixes (l ∷ p)) s)))
 
 -- a path at or above another is a proper prefix of it, or it
 pub at_or_above : (q p : Path) (i j : ℕ) → is_at_or_below (i ∷ q) (j ∷ p) ≡ true → (i ∷ q ≡ j ∷ p) ⊎ IsIn (i ∷ q) (proper_prefixes (j ∷ p))
-at_or_above [] [] i j h = inl (ap (λ i. i ∷ []) (eqb-true i j (both-true (nat_eq i j) true h).0))
-at_or_above [] (l ∷ p) i j h = inr (inl (ap (λ i. i ∷ []) (eqb-true i j (both-true (nat_eq i j) true h).0)))
-at_or_above (k ∷ q) [] i j h = absurd (false≢true (both-true (nat_eq i j) false h).1)
+at_or_above [] [] i j h = inl (ap (λ i. i ∷ []) (eqb-true i j (and-both (nat_eq i j) true h).0))
+at_or_above [] (l ∷ p) i j h = inr (inl (ap (λ i. i ∷ []) (eqb-true i j (and-both (nat_eq i j) true h).0)))
+at_or_above (k ∷ q) [] i j h = absurd (false≢true (and-both (nat_eq i j) false h).1)
 at_or_above (k ∷ q) (l ∷ p) i j h =
-    let both = both-true (nat_eq i j) (is_at_or_below (k ∷ q) (l ∷ p)) h in
+    let both = and-both (nat_eq i j) (is_at_or_below (k ∷ q) (l ∷ p)) h in
     longer-above i j k l q p (eqb-true i j both.0) (at_or_above q p k l both.1)
 
 -- a proper prefix is above, and shorter
@@ -227,25 +178,6 @@ prefix-shorter q (i ∷ j ∷ p) (inr h) =
     let x = in-map_from (i ∷◌) q (proper_prefixes (j ∷ p)) h in
     let r = prefix-shorter x.0 (j ∷ p) x.1 in
     subst (λ q. (length q < length (i ∷ j ∷ p)) × (is_at_or_below q (i ∷ j ∷ p) ≡ true) × IsTrue (is_path_at q)) (sym x.2) (omega arith, ap₂ ◌&&◌ (eq-eqb i i refl) r.1, refl)
-
-in-filter_if : (test : Path → Bool) (p q : Path) (more : List Path) (ps : List Path) → test p ≡ true → (IsIn p ps → IsIn p more) → (b : Bool) → test q ≡ b → IsIn p (q ∷ ps) → IsIn p (cond b (q ∷ more) more)
-in-filter_if test p q more ps e on true t (inl s) = inl s
-in-filter_if test p q more ps e on true t (inr h) = inr (on h)
-in-filter_if test p q more ps e on false t (inl s) = absurd (true≢false (sym e ∙ ap test s ∙ t))
-in-filter_if test p q more ps e on false t (inr h) = on h
-
-in-filter : (test : Path → Bool) (p : Path) (ps : List Path) → test p ≡ true → IsIn p ps → IsIn p (filter test ps)
-in-filter test p [] e h = h
-in-filter test p (q ∷ ps) e h = in-filter_if test p q (filter test ps) ps e (in-filter test p ps e) (test q) refl h
-
-from-filter_if : (test : Path → Bool) (p q : Path) (more : List Path) (ps : List Path) → (IsIn p more → (test p ≡ true) × IsIn p ps) → (b : Bool) → test q ≡ b → IsIn p (cond b (q ∷ more) more) → (test p ≡ true) × IsIn p (q ∷ ps)
-from-filter_if test p q more ps on true t (inl s) = (ap test s ∙ t, inl s)
-from-filter_if test p q more ps on true t (inr h) = let r = on h in (r.0, inr r.1)
-from-filter_if test p q more ps on false t h = let r = on h in (r.0, inr r.1)
-
-from-filter : (test : Path → Bool) (p : Path) (ps : List Path) → IsIn p (filter test ps) → (test p ≡ true) × IsIn p ps
-from-filter test p [] h = absurd h
-from-filter test p (q ∷ ps) h = from-filter_if test p q (filter test ps) ps (from-filter test p ps) (test q) refl h
 
 some_if : (test : Path → Bool) (q : Path) (qs : List Path) → ((every (λ q. not (test q)) qs ≡ true) ⊎ ((x : Path) × IsIn x qs × (test x ≡ true))) → (b : Bool) → test q ≡ b
     → (not b && every (λ q. not (test q)) qs ≡ true) ⊎ ((x : Path) × IsIn x (q ∷ qs) × (test x ≡ true))
@@ -264,7 +196,7 @@ module _ (here kept : Path → Bool) (paths : List Path) (listed : (q : Path) �
       → ((q : Path) → length q < length p → is_left here kept q ≡ true → (t : Path) × IsIn t (topmost here kept paths) × (is_at_or_below t q ≡ true))
       → (t : Path) × IsIn t (topmost here kept paths) × (is_at_or_below t p ≡ true)
   top_from n p short h (inl none) on =
-      (p, in-filter (λ p. is_left here kept p && every (λ q. not (is_left here kept q)) (proper_prefixes p)) p paths (ap₂ ◌&&◌ h none) (listed p (both-true (here p) (not (kept p)) h).0), below-self p)
+      (p, in-filter (λ p. is_left here kept p && every (λ q. not (is_left here kept q)) (proper_prefixes p)) p paths (listed p (and-both (here p) (not (kept p)) h).0) (ap₂ ◌&&◌ h none), below-self p)
   top_from n p short h (inr x) on =
       let s = prefix-shorter x.0 p x.1 in
       let t = on x.0 s.0 x.2 in (t.0, t.1, below-trans t.0 x.0 p t.2 s.1)
@@ -275,6 +207,6 @@ module _ (here kept : Path → Bool) (paths : List Path) (listed : (q : Path) �
 
   pub from_topmost : (t : Path) → IsIn t (topmost here kept paths) → (is_left here kept t ≡ true) × (every (λ q. not (is_left here kept q)) (proper_prefixes t) ≡ true) × IsIn t paths
   from_topmost t h =
-      let r = from-filter (λ p. is_left here kept p && every (λ q. not (is_left here kept q)) (proper_prefixes p)) t paths h in
-      let both = both-true (is_left here kept t) (every (λ q. not (is_left here kept q)) (proper_prefixes t)) r.0 in
-      (both.0, both.1, r.1)
+      let r = in-filter_from (λ p. is_left here kept p && every (λ q. not (is_left here kept q)) (proper_prefixes p)) t paths h in
+      let both = and-both (is_left here kept t) (every (λ q. not (is_left here kept q)) (proper_prefixes t)) r.1 in
+      (both.0, both.1, r.0)

@@ -1,5 +1,5 @@
 -- Rounds are runs, and runs are stamped.
-use Rattle.std.proofs.Common.{◌≡◌, ℕ, zero, suc, List, [], ◌∷◌, ◌++◌, map, filter, Bool, true, false, cond, Option, Some, None, option_map, option_and_then, refl, sym, ap, subst, ◌∙◌, append_assoc, true≢false, is_some, append-nil}
+use Rattle.std.proofs.Common.{◌≡◌, ℕ, zero, suc, List, [], ◌∷◌, ◌++◌, map, filter, Bool, true, false, cond, Option, Some, None, option_map, option_and_then, refl, sym, ap, subst, ◌∙◌, append_assoc, append-nil}
 use Rattle.herm_model.proofs.Lists.{length-map}
 use Rattle.herm_model.proofs.Renaming.{map-append}
 use Rattle.herm_journal.specs.Actions.{Want, new_port, new_process, to_put, to_take, to_close, to_answer, to_hear, Action, make_port, make_process, put, take, close, answer, hear}
@@ -10,26 +10,7 @@ use Rattle.herm_source.specs.Exchanges.{CellAction}
 use Rattle.herm_source.specs.Bodies.{Name}
 use Rattle.herm_source.specs.Systems.{Modules, Event, steps, acts, Moved, Run, run, run_on, step, with_entry, start, done_at}
 use Rattle.herm_source.specs.Rounds.{Round, rounds, one_round, turns, turn, after_turn}
-
--- options
-abbrev or_else : {X : Type 0} → X → Option X → X
-or_else d None = d
-or_else d (Some x) = x
-
-pub some-injective : {X : Type 0} {x y : X} → Some x ≡ Some y → x ≡ y
-some-injective {x = x} e = ap (or_else x) e
-
-pub none-not_some : {A X : Type 0} {x : X} → None ≡ Some x → A
-none-not_some e = absurd (true≢false (sym (ap is_some e)))
-
--- the value behind a chain
-pub chain-some : {X Y : Type 0} (f : X → Option Y) (o : Option X) (y : Y) → option_and_then f o ≡ Some y → (x : X) × (o ≡ Some x) × (f x ≡ Some y)
-chain-some f None y e = none-not_some e
-chain-some f (Some x) y e = (x, refl, e)
-
-pub map-some : {X Y : Type 0} (f : X → Y) (o : Option X) (y : Y) → option_map f o ≡ Some y → (x : X) × (o ≡ Some x) × (f x ≡ y)
-map-some f None y e = none-not_some e
-map-some f (Some x) y e = (x, refl, some-injective e)
+pub use Rattle.herm_model.proofs.Options.{some-injective, none-not_some, chain-some, map-some}
 
 -- what a filter keeps of a list with one more
 pub filter-kept : {X : Type 0} (test : X → Bool) (xs : List X) (x : X) → test x ≡ true → filter test (xs ++ x ∷ []) ≡ filter test xs ++ x ∷ []
@@ -108,7 +89,8 @@ module _ {M N R S : Type 0} (f : M → N) (g : R → S) where
 abbrev IsRunBetween : Modules → Run → Run → Type 0
 IsRunBetween modules r t = (events : List Event) × (run modules events r ≡ Some t)
 
-run-joined : (modules : Modules) (before rest : List Event) (r t : Run) → run modules before r ≡ Some t → run modules (before ++ rest) r ≡ run modules rest t
+-- a run goes on
+pub run-joined : (modules : Modules) (before rest : List Event) (r t : Run) → run modules before r ≡ Some t → run modules (before ++ rest) r ≡ run modules rest t
 run-joined modules [] rest r t e = ap (run modules rest) (some-injective e)
 run-joined modules (x ∷ before) rest r t e =
     let b = chain-some (run modules before) (run_on modules x r) t e

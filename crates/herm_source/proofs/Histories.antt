@@ -1,9 +1,11 @@
 -- The part of a run's journal at a place is a legal history, and tells what the place holds.
 use Rattle.std.proofs.Common.{◌≡◌, ℕ, zero, suc, max, ◌<◌, ◌≤◌, List, [], ◌∷◌, ◌++◌, Bool, true, false, cond, ◌⊎◌, inl, inr, Some, None, option_map, slice_get, slice_set, length, refl, sym, ap, subst, ◌∙◌, arith, true≢false}
+use Rattle.std.proofs.lemmas.Bool.{eqb-true}
 use Rattle.std.specs.Prelude.{nat_eq}
 use Rattle.std.proofs.lemmas.Bool.Decides.{nat_tests}
 use Rattle.herm_model.specs.Values.{Cell}
 use Rattle.herm_model.specs.Texts.{text_of}
+use Rattle.herm_model.proofs.Options.{some-injective, none-not_some, chain-some, map-some}
 use Rattle.herm_journal.specs.Actions.{make_port, make_process, put, take, close, answer, hear}
 use Rattle.herm_journal.specs.Places.{Limits, empty_port, port_with, Holding, a_port, replies, a_book, Fits, after}
 use Rattle.herm_journal.specs.Entries.{Text, Place, port, reply_cell, book, same_place, Entry, map_reply, texts_of, recorded, told}
@@ -11,8 +13,8 @@ use Rattle.herm_journal.specs.Journals.{part_of_place, last_stamp, clock_of_plac
 use Rattle.herm_source.specs.Bodies.{Name, Body}
 use Rattle.herm_source.specs.Exchanges.{CellReply, CellAction}
 use Rattle.herm_source.specs.States.{State, wanted, local_step, answered}
-use Rattle.herm_source.proofs.Numbered.{same-number, more-length, lengths-stay}
-use Rattle.herm_source.proofs.Events.{some-injective, none-not_some, chain-some, map-some, filter-kept, filter-passed, done-fits, fits-map, after-map}
+use Rattle.herm_source.proofs.Numbered.{more-length, lengths-stay}
+use Rattle.herm_source.proofs.Events.{filter-kept, filter-passed, done-fits, fits-map, after-map}
 use Rattle.herm_source.proofs.SystemLedger.{cond-some, process-some, port-stays, replies-stay, book-stays}
 use Rattle.herm_source.specs.Systems.{Modules, System, Moved, Event, steps, acts, Run, run, run_on, step, start, opening, first_message, own_name, done_at, holding_at, set_holding, numbered_from_one, set_from_one, with_made, set_process, with_entry, local_event, act_at, action_event, behind_action, number_of}
 
@@ -24,8 +26,8 @@ other-suc i j e = grind (arith, nat_tests)
 
 -- the test of places is equality
 pub place-same : (s t : Place) → same_place s t ≡ true → s ≡ t
-place-same (port m) (port n) e = ap port (same-number m n e)
-place-same (reply_cell m) (reply_cell n) e = ap reply_cell (same-number m n e)
+place-same (port m) (port n) e = ap port (eqb-true m n e)
+place-same (reply_cell m) (reply_cell n) e = ap reply_cell (eqb-true m n e)
 place-same book book e = refl
 place-same (port m) (reply_cell n) e = absurd (true≢false (sym e))
 place-same (port m) book e = absurd (true≢false (sym e))

@@ -6,12 +6,12 @@ use Rattle.herm_model.specs.Types.{Mode, by_in, by_inout, by_out}
 use Rattle.herm_model.specs.Outcomes.{Outcome, ok, arm, depletion, disconnected}
 use Rattle.herm_model.specs.Outcomes
 use Rattle.herm_model.specs.Values.{a_callmessage, an_inport, an_outport, Cell, cell, Parts, no_parts, gap, part, cell_at, count_in, copy_in}
+use Rattle.herm_model.proofs.Options.{none-not_some}
 use Rattle.herm_journal.specs.Actions.{values, raised, gone, new_process, make_port, make_process, put, take, close, answer, hear}
 use Rattle.herm_source.specs.Bodies.{Name, Body, goes, stuck, let_go_all, end_cell, cleared, drop, putting, Taken, take_all}
 use Rattle.herm_source.specs.Exchanges
 use Rattle.herm_source.specs.Exchanges.{CellReply, CellWant, CellAction, born, place_of_port, ports_at, receive_at, assemble, Composed, with_message, compose, hear_reply, hear_call, give_back, outport_at, caller_of}
 use Rattle.herm_source.specs.Weights.{weigh, weigh_in, weigh_all, weigh_reply, made, gone_out, come_in}
-use Rattle.herm_source.proofs.Weights.{none≢some}
 use Rattle.herm_source.proofs.Balance.{Balanced, AllBalanced, balanced-let_go_all, balanced-end_cell, balanced-drop, balanced-if_there, balanced-cond, balanced-putting, balanced-putting_all, balanced-taking, balanced-made, balanced-making, balanced-copied_parts, balanced-take_all}
 
 module _ {N : Type 0} (w : N → ℕ) (name : Name → N) (m k : ℕ) where
@@ -81,7 +81,7 @@ module _ {N : Type 0} (w : N → ℕ) (name : Name → N) (m k : ℕ) where
   -- the parameters of a callmessage
   mapped : (f : Parts N → Parts N) (x : ℕ) (o : Option (Parts N)) (ps : Parts N) → ((qs : Parts N) → weigh_in w (f qs) ≡ x + weigh_in w qs) → option_map f o ≡ Some ps
       → (qs : Parts N) × (o ≡ Some qs) × (weigh_in w ps ≡ x + weigh_in w qs)
-  mapped f x None ps more is = absurd (none≢some is)
+  mapped f x None ps more is = none-not_some is
   mapped f x (Some qs) ps more is = (qs, refl, let same : f qs ≡ ps = cc is in rw (sym same) (more qs))
 
   weigh-assemble : (modes : List Mode) (copies : Parts N) (moved : List (Cell N)) (ps : Parts N) → assemble modes copies moved ≡ Some ps → weigh_in w ps ≡ weigh_in w copies + weigh_all w moved
@@ -92,13 +92,13 @@ module _ {N : Type 0} (w : N → ℕ) (name : Name → N) (m k : ℕ) where
       let r = mapped (part c) (weigh w c) (assemble modes copies moved) ps (λ qs. refl) is in omega (arith, weigh-assemble modes copies moved r.0 r.1, r.2)
   weigh-assemble (by_out ∷ modes) copies moved ps is =
       let r = mapped gap 0 (assemble modes copies moved) ps (λ qs. omega arith) is in omega (arith, weigh-assemble modes copies moved r.0 r.1, r.2)
-  weigh-assemble _ _ _ ps is = absurd (none≢some is)
+  weigh-assemble _ _ _ ps is = none-not_some is
 
   -- the callmessage of a call
   with_parts_of : (h : ℕ) (modes : List Mode) (copies : Parts N) (t : Taken N) (o : Option (Parts N)) (c : Composed N) → assemble modes copies t.cells ≡ o
       → Balanced w name m k (h + weigh_in w copies + weigh_all w t.cells) t.body → option_map (with_message name t.body) o ≡ Some c
       → Balanced w name m k (h + weigh w c.message) c.body
-  with_parts_of h modes copies t None c parts e is = absurd (none≢some is)
+  with_parts_of h modes copies t None c parts e is = none-not_some is
   with_parts_of h modes copies t (Some ps) c parts e is =
       let same : with_message name t.body ps ≡ c = cc is in
       rw (sym same) (
@@ -108,7 +108,7 @@ module _ {N : Type 0} (w : N → ℕ) (name : Name → N) (m k : ℕ) where
       → Balanced w name m k (h + weigh_in w copies) b
       → option_and_then (λ taken. option_map (with_message name taken.body) (assemble modes copies taken.cells)) o ≡ Some c
       → Balanced w name m k (h + weigh w c.message) c.body
-  with_taken_of h modes copies moved b None c taken e is = absurd (none≢some is)
+  with_taken_of h modes copies moved b None c taken e is = none-not_some is
   with_taken_of h modes copies moved b (Some t) c taken e is =
       with_parts_of h modes copies t (assemble modes copies t.cells) c refl (balanced-take_all w name m k (h + weigh_in w copies) moved b t taken e) is
 
@@ -124,7 +124,7 @@ module _ {N : Type 0} (w : N → ℕ) (name : Name → N) (m k : ℕ) where
       → ((c : Composed N) → composed ≡ Some c → Balanced w name m k (come_in w action + weigh w c.message) c.body)
       → option_map (λ c. c.message) composed ≡ Some message
       → AllBalanced w name m k (weigh w message) (Exchanges.call composed outs action)
-  kept-call outs action b None message made is = absurd (none≢some is)
+  kept-call outs action b None message made is = none-not_some is
   kept-call outs (put (Some n) back) b (Some c) message made is = let same : c.message ≡ message = cc is in rw (sym same) (let e = made c refl in omega arith)
   kept-call outs (put None back) b (Some c) message made is =
       let same : c.message ≡ message = cc is in
@@ -134,7 +134,7 @@ module _ {N : Type 0} (w : N → ℕ) (name : Name → N) (m k : ℕ) where
   -- what is given back of a callmessage
   pub kept-return : (source : Path) (action : CellAction N) (taken : Option (Taken N)) (t : Taken N) → taken ≡ Some t → Balanced w name m k (come_in w action + weigh_all w t.cells) t.body
       → AllBalanced w name m k (weigh_all w t.cells) (Exchanges.return taken source action)
-  kept-return source action None t is e = absurd (none≢some is)
+  kept-return source action None t is e = none-not_some is
   kept-return source (answer n r) (Some t') t is e =
       let same : t' ≡ t = cc is in
       rw same (balanced-taking w name m k (weigh_all w t.cells) (weigh_all w t.cells) source (λ c b. goes ok (end_cell c b)) t.body (omega arith)

@@ -8,13 +8,14 @@ use Rattle.herm_model.specs.Outcomes.{Outcome, ok, turn, raised, depletion, poly
 use Rattle.herm_model.specs.Values.{Scalar, a_boolean, Kind, a_scalar, a_record, a_variant, a_table, a_polymorph, an_outport, Cell, cell, Parts, no_parts, gap, gaps, part, part_at, size, parts_of, cell_at, read_at, is_component, polymorph_depth, Value}
 use Rattle.herm_model.specs.Tables.{has_key, key_of, place_of_key, without_part}
 use Rattle.herm_model.specs.Typed.{greatest_rows, greatest_polymorph}
+use Rattle.herm_model.proofs.Options.{none-not_some}
 use Rattle.herm_source.specs.Evaluate.{Evaluated, gives, raises, no_value}
 use Rattle.herm_source.specs.Bodies.{Name, Body, Result, goes, if_there, let_go, end_name, cleared, drop, reading, putting, making, copying, copying_parts}
 use Rattle.herm_source.specs.Forms
-use Rattle.herm_source.specs.Forms.{Opened, component_in, content_of, moving, moving_content, component_of, change_read, change_rows, with_parts, add_row, finding, rows_for, set_rows, next_row, inport_number, tested, with_value}
+use Rattle.herm_source.specs.Forms.{Opened, component_in, content_of, moving, moving_content, component_of, change_rows, with_parts, add_row, finding, rows_for, set_rows, next_row, inport_number, tested, with_value}
 use Rattle.herm_source.specs.States.{new_value}
 use Rattle.herm_source.specs.Weights.{weigh, weigh_in}
-use Rattle.herm_source.proofs.Weights.{none≢some, weigh-change_read, weigh-joined, weigh-without_part, weigh-gaps, weigh-set_rows}
+use Rattle.herm_source.proofs.Weights.{weigh-change_at, weigh-joined, weigh-without_part, weigh-gaps, weigh-set_rows}
 use Rattle.herm_source.proofs.Balance.{Balanced, AllBalanced, balanced-let_go, balanced-end_name, balanced-cleared, balanced-drop, balanced-if_there, balanced-cond, balanced-putting, balanced-taking, balanced-making, balanced-copying, balanced-copying_parts}
 
 module _ {N : Type 0} (w : N → ℕ) (name : Name → N) (m k : ℕ) where
@@ -58,15 +59,15 @@ module _ {N : Type 0} (w : N → ℕ) (name : Name → N) (m k : ℕ) where
   weigh-opened : (b : Bool) (n : N) (content : Cell N) (o : Opened N) → cond b (Some (record { name = n; content = content })) None ≡ Some o
       → w n + (weigh w content + 0) ≡ w o.name + weigh w o.content
   weigh-opened true n content o h = let same : record { name = n; content = content } ≡ o = cc h in rw (sym same) (omega arith)
-  weigh-opened false n content o h = absurd (none≢some h)
+  weigh-opened false n content o h = none-not_some h
 
   weigh-component : (c : ℕ) (v : Cell N) (o : Opened N) → component_in c v ≡ Some o → weigh w v ≡ w o.name + weigh w o.content
   weigh-component c (cell n (a_variant d) (part content no_parts)) o h = weigh-opened (nat_eq c d) n content o h
-  weigh-component c v o h = absurd (none≢some h)
+  weigh-component c v o h = none-not_some h
 
   weigh-content : (t : ℕ) (v : Cell N) (o : Opened N) → content_of t v ≡ Some o → weigh w v ≡ w o.name + weigh w o.content
   weigh-content t (cell n (a_polymorph u) (part content no_parts)) o h = weigh-opened (nat_eq t u) n content o h
-  weigh-content t v o h = absurd (none≢some h)
+  weigh-content t v o h = none-not_some h
 
   balanced-moving_content : (y : Path) (o : Opened N) (b : Body N) → Balanced w name m k (w o.name + weigh w o.content) b → AllBalanced w name m k 0 (moving_content y o b)
   balanced-moving_content y o b e =
@@ -117,7 +118,7 @@ module _ {N : Type 0} (w : N → ℕ) (name : Name → N) (m k : ℕ) where
   -- a change of the rows of a table that is there
   balanced-change_rows : (h g : ℕ) (t : Path) (f : Parts N → Parts N) (table : Cell N) (b : Body N) → read_at t b.variables ≡ Some table
       → h + weigh_in w (parts_of table) ≡ g + weigh_in w (f (parts_of table)) → Balanced w name m k h b → Balanced w name m k g (change_rows t f b)
-  balanced-change_rows h g t f table b there more e = omega (arith, weigh-change_read w t (with_parts f) table b.variables there, weigh-with_parts f table)
+  balanced-change_rows h g t f table b there more e = omega (arith, weigh-change_at w t (with_parts f) table b.variables there, weigh-with_parts f table)
 
   pub kept-insert : (key : List ℕ) (lost : List Path) (r t : Path) (b : Body N) → Balanced w name m k 0 b → AllBalanced w name m k 0 (Forms.insert key lost r t b)
   kept-insert key lost r t b e =
@@ -179,9 +180,6 @@ module _ {N : Type 0} (w : N → ℕ) (name : Name → N) (m k : ℕ) where
       balanced-putting w name m k 0 r turn row (record b { loops = set_rows s left b.loops })
       (omega (arith, weigh-set_rows w s left (part row left) b.loops there))
 
-  nat_eq-self : (s : ℕ) → nat_eq s s ≡ true
-  nat_eq-self s = eq-eqb s s refl
-
   visit_from : (s : ℕ) (r t : Path) (b : Body N) (o : Option (Parts N)) → rows_for s b.loops ≡ o → Balanced w name m k 0 b
       → AllBalanced w name m k 0 (elim o [
         | None ↦ reading t (λ table. copying_parts name (parts_of table) (λ rows b. next_row s r rows (record b { loops = record { statement = s; rows = rows } ∷ b.loops })) b) b
@@ -194,7 +192,7 @@ module _ {N : Type 0} (w : N → ℕ) (name : Name → N) (m k : ℕ) where
       (read_at t b.variables)
       (λ table is. balanced-copying_parts w name m k 0 0 (parts_of table) (λ rows b. next_row s r rows (record b { loops = record { statement = s; rows = rows } ∷ b.loops })) b e
       (λ qs b' e'. balanced-next_row s r qs (record b' { loops = record { statement = s; rows = qs } ∷ b'.loops })
-      (ap (λ (t : Bool). cond t (Some qs) (rows_for s b'.loops)) (nat_eq-self s)) (omega arith)))
+      (ap (λ (t : Bool). cond t (Some qs) (rows_for s b'.loops)) (eq-eqb s s refl)) (omega arith)))
 
   pub kept-visit : (s : ℕ) (r t : Path) (b : Body N) → Balanced w name m k 0 b → AllBalanced w name m k 0 (Forms.visit name s r t b)
   kept-visit s r t b e = visit_from s r t b (rows_for s b.loops) refl e

@@ -11,6 +11,7 @@ use Rattle.herm_model.specs.StatementTable.{set_by_call}
 use Rattle.herm_model.specs.Nodes.{Target, Node}
 use Rattle.herm_model.specs.Finalising.{excess}
 use Rattle.herm_model.specs.Values.{a_callmessage, an_inport, Cell, cell, Parts, gaps, part, has_value, cell_at}
+use Rattle.herm_model.proofs.Options.{some-injective, none-not_some, chain-some, map-some}
 use Rattle.herm_source.specs.Evaluate.{evaluate, key_values}
 use Rattle.herm_journal.specs.Actions.{values, raised, to_put, to_take, to_answer}
 use Rattle.herm_source.specs.Bodies.{Name, Loop, Body, Result, goes, stays, stuck, let_go_parts, drop, Taken, take_all, counted_step, counted_action}
@@ -21,7 +22,7 @@ use Rattle.herm_source.specs.Edges.{Code, arrive, keeps, keeps_loop, let_go_loop
 use Rattle.herm_source.specs.States.{State, Next, an_item, a_reply, a_statement, nothing, node_at, call_or_statement, item_or, next_of, is_action, key_at, act, arguments_at, is_inout, is_out, inputs_of, composed, kept_at, left_at, given_back, given_at, given_by, wants, settle, settle_reply, leads_to, behind, wanted_next, step_next, settle_next}
 use Rattle.herm_source.specs.Weights.{weigh, weigh_in, weigh_all, weigh_loops, weigh_reply, kept, made, gone_out, come_in}
 use Rattle.herm_source.specs.Kept.{EdgesKeep, BeginningsKeep, LocalStepsKeep, AnswersKeep}
-use Rattle.herm_source.proofs.Weights.{none≢some, weigh-gaps}
+use Rattle.herm_source.proofs.Weights.{weigh-gaps}
 use Rattle.herm_source.proofs.Balance.{Balanced, AllBalanced, balanced-let_go_parts, balanced-drop, balanced-if_there, balanced-take_all}
 use Rattle.herm_source.proofs.KeptLocal.{balanced-with_value, kept-assign, kept-move, kept-new_value, kept-discard, kept-unite, kept-dissolve, kept-reveal, kept-choose, kept-wrap, kept-unwrap, kept-insert, kept-remove, kept-get, kept-visit, kept-connect, kept-tested}
 use Rattle.herm_source.proofs.KeptActions.{kept-new_inport, kept-send, kept-receive, kept-select, kept-work_done, kept-hear_call, kept-create, balanced-compose, kept-call, kept-return}
@@ -85,43 +86,32 @@ module _ {N : Type 0} (w : N → ℕ) (name : Name → N) (m k : ℕ) where
   -- the state behind a result
   arrived : (h : ℕ) (c : Code) (s : State N) (b : Body N) (o : Option Target) (t : State N) → Balanced w name m k h b
       → option_map (λ t. record { code = s.code; point = t; body = arrive c t b }) o ≡ Some t → Balanced w name m k h t.body
-  arrived h c s b None t e is = absurd (none≢some is)
+  arrived h c s b None t e is = none-not_some is
   arrived h c s b (Some p) t e is =
       let same : record { code = s.code; point = p; body = arrive c p b } ≡ t = cc is in rw (sym same) (balanced-arrive h c p b e)
 
   balanced-behind : (h : ℕ) (c : Code) (s : State N) (n : Option Node) (r : Result N) (t : State N) → AllBalanced w name m k h r → behind c s n r ≡ Some t → Balanced w name m k h t.body
   balanced-behind h c s n (goes o b) t e is = arrived h c s b (option_and_then (λ n. leads_to c n o) n) t e is
   balanced-behind h c s n (stays b) t e is = let same : record s { body = b } ≡ t = cc is in rw (sym same) e
-  balanced-behind h c s n stuck t e is = absurd (none≢some is)
+  balanced-behind h c s n stuck t e is = none-not_some is
 
   step_or_not : (c : Code) (s t : State N) (n : Node) (b : Bool) → Balanced w name m k 0 s.body
       → cond b None (behind c s (Some n) (act name c n.number n.form (counted_step s.body))) ≡ Some t → Balanced w name m k 0 t.body
-  step_or_not c s t n true e is = absurd (none≢some is)
+  step_or_not c s t n true e is = none-not_some is
   step_or_not c s t n false e is = balanced-behind 0 c s (Some n) (act name c n.number n.form (counted_step s.body)) t (kept-act c n.number n.form (counted_step s.body) e) is
 
   balanced-step_next : (c : Code) (s t : State N) (next : Next N) → Balanced w name m k 0 s.body → step_next name c s next ≡ Some t → Balanced w name m k 0 t.body
   balanced-step_next c s t (a_statement n) e is = step_or_not c s t n (is_action c n.form) e is
-  balanced-step_next c s t _ e is = absurd (none≢some is)
+  balanced-step_next c s t _ e is = none-not_some is
 
 -- what is wanted, taken apart
-mapped_some : {X Y : Type 0} (f : X → Y) (o : Option X) (y : Y) → option_map f o ≡ Some y → (x : X) × (o ≡ Some x) × (f x ≡ y)
-mapped_some f None y is = absurd (none≢some is)
-mapped_some f (Some x) y is = (x, refl, cc is)
-
-and_then_some : {X Y : Type 0} (f : X → Option Y) (o : Option X) (y : Y) → option_and_then f o ≡ Some y → (x : X) × (o ≡ Some x) × (f x ≡ Some y)
-and_then_some f None y is = absurd (none≢some is)
-and_then_some f (Some x) y is = (x, refl, is)
-
-some_same : {X : Type 0} {x y : X} → Some x ≡ Some y → x ≡ y
-some_same e = cc e
-
 module _ {N : Type 0} (w : N → ℕ) (name : Name → N) (m k steps actions : ℕ) where
   settle-send : (c : Code) (x o : Path) (want : CellWant N) (action : CellAction N) (b : Body N) → Exchanges.send_wants (beyond_declared c o x b) x o b ≡ Some want
       → Balanced w name m k (come_in w action) b → AllBalanced w name m k (gone_out w name b want action) (Exchanges.send (beyond_declared c o x b) x action (recount steps actions b))
   settle-send c x o want action b is e =
       let lost = beyond_declared c o x b in
-      let r = and_then_some (λ port. option_map (to_put port) (cell_at x (drop lost b).variables)) (Exchanges.outport_at o b) want is in
-      let q = mapped_some (to_put r.0) (cell_at x (drop lost b).variables) want r.2 in
+      let r = chain-some (λ port. option_map (to_put port) (cell_at x (drop lost b).variables)) (Exchanges.outport_at o b) want is in
+      let q = map-some (to_put r.0) (cell_at x (drop lost b).variables) want r.2 in
       let there : cell_at x (drop lost (recount steps actions b)).variables ≡ Some q.0 = ap (λ (b : Body N). cell_at x b.variables) (recount-drop steps actions lost b) ∙ q.1 in
       rw (sym q.2) (kept-send w name m k lost x q.0 action (recount steps actions b) there e)
 
@@ -131,7 +121,7 @@ module _ {N : Type 0} (w : N → ℕ) (name : Name → N) (m k steps actions : �
       let modes = map (λ (p : Parameter). p.mode) (call_parameters c.types c.variables o) in
       let moved = arguments_at c is_inout o arguments in
       let lost = flat_map (λ (p : Path). beyond_full c p b) moved in
-      let r = and_then_some (λ inputs. compose name modes inputs lost moved b) (inputs_of (call_parameters c.types c.variables o) arguments b.variables) x is in
+      let r = chain-some (λ inputs. compose name modes inputs lost moved b) (inputs_of (call_parameters c.types c.variables o) arguments b.variables) x is in
       balanced-compose w name m k h modes r.0 lost moved b x r.2 e
 
   recounted : (c : Code) (o : Path) (arguments : List Atom) (b : Body N) (inputs : Option (Parts ⊤))
@@ -152,8 +142,8 @@ module _ {N : Type 0} (w : N → ℕ) (name : Name → N) (m k steps actions : �
       → Balanced w name m k (come_in w action) b
       → AllBalanced w name m k (gone_out w name b want action) (Exchanges.call (composed name c o arguments (recount steps actions b)) (arguments_at c is_out o arguments) action)
   settle-call c o arguments want action b is e =
-      let r = and_then_some (λ port. option_map (λ (x : Composed N). to_put port x.message) (composed name c o arguments b)) (Exchanges.outport_at o b) want is in
-      let q = mapped_some (λ (x : Composed N). to_put r.0 x.message) (composed name c o arguments b) want r.2 in
+      let r = chain-some (λ port. option_map (λ (x : Composed N). to_put port x.message) (composed name c o arguments b)) (Exchanges.outport_at o b) want is in
+      let q = map-some (λ (x : Composed N). to_put r.0 x.message) (composed name c o arguments b) want r.2 in
       rw (sym q.2) (kept-call w name m k (arguments_at c is_out o arguments) action b (composed name c o arguments (recount steps actions b)) q.0.message
       (λ x is. made-composed c o arguments (come_in w action) (recount steps actions b) x is e)
       (ap (option_map (λ (x : Composed N). x.message)) (recount-composed c o arguments b ∙ ap (option_map (recount_composed steps actions)) q.1)))
@@ -164,8 +154,8 @@ module _ {N : Type 0} (w : N → ℕ) (name : Name → N) (m k steps actions : �
       → AllBalanced w name m k (gone_out w name b want action) (Exchanges.return (given_back c given (recount steps actions b)) source action)
   settle-return c given reply weighs source want action b is e =
       let lost = flat_map (λ (p : Path). beyond_full c p b) given in
-      let r = and_then_some (λ (to : ℕ × ℕ). option_map (λ (t : Taken N). to_answer to.0 to.1 (reply t.cells)) (given_back c given b)) (option_and_then Exchanges.caller_of (cell_at source b.variables)) want is in
-      let q = mapped_some (λ (t : Taken N). to_answer r.0.0 r.0.1 (reply t.cells)) (given_back c given b) want r.2 in
+      let r = chain-some (λ (to : ℕ × ℕ). option_map (λ (t : Taken N). to_answer to.0 to.1 (reply t.cells)) (given_back c given b)) (option_and_then Exchanges.caller_of (cell_at source b.variables)) want is in
+      let q = map-some (λ (t : Taken N). to_answer r.0.0 r.0.1 (reply t.cells)) (given_back c given b) want r.2 in
       let again : take_all given (drop lost (recount steps actions b)) ≡ Some (recount_taken steps actions q.0)
       = ap (take_all given) (recount-drop steps actions lost b) ∙ recount-take_all steps actions given (drop lost b) ∙ ap (option_map (recount_taken steps actions)) q.1 in
       rw (sym q.2) (rw (weighs q.0.cells) (kept-return w name m k source action (given_back c given (recount steps actions b)) (recount_taken steps actions q.0) again
@@ -174,25 +164,25 @@ module _ {N : Type 0} (w : N → ℕ) (name : Name → N) (m k steps actions : �
 
   kept-settle : (c : Code) (form : Form) (want : CellWant N) (at : ℕ) (action : CellAction N) (b : Body N) → wants name c form b ≡ Some want
       → Balanced w name m k (come_in w action) b → AllBalanced w name m k (gone_out w name b want action) (settle name c form at action (recount steps actions b))
-  kept-settle c (New x) want at action b is e = rw (sym (some_same is)) (kept-new_inport w name m k x action (recount steps actions b) e)
+  kept-settle c (New x) want at action b is e = rw (sym (some-injective is)) (kept-new_inport w name m k x action (recount steps actions b) e)
   kept-settle c (Send x o) want at action b is e = settle-send c x o want action b is e
   kept-settle c (Receive x i) want at action b is e =
-      let r = mapped_some (λ port. to_take (port ∷ [])) (Exchanges.inport_at i b) want is in
+      let r = map-some (λ port. to_take (port ∷ [])) (Exchanges.inport_at i b) want is in
       rw (sym r.2) (kept-receive w name m k x action (recount steps actions b) e)
   kept-settle c (Select arms) want at action b is e =
       let ports = map (λ (a : Arm). a.port) arms in
-      let r = mapped_some to_take (Exchanges.ports_at ports b) want is in
+      let r = map-some to_take (Exchanges.ports_at ports b) want is in
       rw (sym r.2) (kept-select w name m k (map (λ (a : Arm). a.target) arms) ports at action (recount steps actions b) e)
   kept-settle c (Call o arguments) want at action b is e = settle-call c o arguments want action b is e
   kept-settle c (Return x) want at action b is e = settle-return c (given_at c x) values (λ cs. refl) x want action b is e
   kept-settle c (ReturnBy x ex) want at action b is e = settle-return c (given_by c x ex) (raised ex) (λ cs. refl) x want action b is e
-  kept-settle c (Create o process) want at action b is e = rw (sym (some_same is)) (kept-create w name m k o action (recount steps actions b) process e)
+  kept-settle c (Create o process) want at action b is e = rw (sym (some-injective is)) (kept-create w name m k o action (recount steps actions b) process e)
   kept-settle c _ want at action b is e = tt
 
   settle-statement : (c : Code) (s : State N) (n : Node) (want : CellWant N) (at : ℕ) (action : CellAction N) (b : Bool) → cond b (wants name c n.form s.body) None ≡ Some want
       → Balanced w name m k (come_in w action) s.body → AllBalanced w name m k (gone_out w name s.body want action) (settle name c n.form at action (recount steps actions s.body))
   settle-statement c s n want at action true is e = kept-settle c n.form want at action s.body is e
-  settle-statement c s n want at action false is e = absurd (none≢some is)
+  settle-statement c s n want at action false is e = none-not_some is
 
   settle-reply : (c : Code) (form : Form) (call : ℕ) (action : CellAction N) (b : Body N) → Balanced w name m k (come_in w action) b
       → AllBalanced w name m k 0 (settle_reply c form call action b)
@@ -217,9 +207,9 @@ front-is (c ∷ list) call n item work is = cc is
 module _ {N : Type 0} (w : N → ℕ) (name : Name → N) where
   -- nothing goes out with an item of the work list
   item-goes : (item : Cell N) (b : Body N) (want : CellWant N) (action : CellAction N) → Exchanges.work_wants item ≡ Some want → gone_out w name b want action ≡ 0
-  item-goes (cell n (an_inport port) ps) b want action is = rw (sym (some_same is)) refl
-  item-goes (cell n (a_callmessage caller call) ps) b want action is = rw (sym (some_same is)) refl
-  item-goes (cell n k ps) b want action is = absurd (none≢some is)
+  item-goes (cell n (an_inport port) ps) b want action is = rw (sym (some-injective is)) refl
+  item-goes (cell n (a_callmessage caller call) ps) b want action is = rw (sym (some-injective is)) refl
+  item-goes (cell n k ps) b want action is = none-not_some is
 
   settle-item : (c : Code) (s t : State N) (want : CellWant N) (action : CellAction N) (item : Cell N) (work : List (Cell N)) → s.body.work ≡ item ∷ work → Exchanges.work_wants item ≡ Some want
       → behind c s None (Exchanges.work_done item action (counted_action (record (s.body) { work = work }))) ≡ Some t
@@ -240,13 +230,13 @@ module _ {N : Type 0} (w : N → ℕ) (name : Name → N) where
   balanced-settle_next c s t want at action (a_reply call n) is wants' is' =
       let m = made w name s.body in
       let k = kept w s.body + come_in w action in
-      rw (sym (some_same wants')) (balanced-behind w name m k 0 c s (Some n) (settle_reply c n.form call action (counted_action s.body)) t (settle-reply w name m k 0 0 c n.form call action (counted_action s.body) (omega arith)) is')
+      rw (sym (some-injective wants')) (balanced-behind w name m k 0 c s (Some n) (settle_reply c n.form call action (counted_action s.body)) t (settle-reply w name m k 0 0 c n.form call action (counted_action s.body) (omega arith)) is')
   balanced-settle_next c s t want at action (a_statement n) is wants' is' =
       let m = made w name s.body in
       let k = kept w s.body + come_in w action in
       balanced-behind w name m k (gone_out w name s.body want action) c s (Some n) (settle name c n.form at action (counted_action (counted_step s.body))) t
       (settle-statement w name m k (suc s.body.steps) (suc s.body.actions) c s n want at action (is_action c n.form) wants' (omega arith)) is'
-  balanced-settle_next c s t want at action nothing is wants' is' = absurd (none≢some is')
+  balanced-settle_next c s t want at action nothing is wants' is' = none-not_some is'
 
 pub edges-keep : EdgesKeep
 edges-keep w name c t b = let e = balanced-arrive w name (made w name b) (kept w b) 0 c t b (omega arith) in omega arith

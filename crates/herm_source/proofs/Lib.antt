@@ -20,7 +20,6 @@ pub mod Dropped
 pub mod Arrived
 pub mod HeldLabels
 pub mod Arrivals
-pub mod FullValues
 pub mod Ordered
 pub mod RunsOrdered
 pub mod SetValues
@@ -32,4 +31,3 @@ pub mod AsBefore
 pub mod NewValues
 pub mod Moves
 pub mod Contents
-pub mod Hops

@@ -14,15 +14,14 @@ use Rattle.herm_model.specs.Typed.{IsFull}
 use Rattle.herm_model.specs.Finalising.{excess, clear_all}
 use Rattle.herm_model.specs.Calls.{inport_at}
 use Rattle.herm_model.proofs.Lists.{in-map_from}
+use Rattle.herm_model.proofs.Beginnings.{below-self, above-longer, below-trans}
 use Rattle.herm_model.proofs.Steps.{full-named, steps-listed}
+use Rattle.herm_model.proofs.FullFacts.{full-leads}
 use Rattle.herm_source.specs.Bodies.{Name, Body, Result, goes, stuck, if_there, cleared, drop, putting}
 use Rattle.herm_source.specs.Bodies
 use Rattle.herm_source.specs.Edges.{Code, below, beyond_declared}
 use Rattle.herm_source.specs.Arrival.{AreSound, without, with_full, held_after, ReceivesAreSound, SendsAreSound}
-use Rattle.herm_source.proofs.Dropped.{below-self, below-trans}
-use Rattle.herm_source.proofs.HeldLabels.{above-longer}
 use Rattle.herm_source.proofs.Arrived.{old-variables, drop-variables}
-use Rattle.herm_source.proofs.FullValues.{full-leads}
 use Rattle.herm_source.proofs.SetValues.{setting-sound, clearing-sound}
 use Rattle.herm_source.proofs.PlainForms.{same_body, same_outcome_of, never, same_facts, without-cond}
 use Rattle.herm_source.proofs.Assignments.{same_test, made-or}
@@ -45,7 +44,7 @@ module _ (c : Code) (v t port : ℕ) (i : Path) (there : slice_get c.variables v
       → cond p (goes ok (Bodies.put (v ∷ []) message b)) stuck ≡ goes o b' → AreSound c (held_after c.types c.variables (Receive (v ∷ []) i) o has) b'.variables
   received-sound b b' o message whole sound false place is = never o b' is
   received-sound b b' o message whole sound true place is =
-      let root = steps-listed full_parts c.types full-named greatest_depth t deep [] (full-leads Name c.types [] t message whole refl) in
+      let root = steps-listed full_parts c.types full-named greatest_depth t deep [] (full-leads c.types [] t message whole refl) in
       let set = setting-sound c has v [] t message b.variables sound place there deep whole in
       let made = received_from c.types c.variables i (v ∷ []) in
       let members : (f : Fact) → IsIn f made → IsIn f (facts_to c.types c.variables (v ∷ [])) ⊎ IsIn f (full_facts c.types t (v ∷ [])) = λ f h. inr (subst (IsIn f) received-facts h) in

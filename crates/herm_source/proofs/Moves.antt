@@ -3,9 +3,10 @@ use Rattle.std.proofs.Common.{◌≡◌, inl, inr, ℕ, zero, suc, List, [], ◌
 use Rattle.std.proofs.lemmas.List.{append-nil}
 use Rattle.std.specs.Prelude.{slice_get, IsTrue, is_some, ◌↔◌}
 use mathlib.Core.Bool.{true≢false, false≢true}
+use borrow.Author.Tests.{not-true}
 use Rattle.herm_model.specs.Lists.{IsIn, some_of, list_of}
 use Rattle.herm_model.specs.Paths.{Path, Fact, init, path_of, same_fact, is_at_or_below}
-use Rattle.herm_model.specs.Types.{TypeTable, type_at, type_below, full_parts, steps, is_within_depth, greatest_depth}
+use Rattle.herm_model.specs.Types.{type_at, type_below, full_parts, steps, is_within_depth, greatest_depth}
 use Rattle.herm_model.specs.Facts.{full_facts}
 use Rattle.herm_model.specs.Statements.{Move}
 use Rattle.herm_model.specs.StatementTable.{full, closed}
@@ -13,18 +14,18 @@ use Rattle.herm_model.specs.Outcomes.{Outcome, ok}
 use Rattle.herm_model.specs.Values.{Cell, Parts, no_parts, part, part_at, inside, cell_at, has_value, has_place, put_at}
 use Rattle.herm_model.specs.Typed.{HasType, IsFull}
 use Rattle.herm_model.specs.Finalising.{excess}
-use Rattle.herm_model.proofs.Lists.{in-map, in-map_from}
+use Rattle.herm_model.proofs.Lists.{and-both, in-map, in-map_from}
 use Rattle.herm_model.proofs.FactTests.{IsIn-listed}
 use Rattle.herm_model.proofs.Steps.{full-named, steps-lead, steps-listed}
-use Rattle.herm_model.proofs.FullFacts.{exact-full}
+use Rattle.herm_model.proofs.FullFacts.{exact-full, full-leads}
+use Rattle.herm_model.proofs.Options.{some-injective}
+use Rattle.herm_model.proofs.NothingThere.{nothing-there}
 use Rattle.herm_source.specs.Bodies.{Name, Body, goes, stuck, if_there, cleared, put, putting}
 use Rattle.herm_source.specs.Forms
 use Rattle.herm_source.specs.Edges.{Code, below, beyond_full}
 use Rattle.herm_source.specs.Arrival.{AreSound, without, with_full, held_after, MovesAreSound}
 use Rattle.herm_source.proofs.TypedReading.{typed-read}
-use Rattle.herm_source.proofs.Dropped.{not-true, both-true}
 use Rattle.herm_source.proofs.Arrived.{old-variables, excess-left}
-use Rattle.herm_source.proofs.FullValues.{has_below, full-leads}
 use Rattle.herm_source.proofs.SetValues.{setting-sound, clearing-sound}
 use Rattle.herm_source.proofs.PlainForms.{same_body, same_outcome_of, never, same_facts}
 use Rattle.herm_source.proofs.Assignments.{same_test, full-members, full-whole}
@@ -34,9 +35,9 @@ cell-below : {N : Type 0} (q : List ℕ) (i j : ℕ) (s : List ℕ) (ps : Parts 
 cell-below [] i j s ps = refl
 cell-below (k ∷ q) i j s ps = cell-below q k j s (inside (part_at i ps))
 
-value-below : (types : TypeTable) (i : ℕ) (q r : List ℕ) (ps : Parts Name) (d : Cell Name) → cell_at (i ∷ q) ps ≡ Some d → has_value ps ((i ∷ q) ++ r) ≡ has_below Name types r d
-value-below types i q [] ps d at = ap (λ p. has_value ps (i ∷ p)) (append-nil q) ∙ ap is_some at
-value-below types i q (j ∷ s) ps d at = ap is_some (cell-below q i j s ps ∙ ap (λ o. cell_at (j ∷ s) (inside o)) at)
+value-below : (i : ℕ) (q r : List ℕ) (ps : Parts Name) (d : Cell Name) → cell_at (i ∷ q) ps ≡ Some d → has_value ps ((i ∷ q) ++ r) ≡ has_value (part d no_parts) (0 ∷ r)
+value-below i q [] ps d at = ap (λ p. has_value ps (i ∷ p)) (append-nil q) ∙ ap is_some at
+value-below i q (j ∷ s) ps d at = ap is_some (cell-below q i j s ps ∙ ap (λ o. cell_at (j ∷ s) (inside o)) at)
 
 nothing-listed : {X : Type 0} (xs : List X) → ((x : X) → IsIn x xs → ⊥) → xs ≡ []
 nothing-listed [] none = refl
@@ -55,19 +56,7 @@ moved-or false false false h = refl
 
 nothing_after : (j : ℕ) (r : List ℕ) (d : Cell Name) → has_value (part d no_parts) (suc j ∷ r) ≡ false
 nothing_after j [] d = refl
-nothing_after j (s ∷ r) d = nothing_in s r
-  where
-    nothing_in : (s : ℕ) (r : List ℕ) → has_value (let none : Parts Name = no_parts in none) (s ∷ r) ≡ false
-    nothing_in s [] = refl
-    nothing_in s (k ∷ r) = go k r
-      where
-        go : (k : ℕ) (r : List ℕ) → has_value (let none : Parts Name = no_parts in none) (k ∷ r) ≡ false
-        go k [] = refl
-        go k (m ∷ r) = go m r
-
-first_below : (types : TypeTable) (r : List ℕ) (d : Cell Name) → has_value (part d no_parts) (zero ∷ r) ≡ has_below Name types r d
-first_below types [] d = refl
-first_below types (j ∷ r) d = refl
+nothing_after j (s ∷ r) d = nothing-there Name (s ∷ r)
 
 module _ (c : Code) (i : ℕ) (q : List ℕ) (v t : ℕ) (there : slice_get c.variables v ≡ Some t) (deep : IsTrue (is_within_depth greatest_depth c.types t)) (type : type_at c.types c.variables (i ∷ q) ≡ Some t)
     (has : Fact → Bool) (whole' : (r : List ℕ) → IsIn r (steps full_parts c.types t) ↔ IsTrue (has (init ((i ∷ q) ++ r)))) (b : Body Name) (sound : AreSound c has b.variables) where
@@ -75,7 +64,7 @@ module _ (c : Code) (i : ℕ) (q : List ℕ) (v t : ℕ) (there : slice_get c.va
   left-none : (d : Cell Name) → cell_at (i ∷ q) b.variables ≡ Some d → (x : Path) → has_value (part d no_parts) x ≡ true → some_of (same_fact (init x)) (full_facts c.types t (0 ∷ [])) ≡ false → ⊥
   left-none d at [] here gone = false≢true here
   left-none d at (zero ∷ r) here gone =
-      let value = value-below c.types i q r b.variables d at ∙ sym (first_below c.types r d) ∙ here in
+      let value = value-below i q r b.variables d at ∙ here in
       let listed = (whole' r).1 ((sound.facts.values ((i ∷ q) ++ r)).0 value) in
       true≢false (sym (IsIn-listed (init (0 ∷ r)) (full_facts c.types t (0 ∷ [])) (in-map (λ q. init ((0 ∷ []) ++ q)) r (steps full_parts c.types t) listed)) ∙ gone)
   left-none d at (suc j ∷ r) here gone = true≢false (sym here ∙ nothing_after j r d)
@@ -89,7 +78,7 @@ module _ (c : Code) (i : ℕ) (q : List ℕ) (v t : ℕ) (there : slice_get c.va
       let same : u.0 ≡ t = cc (u.1, type) in
       let deep' : (s : ℕ) → IsIn s (u.0 ∷ []) → IsTrue (is_within_depth greatest_depth c.types s) = one_deep u.0 same in
       let left = excess-left c.types (u.0 ∷ []) deep' (has_value (part d.0 no_parts)) kept x.0 x.1 in
-      let both = both-true (has_value (part d.0 no_parts) x.0) (not (kept x.0)) left in
+      let both = and-both (has_value (part d.0 no_parts) x.0) (not (kept x.0)) left in
       left-none d.0 d.1 x.0 both.0 (ap (λ (o : Option ℕ). some_of (same_fact (init x.0)) (list_of (λ t. full_facts c.types t (0 ∷ [])) o)) (sym type) ∙ not-true (kept x.0) both.1)
     where
       one_deep : (u : ℕ) → u ≡ t → (s : ℕ) → IsIn s (u ∷ []) → IsTrue (is_within_depth greatest_depth c.types s)
@@ -100,15 +89,12 @@ module _ (c : Code) (i : ℕ) (q : List ℕ) (v t : ℕ) (there : slice_get c.va
   moved-full : (d : Cell Name) → cell_at (i ∷ q) b.variables ≡ Some d → IsFull c.types t d
   moved-full d at =
       let r = typed-read Name c.types c.variables i q b.variables d sound.types at in
-      let same : r.type ≡ t = some_type r.type (sym (ap (λ o. type_below c.types o q) r.there ∙ r.below) ∙ type) in
+      let same : r.type ≡ t = some-injective (sym (ap (λ o. type_below c.types o q) r.there ∙ r.below) ∙ type) in
       exact-full c.types d greatest_depth t deep (subst (λ t. HasType c.types t d) same r.typed)
       (λ j s. (
-        (λ h. steps-lead full_parts c.types greatest_depth t (j ∷ s) ((whole' (j ∷ s)).1 ((sound.facts.values ((i ∷ q) ++ j ∷ s)).0 (value-below c.types i q (j ∷ s) b.variables d at ∙ h)))),
-        (λ l. sym (value-below c.types i q (j ∷ s) b.variables d at) ∙ (sound.facts.values ((i ∷ q) ++ j ∷ s)).1 ((whole' (j ∷ s)).0 (steps-listed full_parts c.types full-named greatest_depth t deep (j ∷ s) l))),
+        (λ h. steps-lead full_parts c.types greatest_depth t (j ∷ s) ((whole' (j ∷ s)).1 ((sound.facts.values ((i ∷ q) ++ j ∷ s)).0 (value-below i q (j ∷ s) b.variables d at ∙ h)))),
+        (λ l. sym (value-below i q (j ∷ s) b.variables d at) ∙ (sound.facts.values ((i ∷ q) ++ j ∷ s)).1 ((whole' (j ∷ s)).0 (steps-listed full_parts c.types full-named greatest_depth t deep (j ∷ s) l))),
       ))
-    where
-      some_type : (u : ℕ) → Some u ≡ Some t → u ≡ t
-      some_type u e = cc e
 
   put-moved : (d : Cell Name) → cell_at (i ∷ q) b.variables ≡ Some d → (o : Outcome) (b' : Body Name) → (p : Bool) → has_place (cleared (i ∷ q) b).variables (v ∷ []) ≡ p
       → cond p (goes ok (put (v ∷ []) d (cleared (i ∷ q) b))) stuck ≡ goes o b' → AreSound c (held_after c.types c.variables (Move (i ∷ q) (v ∷ [])) o has) b'.variables
@@ -116,7 +102,7 @@ module _ (c : Code) (i : ℕ) (q : List ℕ) (v t : ℕ) (there : slice_get c.va
   put-moved d at o b' true place is =
       let f = moved-full d at in
       let cut = cleared (i ∷ q) b in
-      let root = steps-listed full_parts c.types full-named greatest_depth t deep [] (full-leads Name c.types [] t d f refl) in
+      let root = steps-listed full_parts c.types full-named greatest_depth t deep [] (full-leads c.types [] t d f refl) in
       let set = setting-sound c (without (i ∷ q) has) v [] t d cut.variables (clearing-sound c has i q b.variables sound) place there deep f in
       let facts = same_facts c (with_full c t (v ∷ []) (without (i ∷ q) has)) (held_after c.types c.variables (Move (i ∷ q) (v ∷ [])) ok has) (put_at (v ∷ []) d cut.variables)
       (λ f. ap (λ a. a || (not (is_at_or_below (v ∷ []) (path_of f)) && (not (is_at_or_below (i ∷ q) (path_of f)) && has f)))

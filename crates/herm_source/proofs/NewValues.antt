@@ -1,5 +1,5 @@
 -- New records, tables and outports in whole variables keep values sound.
-use Rattle.std.proofs.Common.{◌≡◌, inl, inr, ℕ, zero, suc, List, [], ◌∷◌, map, length, Bool, true, false, cond, Option, Some, None, refl, sym, ap, ◌∙◌, subst}
+use Rattle.std.proofs.Common.{◌≡◌, inl, inr, ℕ, suc, List, [], ◌∷◌, length, Bool, true, false, cond, Option, Some, None, refl, sym, ap, ◌∙◌, subst}
 use Rattle.std.specs.Prelude.{slice_get, IsTrue, ◌↔◌, option_and_then}
 use mathlib.Core.Bool.{false≢true}
 use Rattle.herm_model.specs.Lists.{IsIn, some_of}
@@ -7,16 +7,17 @@ use Rattle.herm_model.specs.Paths.{Path, Fact, init, path_of, same_fact, is_at_o
 use Rattle.herm_model.specs.Types.{TypeTable, Shape, fields, rows, outport}
 use Rattle.herm_model.specs.Statements.{Form, New, Connect}
 use Rattle.herm_model.specs.Outcomes.{Outcome, ok}
-use Rattle.herm_model.specs.Values.{Kind, a_record, a_table, an_outport, Cell, cell, Parts, no_parts, gaps, inside, cell_at, read_at, has_value, has_place, put_at}
-use Rattle.herm_model.specs.Typed.{partly, a_value, unfit, exactly, layout, is_bounded, Fits, HasType}
+use Rattle.herm_model.specs.Values.{Kind, a_record, a_table, an_outport, Cell, cell, Parts, no_parts, gaps, part, inside, cell_at, read_at, has_value, has_place, put_at}
+use Rattle.herm_model.specs.Typed.{partly, unfit, layout, is_bounded, Fits, HasType}
 use Rattle.herm_model.proofs.Lists.{cons-not_nil}
+use Rattle.herm_model.proofs.NothingThere.{nothing-there, nothing-in_gaps}
+use Rattle.herm_model.proofs.Typing.{gaps-typed}
 use Rattle.herm_source.specs.Bodies.{Name, Body, goes, stuck, if_there, put}
 use Rattle.herm_source.specs.Forms.{inport_number}
 use Rattle.herm_source.specs.Edges.{Code}
 use Rattle.herm_source.specs.States.{new_value}
 use Rattle.herm_source.specs.Arrival.{AreSound, held_after, NewValuesAreSound}
 use Rattle.herm_source.proofs.Arrived.{old-variables}
-use Rattle.herm_source.proofs.FullValues.{has_below}
 use Rattle.herm_source.proofs.SetValues.{with_steps, setting-any}
 use Rattle.herm_source.proofs.PlainForms.{same_body, same_outcome_of, never, same_facts}
 use Rattle.herm_source.proofs.Assignments.{made-or}
@@ -24,7 +25,7 @@ use Rattle.herm_source.proofs.Assignments.{made-or}
 -- a value of the variable's type that has no value below it is set in a whole variable
 module _ (c : Code) (v t : ℕ) (there : slice_get c.variables v ≡ Some t) (form : Form) (has : Fact → Bool)
     (table : (f : Fact) → with_steps ([] ∷ []) (v ∷ []) has f ≡ held_after c.types c.variables form ok has f) where
-  alone : (d : Cell Name) → ((j : ℕ) (r : List ℕ) → has_value (inside (Some d)) (j ∷ r) ≡ false) → (r : List ℕ) → IsIn r ([] ∷ []) ↔ (has_below Name c.types r d ≡ true)
+  alone : (d : Cell Name) → ((j : ℕ) (r : List ℕ) → has_value (inside (Some d)) (j ∷ r) ≡ false) → (r : List ℕ) → IsIn r ([] ∷ []) ↔ IsTrue (has_value (part d no_parts) (0 ∷ r))
   alone d none [] = ((λ h. refl), (λ h. inl refl))
   alone d none (j ∷ r) = ((λ h. not_root h), (λ h. absurd (false≢true (sym (none j r) ∙ h))))
     where
@@ -46,21 +47,6 @@ module _ (c : Code) (v t : ℕ) (there : slice_get c.variables v ≡ Some t) (fo
       subst (λ o. AreSound c (held_after c.types c.variables form o has) b'.variables) (same_outcome_of ok o (put (v ∷ []) d b) b' is)
       (subst (λ (b : Body Name). AreSound c (held_after c.types c.variables form ok has) b.variables) (same_body ok o (put (v ∷ []) d b) b' is) (set-new d b sound typed none place))
 
-no_parts_have : (j : ℕ) (r : List ℕ) → has_value (let none : Parts Name = no_parts in none) (j ∷ r) ≡ false
-no_parts_have j [] = refl
-no_parts_have j (s ∷ r) = no_parts_have s r
-
-gaps_have : (n j : ℕ) (r : List ℕ) → has_value (gaps {N = Name} n) (j ∷ r) ≡ false
-gaps_have zero j r = no_parts_have j r
-gaps_have (suc n) zero [] = refl
-gaps_have (suc n) zero (s ∷ r) = no_parts_have s r
-gaps_have (suc n) (suc j) [] = gaps_have n j []
-gaps_have (suc n) (suc j) (s ∷ r) = gaps_have n j (s ∷ r)
-
-gaps_fit : (types : TypeTable) (ts : List ℕ) → Fits types (exactly (map (a_value partly) ts)) (gaps {N = Name} (length ts))
-gaps_fit types [] = tt
-gaps_fit types (t ∷ ts) = (tt, gaps_fit types ts)
-
 -- a cell of a shape that is there
 typed-by : (types : TypeTable) (t : ℕ) (s : Shape) (n : Name) (k : Kind) (ps : Parts Name) → slice_get types t ≡ Some s → Fits types (layout partly s k) ps → IsTrue (is_bounded s ps) → HasType types t (cell n k ps)
 typed-by types t s n k ps e fits bounded = (
@@ -74,15 +60,15 @@ new-values-sound c = record {
       put-new c v t there (New (v ∷ [])) has
       (λ f. made-or (some_of (same_fact f) (init (v ∷ []) ∷ [])) (is_at_or_below (v ∷ []) (path_of f)) (has f))
       (cell (name (b.number, b.serial)) a_record (gaps (length ts))) (record b { serial = suc b.serial }) b' o sound
-      (typed-by c.types t (fields ts) (name (b.number, b.serial)) a_record (gaps (length ts)) shape (gaps_fit c.types ts) refl)
-      (gaps_have (length ts)) (has_place b.variables (v ∷ [])) refl
+      (typed-by c.types t (fields ts) (name (b.number, b.serial)) a_record (gaps (length ts)) shape (gaps-typed Name c.types ts) refl)
+      (λ j r. nothing-in_gaps Name (length ts) (j ∷ r)) (has_place b.variables (v ∷ [])) refl
       (ap (λ (x : Option Shape). new_value name x (v ∷ []) b) (sym (ap (option_and_then (slice_get c.types)) there ∙ shape)) ∙ is);
   new_table = λ v t row key there shape name s has b b' o sound is.
       put-new c v t there (New (v ∷ [])) has
       (λ f. made-or (some_of (same_fact f) (init (v ∷ []) ∷ [])) (is_at_or_below (v ∷ []) (path_of f)) (has f))
       (cell (name (b.number, b.serial)) a_table no_parts) (record b { serial = suc b.serial }) b' o sound
       (typed-by c.types t (rows row key) (name (b.number, b.serial)) a_table no_parts shape tt refl)
-      no_parts_have (has_place b.variables (v ∷ [])) refl
+      (λ j r. nothing-there Name (j ∷ r)) (has_place b.variables (v ∷ [])) refl
       (ap (λ (x : Option Shape). new_value name x (v ∷ []) b) (sym (ap (option_and_then (slice_get c.types)) there ∙ shape)) ∙ is);
   connect = λ v t port i there shape name s has b b' o sound is. connected c v t port i there shape name has b b' o sound (read_at i b.variables) is;
 }
@@ -96,7 +82,7 @@ new-values-sound c = record {
         (λ f. made-or (some_of (same_fact f) (init (v ∷ []) ∷ [])) (is_at_or_below (v ∷ []) (path_of f)) (has f))
         (cell (name (b.number, b.serial)) (an_outport n) no_parts) (record b { serial = suc b.serial }) b' o sound
         (typed-by c.types t (outport port) (name (b.number, b.serial)) (an_outport n) no_parts shape tt refl)
-        no_parts_have (has_place b.variables (v ∷ [])) refl is
+        (λ j r. nothing-there Name (j ∷ r)) (has_place b.variables (v ∷ [])) refl is
 
     connected : (c : Code) (v t port : ℕ) (i : Path) → slice_get c.variables v ≡ Some t → slice_get c.types t ≡ Some (outport port) → (name : Name → Name) (has : Fact → Bool) (b b' : Body Name) (o : Outcome) → AreSound c has b.variables
         → (x : Option (Cell Name)) → if_there (λ (d : Cell Name). if_there (λ n. cond (has_place b.variables (v ∷ [])) (goes ok (put (v ∷ []) (cell (name (b.number, b.serial)) (an_outport n) no_parts) (record b { serial = suc b.serial }))) stuck) (inport_number d)) x ≡ goes o b'

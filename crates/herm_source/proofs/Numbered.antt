@@ -1,9 +1,11 @@
 -- In every state of a run the numbers of processes, reply cells and the book agree, and no name was made twice.
 use Rattle.std.proofs.Common.{◌≡◌, ℕ, zero, suc, ◌+◌, ◌<◌, ◌≤◌, List, [], ◌∷◌, ◌++◌, Bool, true, false, cond, ◌⊎◌, inl, inr, Option, Some, None, option_map, slice_get, slice_set, length, refl, sym, ap, subst, ◌∙◌, arith}
+use Rattle.std.proofs.lemmas.Bool.{eqb-true}
 use Rattle.std.specs.Prelude.{nat_eq, nat_lt, ◌&&◌}
 use Rattle.std.proofs.lemmas.Bool.Decides.{nat_tests}
-use Rattle.herm_model.specs.Lists.{list_of}
+use Rattle.herm_model.specs.Lists.{list_of, total}
 use Rattle.herm_model.specs.Values.{Cell}
+use Rattle.herm_model.proofs.Options.{some-injective, none-not_some, chain-some, map-some}
 use Rattle.herm_journal.specs.Actions.{new_port, new_process, to_put, to_take, to_close, to_answer, to_hear, make_port, make_process, take, hear}
 use Rattle.herm_journal.specs.Places.{Book, Limits, Port, empty_port, first_of, Replies, Holding, a_port, replies, a_book, after, next_port, next_process, after_port, after_process}
 use Rattle.herm_journal.specs.Entries.{Text, Place, port, reply_cell, book}
@@ -13,9 +15,8 @@ use Rattle.herm_source.specs.Edges.{Code}
 use Rattle.herm_source.specs.States.{State, begin, wanted, local_step, answered}
 use Rattle.herm_source.specs.Weights.{only, weigh_serials, made}
 use Rattle.herm_source.specs.Systems.{Modules, System, Moved, Event, steps, acts, Run, run, run_on, step, start, opening, main_port, own_name, done_at, holding_at, set_holding, numbered_from_one, set_from_one, with_made, set_process, local_event, act_at, action_event, behind_action, number_of}
-use Rattle.herm_source.specs.Ledger.{total, made_in, IsMadeOnce}
+use Rattle.herm_source.specs.Ledger.{made_in, IsMadeOnce}
 use Rattle.herm_source.specs.Sound.{IsNumbered}
-use Rattle.herm_source.proofs.Events.{some-injective, none-not_some, chain-some, map-some}
 use Rattle.herm_source.proofs.SystemLedger.{cond-some, process-some, processes-stay}
 use Rattle.herm_source.proofs.Numbers.{local-stays, answer-stays, begin-number}
 
@@ -272,9 +273,6 @@ pub runs-numbered : (modules : Modules) (limits : Limits) (argument : Text) (c :
 runs-numbered modules limits argument c events r is e = run-numbered modules events (start modules limits argument) r e (opening-numbered modules limits argument c is)
 
 -- no name is made twice
-pub same-number : (m n : ℕ) → nat_eq m n ≡ true → m ≡ n
-same-number m n e = grind (arith, nat_tests)
-
 other-number : (m n : ℕ) → nat_eq m n ≡ false → m ≡ n → ⊥
 other-number m n e f = grind (arith, nat_tests)
 
@@ -283,7 +281,7 @@ module _ (m k : ℕ) where
   one-serial q s = by_tests (nat_eq m q) (nat_eq k s) refl refl
     where
       by_tests : (a b : Bool) → nat_eq m q ≡ a → nat_eq k s ≡ b → (cond {A = ℕ} (a && b) 1 0 ≡ 0) ⊎ ((q ≡ m) × (s ≡ k) × (cond {A = ℕ} (a && b) 1 0 ≡ 1))
-      by_tests true true e f = inr (sym (same-number m q e), sym (same-number k s f), refl)
+      by_tests true true e f = inr (sym (eqb-true m q e), sym (eqb-true k s f), refl)
       by_tests true false e f = inl refl
       by_tests false b e f = inl refl
 
@@ -333,7 +331,7 @@ module _ (m k : ℕ) where
     where
       by_test : (t : Bool) → nat_eq i m ≡ t → total (λ (x : State Name). made (only (m, k)) own_name x.body) xs ≤ 1 → total (λ (x : State Name). made (only (m, k)) own_name x.body) (x ∷ xs) ≤ 1
       by_test true e rest =
-          let none = none-before (suc i) xs (rest-numbered i x xs from) (omega (arith, same-number i m e)) in
+          let none = none-before (suc i) xs (rest-numbered i x xs from) (omega (arith, eqb-true i m e)) in
           omega (arith, none, at-most-one x.body.number 0 x.body.serial)
       by_test false e rest =
           let number = first-numbered i x xs from in
@@ -344,7 +342,7 @@ module _ (m k : ℕ) where
   made-once s from = by_test (nat_eq m 0) refl
     where
       by_test : (t : Bool) → nat_eq m 0 ≡ t → made_in (only (m, k)) s ≤ 1
-      by_test true e = omega (arith, none-before 1 s.processes from (omega (arith, same-number m 0 e)), at-most-one 0 0 5)
+      by_test true e = omega (arith, none-before 1 s.processes from (omega (arith, eqb-true m 0 e)), at-most-one 0 0 5)
       by_test false e = omega (arith, none-if 0 0 5 (λ x le f. other-number m 0 e (sym f.0)), total-at-most-one 1 s.processes from)
 
 pub numbered-once : (modules : Modules) (s : System) → IsNumbered modules s → IsMadeOnce s

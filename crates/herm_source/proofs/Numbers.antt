@@ -13,6 +13,7 @@ use Rattle.herm_model.specs.Finalising.{excess}
 use Rattle.herm_model.specs.Values.{gaps, has_place, Scalar, a_boolean, Kind, a_scalar, a_variant, a_polymorph, an_outport, an_inport, Cell, cell, Parts, no_parts, gap, part, part_at, parts_of, size, has_value, cell_at, read_at, put_at, copy_from, copy_in, count, count_in, polymorph_depth, Value}
 use Rattle.herm_model.specs.Tables.{has_key, key_of, place_of_key, without_part}
 use Rattle.herm_model.specs.Typed.{greatest_rows, greatest_polymorph}
+use Rattle.herm_model.proofs.Options.{none-not_some, some-injective, chain-some, map-some}
 use Rattle.herm_source.specs.Evaluate.{Evaluated, gives, raises, no_value, evaluate, key_values}
 use Rattle.herm_journal.specs.Actions.{values, gone, make_port, make_process, put, take, close, answer, hear}
 use Rattle.herm_journal.specs.Actions
@@ -24,7 +25,6 @@ use Rattle.herm_source.specs.Exchanges
 use Rattle.herm_source.specs.Exchanges.{CellReply, CellAction, Composed, compose, assemble, with_message, receive_at, place_of_port, ports_at}
 use Rattle.herm_source.specs.Edges.{Code, arrive, keeps, keeps_loop, let_go_loops, leave_loops, beyond_full, beyond_declared}
 use Rattle.herm_source.specs.States.{State, Next, an_item, a_reply, a_statement, nothing, next_of, is_action, key_at, new_value, act, arguments_at, is_inout, is_out, inputs_of, composed, kept_at, left_at, given_back, given_at, given_by, settle, settle_reply, leads_to, behind, step_next, settle_next, begin, local_step, answered}
-use Rattle.herm_source.proofs.Events.{none-not_some, some-injective, chain-some, map-some}
 
 module _ {N : Type 0} (name : Name → N) (n : ℕ) where
   abbrev Is : Body N → Type 0

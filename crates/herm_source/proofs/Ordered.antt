@@ -1,5 +1,6 @@
 -- A run's entries in order fit its diaries and histories.
 use Rattle.std.proofs.Common.{◌≡◌, ℕ, ◌<◌, List, [], ◌∷◌, ◌++◌, filter, Bool, true, false, cond, ◌&&◌, ◌||◌, ◌⊎◌, inl, inr, refl, sym, ap, subst, ◌∙◌, arith, true≢false}
+use Rattle.std.proofs.lemmas.Bool.{eqb-true, ltb-true, or_left}
 use Rattle.std.specs.Prelude.{nat_eq, nat_lt}
 use Rattle.std.proofs.lemmas.Bool.Decides.{nat_tests}
 use Rattle.herm_model.specs.Lists.{IsIn}
@@ -16,14 +17,10 @@ Ascends test [] = Unit {0}
 Ascends test (e ∷ es) = Leads test e es × Ascends test es
 
 before-later : (e f : Entry) → e.stamp < f.stamp → is_before e f ≡ true
-before-later e f lt = first-true (nat_lt e.stamp f.stamp) _ (less-true e.stamp f.stamp lt)
+before-later e f lt = or_left (nat_lt e.stamp f.stamp) _ (less-true e.stamp f.stamp lt)
   where
     less-true : (m n : ℕ) → m < n → nat_lt m n ≡ true
     less-true m n lt = grind (arith, nat_tests)
-
-    first-true : (a b : Bool) → a ≡ true → (a || b) ≡ true
-    first-true true b e = refl
-    first-true false b e = absurd (true≢false (sym e))
 
 -- what a filter keeps of a list into which an entry was put in order
 pub in-more : (f e : Entry) (es : List Entry) → IsIn f (es ++ e ∷ []) → IsIn f es ⊎ (f ≡ e)
@@ -89,15 +86,9 @@ AllDiffer (e ∷ es) = Differs e es × AllDiffer es
 before-is : (e f : Entry) → is_before e f ≡ true → IsBefore e f
 before-is e f h = by_tests (nat_lt e.stamp f.stamp) (nat_eq e.stamp f.stamp) (nat_lt e.process f.process) refl refl refl h
   where
-    less : (m n : ℕ) → nat_lt m n ≡ true → m < n
-    less m n e = grind (arith, nat_tests)
-
-    same : (m n : ℕ) → nat_eq m n ≡ true → m ≡ n
-    same m n e = grind (arith, nat_tests)
-
     by_tests : (a b c : Bool) → nat_lt e.stamp f.stamp ≡ a → nat_eq e.stamp f.stamp ≡ b → nat_lt e.process f.process ≡ c → (a || (b && c)) ≡ true → IsBefore e f
-    by_tests true b c p q r h = inl (less e.stamp f.stamp p)
-    by_tests false true true p q r h = inr (same e.stamp f.stamp q, less e.process f.process r)
+    by_tests true b c p q r h = inl (ltb-true e.stamp f.stamp p)
+    by_tests false true true p q r h = inr (eqb-true e.stamp f.stamp q, ltb-true e.process f.process r)
     by_tests false true false p q r h = absurd (true≢false (sym h))
     by_tests false false c p q r h = absurd (true≢false (sym h))
 
@@ -114,13 +105,10 @@ after-is e f h differ = by_tests (nat_lt e.stamp f.stamp) (nat_eq e.stamp f.stam
         split true s = absurd (q (grind (arith, nat_tests)))
         split false s = other m n p s
 
-    same : (m n : ℕ) → nat_eq m n ≡ true → m ≡ n
-    same m n e = grind (arith, nat_tests)
-
     by_tests : (a b c : Bool) → nat_lt e.stamp f.stamp ≡ a → nat_eq e.stamp f.stamp ≡ b → nat_lt e.process f.process ≡ c → (a || (b && c)) ≡ false → IsBefore f e
     by_tests true b c p q r h = absurd (true≢false h)
     by_tests false true true p q r h = absurd (true≢false h)
-    by_tests false true false p q r h = inr (sym (same e.stamp f.stamp q), not_less e.process f.process r (λ s. differ (same e.stamp f.stamp q, s)))
+    by_tests false true false p q r h = inr (sym (eqb-true e.stamp f.stamp q), not_less e.process f.process r (λ s. differ (eqb-true e.stamp f.stamp q, s)))
     by_tests false false c p q r h = inl (other e.stamp f.stamp p q)
 
 next-from : (g e : Entry) (fs : List Entry) → IsBefore g e → Differs e fs → IsRisingFrom g fs → IsRisingFrom g (with_next e fs)

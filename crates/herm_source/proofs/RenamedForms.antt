@@ -1,5 +1,5 @@
 -- Changing the names of cells commutes with evaluation, with what edges drop and with each form that is a local step.
-use Rattle.std.proofs.Common.{◌≡◌, ℕ, zero, suc, List, [], ◌∷◌, map, Bool, true, false, cond, Option, Some, None, option_map, refl, sym, ap, ap₂, ◌∙◌, length, nat_eq}
+use Rattle.std.proofs.Common.{◌≡◌, ℕ, List, [], ◌∷◌, map, Bool, true, false, cond, Option, Some, None, option_map, refl, sym, ap, ap₂, ◌∙◌, length, nat_eq}
 use Rattle.std.specs.Prelude.{nat_lt, filter, ⊤}
 use mathlib.Core.Path.{fun_ext}
 use Rattle.herm_model.specs.Lists.{list_of, some_of}
@@ -8,16 +8,16 @@ use Rattle.herm_model.specs.Types.{TypeTable, Shape, fields, rows}
 use Rattle.herm_model.specs.Expressions.{Expression, literal, copy, negated, inverted, operation, decimal, length_of, Atom, path}
 use Rattle.herm_model.specs.Outcomes.{Outcome, ok, turn, done, raised, depletion, polymorph_mismatch, duplicate_key, not_found, case_error}
 use Rattle.herm_model.specs.Outcomes
-use Rattle.herm_model.specs.Values.{Scalar, a_boolean, an_integer, a_text, Kind, a_scalar, a_record, a_variant, a_table, a_polymorph, an_inport, an_outport, Cell, cell, Parts, no_parts, gap, gaps, part, part_at, size, parts_of, cell_at, read_at, has_value, change_part, is_component, polymorph_depth, Value, rename, rename_in}
+use Rattle.herm_model.specs.Values.{Scalar, a_boolean, an_integer, a_text, Kind, a_scalar, a_record, a_variant, a_table, a_polymorph, an_inport, an_outport, Cell, cell, Parts, no_parts, gap, gaps, part, part_at, size, parts_of, cell_at, read_at, has_value, is_component, polymorph_depth, Value, rename, rename_in}
 use Rattle.herm_model.specs.Tables.{has_key, key_of, place_of_key, without_part}
 use Rattle.herm_model.specs.Typed.{greatest_rows, greatest_polymorph}
 use Rattle.herm_model.specs.Finalising.{excess}
-use Rattle.herm_model.proofs.Renaming.{part_at-rename, cell_at-rename, read_at-rename, has_value-rename, joined-rename, without_part-rename, polymorph_depth-rename, key_of-rename, has_key-rename, place_of_key-rename, size-rename}
+use Rattle.herm_model.proofs.Renaming.{part_at-rename, cell_at-rename, read_at-rename, has_value-rename, gaps-rename, change_at-rename, joined-rename, without_part-rename, polymorph_depth-rename, key_of-rename, has_key-rename, place_of_key-rename, size-rename}
 use Rattle.herm_source.specs.Evaluate.{Evaluated, gives, raises, no_value, value_there, rows_there, evaluate, atom_value, key_values, key_of_value, one_then, two_then, operate, gives_scalar}
 use Rattle.herm_source.specs.Evaluate
 use Rattle.herm_source.specs.Bodies.{Name, Loop, Body, Result, goes, if_there, let_go, let_go_parts, end_name, cleared, drop, reading, taking, putting, making, copying, copying_parts}
 use Rattle.herm_source.specs.Forms
-use Rattle.herm_source.specs.Forms.{Opened, component_in, content_of, moving, moving_content, component_of, place_in, change_at_place, change_below, change_read, change_rows, with_parts, add_row, finding, rows_for, set_rows, next_row, inport_number, outport_number, tested, with_value}
+use Rattle.herm_source.specs.Forms.{Opened, component_in, content_of, moving, moving_content, component_of, change_rows, with_parts, add_row, finding, rows_for, set_rows, next_row, inport_number, outport_number, tested, with_value}
 use Rattle.herm_source.specs.Edges.{Code, keeps, keeps_loop, let_go_loops, leave_loops, arrive, beyond, below}
 use Rattle.herm_source.specs.States.{new_value}
 use Rattle.herm_source.specs.Renaming.{rename_loop, rename_body}
@@ -195,30 +195,11 @@ module _ {N M : Type 0} (f : N → M) where
       ∙ unwrap_to-renamed y p b (content_of t c)) (cell_at p b.variables)
 
   -- tables
-  change_part-renamed : (i : ℕ) (g : Cell N → Cell N) (g' : Cell M → Cell M) → ((c : Cell N) → g' (rename f c) ≡ rename f (g c)) → (ps : Parts N) → change_part i g' (rename_in f ps) ≡ rename_in f (change_part i g ps)
-  change_part-renamed i g g' e no_parts = refl
-  change_part-renamed zero g g' e (gap ps) = refl
-  change_part-renamed zero g g' e (part c ps) = ap (λ d. part d (rename_in f ps)) (e c)
-  change_part-renamed (suc i) g g' e (gap ps) = ap gap (change_part-renamed i g g' e ps)
-  change_part-renamed (suc i) g g' e (part c ps) = ap (part (rename f c)) (change_part-renamed i g g' e ps)
-
-  change_at_place-renamed : (o : Option ℕ) (g : Cell N → Cell N) (g' : Cell M → Cell M) → ((c : Cell N) → g' (rename f c) ≡ rename f (g c)) → (ps : Parts N) → change_at_place o g' (rename_in f ps) ≡ rename_in f (change_at_place o g ps)
-  change_at_place-renamed None g g' e ps = refl
-  change_at_place-renamed (Some i) g g' e ps = change_part-renamed i g g' e ps
-
-  change_below-renamed : (p : List ℕ) (g : Cell N → Cell N) (g' : Cell M → Cell M) → ((c : Cell N) → g' (rename f c) ≡ rename f (g c)) → (c : Cell N) → change_below p g' (rename f c) ≡ rename f (change_below p g c)
-  change_below-renamed [] g g' e c = e c
-  change_below-renamed (j ∷ p) g g' e (cell n k ps) = ap (cell (f n) k) (change_at_place-renamed (place_in k j) (change_below p g) (change_below p g') (change_below-renamed p g g' e) ps)
-
-  change_read-renamed : (t : Path) (g : Cell N → Cell N) (g' : Cell M → Cell M) → ((c : Cell N) → g' (rename f c) ≡ rename f (g c)) → (ps : Parts N) → change_read t g' (rename_in f ps) ≡ rename_in f (change_read t g ps)
-  change_read-renamed [] g g' e ps = refl
-  change_read-renamed (i ∷ p) g g' e ps = change_part-renamed i (change_below p g) (change_below p g') (change_below-renamed p g g' e) ps
-
   with_parts-renamed : (h : Parts N → Parts N) (h' : Parts M → Parts M) → ((ps : Parts N) → h' (rename_in f ps) ≡ rename_in f (h ps)) → (c : Cell N) → with_parts h' (rename f c) ≡ rename f (with_parts h c)
   with_parts-renamed h h' e (cell n k ps) = ap (cell (f n) k) (e ps)
 
   change_rows-renamed : (t : Path) (h : Parts N → Parts N) (h' : Parts M → Parts M) → ((ps : Parts N) → h' (rename_in f ps) ≡ rename_in f (h ps)) → (b : Body N) → change_rows t h' (rename_body f b) ≡ rename_body f (change_rows t h b)
-  change_rows-renamed t h h' e b = ap (λ ps. record (rename_body f b) { variables = ps }) (change_read-renamed t (with_parts h) (with_parts h') (with_parts-renamed h h' e) b.variables)
+  change_rows-renamed t h h' e b = ap (λ ps. record (rename_body f b) { variables = ps }) (sym (change_at-rename f t (with_parts h) (with_parts h') (λ c. sym (with_parts-renamed h h' e c)) b.variables))
 
   parts_of-renamed : (c : Cell N) → parts_of (rename f c) ≡ rename_in f (parts_of c)
   parts_of-renamed (cell n k ps) = refl
@@ -326,12 +307,8 @@ module _ {N M : Type 0} (f : N → M) where
     new-renamed : (k : Kind) (ps : Parts N) (x : Path) (b : Body N) → Forms.new again k (rename_in f ps) x (rename_body f b) ≡ rename_result f (Forms.new name k ps x b)
     new-renamed k ps x b = making-renamed f name k ps (putting x ok) (putting x ok) (putting-renamed f x ok) b
 
-    gaps-renamed : (n : ℕ) → gaps n ≡ rename_in f (gaps n)
-    gaps-renamed zero = refl
-    gaps-renamed (suc n) = ap gap (gaps-renamed n)
-
     pub new_value-renamed : (s : Option Shape) (x : Path) (b : Body N) → new_value again s x (rename_body f b) ≡ rename_result f (new_value name s x b)
-    new_value-renamed (Some (fields ts)) x b = ap (λ ps. Forms.new again a_record ps x (rename_body f b)) (gaps-renamed (length ts)) ∙ new-renamed a_record (gaps (length ts)) x b
+    new_value-renamed (Some (fields ts)) x b = ap (λ ps. Forms.new again a_record ps x (rename_body f b)) (sym (gaps-rename f (length ts))) ∙ new-renamed a_record (gaps (length ts)) x b
     new_value-renamed (Some (rows row key)) x b = new-renamed a_table no_parts x b
     new_value-renamed (Some s) x b = refl
     new_value-renamed None x b = refl

@@ -1,5 +1,5 @@
 -- Changing the names of cells commutes with what a process wants, its local step and what an answer leaves.
-use Rattle.std.proofs.Common.{◌≡◌, ℕ, zero, suc, List, [], ◌∷◌, map, flat_map, Bool, true, false, cond, Option, Some, None, option_map, refl, ap, ap₂, ◌∙◌, length}
+use Rattle.std.proofs.Common.{◌≡◌, ℕ, List, [], ◌∷◌, map, flat_map, Bool, true, false, cond, Option, Some, None, option_map, refl, sym, ap, ap₂, ◌∙◌, length}
 use Rattle.std.specs.Prelude.{pred, find, option_and_then, ⊤}
 use Rattle.herm_model.specs.Paths.{Path}
 use Rattle.herm_model.specs.Types.{Parameter, type_at}
@@ -11,7 +11,8 @@ use Rattle.herm_model.specs.Calls
 use Rattle.herm_model.specs.Calls.{shape_at, call_parameters}
 use Rattle.herm_model.specs.StatementTable.{set_by_call}
 use Rattle.herm_model.specs.Nodes.{Target, Node}
-use Rattle.herm_model.specs.Values.{Cell, Parts, gap, gaps, part, rename, rename_in}
+use Rattle.herm_model.specs.Values.{Cell, Parts, gaps, part, rename, rename_in}
+use Rattle.herm_model.proofs.Renaming.{gaps-rename}
 use Rattle.herm_source.specs.Evaluate.{evaluate, key_values}
 use Rattle.herm_journal.specs.Actions.{values, raised}
 use Rattle.herm_source.specs.Bodies.{Name, Body, Result, goes, stays, stuck, if_there, counted_step, counted_action}
@@ -210,12 +211,8 @@ module _ {N M : Type 0} (f : N → M) (name : Name → N) where
   pub answered-renamed : (c : Code) (s : State N) (at : ℕ) (action : CellAction N) → answered again c (rename_state f s) at (rename_action f action) ≡ option_map (rename_state f) (answered name c s at action)
   answered-renamed c s at action = ap (settle_next again c (rename_state f s) at (rename_action f action)) (next_of-renamed c s) ∙ settle_next-renamed c s at action (next_of c s)
 
-  gaps-renamed : (n : ℕ) → gaps n ≡ rename_in f (gaps n)
-  gaps-renamed zero = refl
-  gaps-renamed (suc n) = ap gap (gaps-renamed n)
-
   pub begin-renamed : (c : Code) (code number : ℕ) (port : Cell N) → begin c code number (rename f port) ≡ rename_state f (begin c code number port)
   begin-renamed c code number port =
       let first : Body N = record { number = number; variables = part port (gaps (pred (length c.variables))); loops = []; work = []; call = None; calls = 0; steps = 0; actions = 0; serial = 0; finalised = [] } in
-      ap (λ ps. record { code = code; point = c.entry; body = arrive c c.entry (record (rename_body f first) { variables = part (rename f port) ps }) }) (gaps-renamed (pred (length c.variables)))
+      ap (λ ps. record { code = code; point = c.entry; body = arrive c c.entry (record (rename_body f first) { variables = part (rename f port) ps }) }) (sym (gaps-rename f (pred (length c.variables))))
       ∙ ap (λ (b : Body M). record { code = code; point = c.entry; body = b }) (arrive-renamed f c c.entry first)

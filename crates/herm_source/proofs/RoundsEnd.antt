@@ -4,6 +4,7 @@ use Rattle.std.specs.Prelude.{nat_lt, ◌&&◌}
 use Rattle.std.proofs.lemmas.Bool.Decides.{nat_tests}
 use Rattle.herm_model.specs.Lists.{some_of, list_of}
 use Rattle.herm_model.specs.Values.{Cell}
+use Rattle.herm_model.proofs.Options.{some-injective, none-not_some, chain-some, map-some}
 use Rattle.herm_journal.specs.Actions.{make_port, make_process, put, take, close, answer, hear}
 use Rattle.herm_source.specs.Bodies.{Name, Body}
 use Rattle.herm_source.specs.Exchanges.{CellReply, CellAction}
@@ -14,7 +15,7 @@ use Rattle.herm_journal.specs.Places.{Book, Limits, Holding, a_port, replies, a_
 use Rattle.herm_source.specs.Systems.{Modules, System, Moved, Event, steps, acts, Run, run, run_on, step, start, own_name, can, done_at, holding_at, set_holding, set_process, with_made, with_entry, act_at, behind_action, number_of, numbered_from_one, stands, is_local, is_acting, can_step, IsFinal}
 use Rattle.herm_source.specs.Rounds.{Round, rounds, one_round, turns, turn, after_turn, first_place, place_or_book}
 use Rattle.herm_source.specs.Sound.{IsNumbered}
-use Rattle.herm_source.proofs.Events.{some-injective, none-not_some, chain-some, map-some, rounds-run}
+use Rattle.herm_source.proofs.Events.{rounds-run}
 use Rattle.herm_source.proofs.SystemLedger.{cond-some, process-some}
 use Rattle.herm_source.proofs.Numbered.{runs-numbered}
 

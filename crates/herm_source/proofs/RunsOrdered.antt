@@ -1,7 +1,9 @@
 -- The entries of a run, in order, fit its diaries and histories.
 use Rattle.std.proofs.Common.{◌≡◌, ℕ, suc, ◌<◌, ◌≤◌, List, [], ◌∷◌, ◌++◌, Bool, true, false, cond, ◌&&◌, ◌||◌, ◌⊎◌, inl, inr, Some, None, length, refl, sym, ap, subst, ◌∙◌, arith, true≢false}
+use Rattle.std.proofs.lemmas.Bool.{eqb-true, or_left}
 use Rattle.std.specs.Prelude.{nat_eq, nat_lt, slice_get}
 use Rattle.herm_model.specs.Lists.{IsIn}
+use Rattle.herm_model.proofs.Options.{some-injective, none-not_some, chain-some, map-some}
 use Rattle.herm_journal.specs.Actions.{make_port, make_process, put, take, close, answer, hear}
 use Rattle.herm_journal.specs.Places.{Book, Limits, after}
 use Rattle.herm_journal.specs.Entries.{Text, Place, same_place, Entry, recorded}
@@ -12,10 +14,9 @@ use Rattle.herm_source.specs.Edges.{Code}
 use Rattle.herm_source.specs.States.{wanted, local_step, answered}
 use Rattle.herm_source.specs.Systems.{Modules, System, Moved, Event, steps, acts, Run, run, run_on, step, start, with_entry, with_made, set_process, set_holding, holding_at, act_at, behind_action, own_name, numbered_from_one, done_at, number_of}
 use Rattle.herm_source.specs.Sound.{IsNumbered}
-use Rattle.herm_source.proofs.Events.{some-injective, none-not_some, chain-some, map-some}
 use Rattle.herm_source.proofs.SystemLedger.{cond-some, process-some}
 use Rattle.herm_journal.proofs.Rising.{same-true}
-use Rattle.herm_source.proofs.Numbered.{same-number, BookMoves, book-moves, process-counts, step-numbered, opening-numbered}
+use Rattle.herm_source.proofs.Numbered.{BookMoves, book-moves, process-counts, step-numbered, opening-numbered}
 use Rattle.herm_source.proofs.RoundsEnd.{get-past}
 use Rattle.herm_source.proofs.Histories.{place-same}
 use Rattle.herm_source.proofs.Diaries.{set-absent_from_one, made-absent, unmoved-absent}
@@ -41,7 +42,7 @@ module _ (modules : Modules) (s t : System) (journal : List Entry) (e : Entry) (
   same-place_clock q same = omega (arith, stamped, ap (λ i. clock_of_place i journal) same)
 
   process-late : (f : Entry) → IsIn f journal → (a b : Bool) → nat_eq e.process f.process ≡ a → is_maker_of f.process e.action ≡ b → f.stamp ≤ cond (a || b) e.stamp (clock_of_process f.process journal)
-  process-late f i true b same m = omega (arith, same-clock f.process (same-number e.process f.process same), k.by_process f i)
+  process-late f i true b same m = omega (arith, same-clock f.process (eqb-true e.process f.process same), k.by_process f i)
   process-late f i false true same m = absurd (k.there f i (maker f.process m))
   process-late f i false false same m = k.by_process f i
 
@@ -52,10 +53,6 @@ module _ (modules : Modules) (s t : System) (journal : List Entry) (e : Entry) (
   own-late : (q : ℕ) (c : ℕ) → (a : Bool) → a ≡ true → e.stamp ≤ cond a e.stamp c
   own-late q c true is = omega arith
   own-late q c false is = absurd (true≢false (sym is))
-
-  or-true : (a b : Bool) → a ≡ true → (a || b) ≡ true
-  or-true true b is = refl
-  or-true false b is = absurd (true≢false (sym is))
 
   place-itself : (q : Place) → same_place q q ≡ true
   place-itself (Place.port n) = same-true n
@@ -68,7 +65,7 @@ module _ (modules : Modules) (s t : System) (journal : List Entry) (e : Entry) (
       by_place : IsIn f journal ⊎ (f ≡ e) → f.stamp ≤ cond (nat_eq e.process f.process || is_maker_of f.process e.action) e.stamp (clock_of_process f.process journal)
       by_place (inl j) = process-late f j (nat_eq e.process f.process) (is_maker_of f.process e.action) refl refl
       by_place (inr p) = subst (λ (g : Entry). g.stamp ≤ cond (nat_eq e.process g.process || is_maker_of g.process e.action) e.stamp (clock_of_process g.process journal)) (sym p)
-          (own-late e.process (clock_of_process e.process journal) (nat_eq e.process e.process || is_maker_of e.process e.action) (or-true (nat_eq e.process e.process) (is_maker_of e.process e.action) (same-true e.process)))
+          (own-late e.process (clock_of_process e.process journal) (nat_eq e.process e.process || is_maker_of e.process e.action) (or_left (nat_eq e.process e.process) (is_maker_of e.process e.action) (same-true e.process)))
 
   all-place : (f : Entry) → IsIn f (journal ++ e ∷ []) → f.stamp ≤ clock_of_place f.place (journal ++ e ∷ [])
   all-place f i = subst (λ c. f.stamp ≤ c) (sym (last-more (λ x. same_place x.place f.place) 0 journal e)) (by_place (in-more f e journal i))
@@ -83,7 +80,7 @@ module _ (modules : Modules) (s t : System) (journal : List Entry) (e : Entry) (
     by_process = all-process;
     by_place = all-place;
     process_rises = λ p. ascends-more (λ (x : Entry). nat_eq x.process p) journal e (k.process_rises p)
-        (λ own f i same. omega (arith, k.by_process f i, same-clock f.process (same-number e.process p own ∙ sym (same-number f.process p same))));
+        (λ own f i same. omega (arith, k.by_process f i, same-clock f.process (eqb-true e.process p own ∙ sym (eqb-true f.process p same))));
     place_rises = λ q. ascends-more (λ (x : Entry). same_place x.place q) journal e (k.place_rises q)
         (λ own f i same. omega (arith, k.by_place f i, same-place_clock f.place (place-same e.place q own ∙ sym (place-same f.place q same))));
     there = λ f i none. is_there f (in-more f e journal i) none;
@@ -98,7 +95,7 @@ module _ (modules : Modules) (s t : System) (journal : List Entry) (e : Entry) (
 maker-absent : (modules : Modules) (s : System) (a : CellAction Name) (c : Book) (q : ℕ) → IsNumbered modules s → BookMoves a s.book c → is_maker_of q (recorded a) ≡ true → numbered_from_one q s.processes ≡ None
 maker-absent modules s (make_process code (Some made)) c q k moves is =
     let counts = process-counts s.book (nat_lt s.book.processes s.book.limits.processes && nat_lt s.book.ports s.book.limits.ports) made moves.0 in
-    let next : q ≡ suc (length s.processes) = sym (same-number made.0 q is) ∙ counts.0 ∙ ap suc (sym k.book.0) in
+    let next : q ≡ suc (length s.processes) = sym (eqb-true made.0 q is) ∙ counts.0 ∙ ap suc (sym k.book.0) in
     ap (λ i. numbered_from_one i s.processes) next ∙ get-past s.processes (length s.processes) (omega arith)
 maker-absent modules s (make_process code None) c q k moves is = absurd (true≢false (sym is))
 maker-absent modules s (make_port made) c q k moves is = absurd (true≢false (sym is))

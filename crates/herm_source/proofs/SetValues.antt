@@ -1,5 +1,6 @@
 -- What a value that is set, or taken away, does to sound values.
 use Rattle.std.proofs.Common.{◌≡◌, ℕ, zero, suc, List, [], ◌∷◌, ◌++◌, map, Bool, true, false, cond, not, ◌&&◌, ◌||◌, Option, Some, None, refl, sym, ap, ap₂, ◌∙◌, subst}
+use Rattle.std.proofs.lemmas.Bool.{or_right}
 use Rattle.std.proofs.lemmas.List.{append-nil}
 use Rattle.std.specs.Prelude.{slice_get, IsTrue, is_some, ◌↔◌}
 use mathlib.Core.Bool.{true≢false, false≢true}
@@ -8,21 +9,21 @@ use Rattle.herm_model.specs.Paths.{Path, Fact, init, case, path_of, same_fact, i
 use Rattle.herm_model.specs.Types.{TypeTable, Shape, part_type, part_of, type_below, type_at, full_parts, steps, greatest_depth}
 use Rattle.herm_model.specs.Values.{Kind, Cell, cell, Parts, no_parts, gap, part, opens, has_value, has_place, set_part, set_at, change_part, change_inside, put_at, read_at, is_component}
 use Rattle.herm_model.specs.Typed.{partly, a_value, exactly, Fits, HasType}
-use Rattle.herm_model.proofs.Lists.{in-map, in-map_from}
+use Rattle.herm_model.proofs.Lists.{and-both, in-map, in-map_from}
+use Rattle.herm_model.proofs.Beginnings.{begins-with, above-longer}
 use Rattle.herm_model.proofs.FactTests.{listed-IsIn, IsIn-listed}
 use Rattle.herm_model.proofs.Places.{cell_at-set_same, cell_at-set_below}
 use Rattle.herm_model.proofs.Steps.{full-named, steps-lead, steps-listed}
+use Rattle.herm_model.proofs.FullFacts.{full-leads, leads-full}
 use Rattle.herm_model.proofs.Typing.{full-typed}
 use Rattle.herm_model.proofs.Lists.{cons-tail}
+use Rattle.herm_model.proofs.Options.{none-not_some}
 use Rattle.herm_source.specs.Bodies.{Name}
 use Rattle.herm_source.specs.Edges.{Code}
 use Rattle.herm_source.specs.Arrival.{AreSound, without, ClearingIsSound, SettingIsSound}
-use Rattle.herm_source.proofs.Weights.{none≢some}
 use Rattle.herm_source.proofs.TypedReading.{opening}
-use Rattle.herm_source.proofs.Dropped.{both-true, cleared-has, set-has, set-reads}
-use Rattle.herm_source.proofs.Arrived.{begins-with, typed-clear}
-use Rattle.herm_source.proofs.HeldLabels.{above-longer}
-use Rattle.herm_source.proofs.FullValues.{has_below, full-leads, leads-full}
+use Rattle.herm_source.proofs.Dropped.{cleared-has, set-has, set-reads}
+use Rattle.herm_source.proofs.Arrived.{typed-clear}
 
 -- types
 module _ (N : Type 0) (table : TypeTable) where
@@ -48,7 +49,7 @@ module _ (N : Type 0) (table : TypeTable) where
   typed-change_at g u keep (t ∷ ts) (suc i) (part d ps) e h = (h.0, typed-change_at g u keep ts i ps e h.1)
 
   no_type_below : (r : List ℕ) (t : ℕ) → type_below table None r ≡ Some t → ⊥
-  no_type_below [] t e = none≢some e
+  no_type_below [] t e = none-not_some e
   no_type_below (j ∷ r) t e = no_type_below r t e
 
   -- inside a cell that paths open
@@ -87,10 +88,10 @@ clearing-sound c has i q ps sound = record {
   facts = record {
     values = λ p. (
       (λ h.
-          let both = both-true (has_value ps p) (not (is_at_or_below (i ∷ q) p)) (sym (cleared-has Name q i p ps) ∙ h) in
+          let both = and-both (has_value ps p) (not (is_at_or_below (i ∷ q) p)) (sym (cleared-has Name q i p ps) ∙ h) in
           ap₂ ◌&&◌ both.1 ((sound.facts.values p).0 both.0)),
       (λ h.
-          let both = both-true (not (is_at_or_below (i ∷ q) p)) (has (init p)) h in
+          let both = and-both (not (is_at_or_below (i ∷ q) p)) (has (init p)) h in
           cleared-has Name q i p ps ∙ ap₂ ◌&&◌ ((sound.facts.values p).1 both.1) both.0),
     );
     components = λ p k h.
@@ -127,8 +128,8 @@ module _ (steps' : List (List ℕ)) (p : Path) where
   not-full_case q k h = let x = full-below (case q k) h in false≢true (ap is_init x.1)
 
 -- what is at a path that is set
-module _ (types : TypeTable) (i : ℕ) (q : Path) (value : Cell Name) (ps : Parts Name) (place : IsTrue (has_place ps (i ∷ q))) where
-  set-below : (r : Path) → has_value (put_at (i ∷ q) value ps) ((i ∷ q) ++ r) ≡ has_below Name types r value
+module _ (i : ℕ) (q : Path) (value : Cell Name) (ps : Parts Name) (place : IsTrue (has_place ps (i ∷ q))) where
+  set-below : (r : Path) → has_value (put_at (i ∷ q) value ps) ((i ∷ q) ++ r) ≡ has_value (part value no_parts) (0 ∷ r)
   set-below [] = ap (λ p. has_value (put_at (i ∷ q) value ps) (i ∷ p)) (append-nil q) ∙ ap is_some (cell_at-set_same (i ∷ q) (Some value) ps place)
   set-below (j ∷ r) = ap is_some (cell_at-set_below (i ∷ q) j r (Some value) ps place)
 
@@ -138,17 +139,13 @@ with_steps steps' p has f = some_of (same_fact f) (facts_below steps' p) || with
 
 -- a value of the path's type that has values at these steps
 pub setting-any : (c : Code) (has : Fact → Bool) (i : ℕ) (q : List ℕ) (t : ℕ) (value : Cell Name) (ps : Parts Name) (steps' : List (List ℕ)) → AreSound c has ps → IsTrue (has_place ps (i ∷ q))
-    → type_at c.types c.variables (i ∷ q) ≡ Some t → HasType c.types t value → ((r : List ℕ) → IsIn r steps' ↔ (has_below Name c.types r value ≡ true))
+    → type_at c.types c.variables (i ∷ q) ≡ Some t → HasType c.types t value → ((r : List ℕ) → IsIn r steps' ↔ IsTrue (has_value (part value no_parts) (0 ∷ r)))
     → AreSound c (with_steps steps' (i ∷ q) has) (put_at (i ∷ q) value ps)
 setting-any c has i q t value ps steps' sound place type typed exact = record {
   types = typed-set Name c.types q i c.variables t value ps type typed sound.types;
   facts = record { values = values; components = components };
 }
   where
-    or-right : (a : Bool) {b : Bool} → b ≡ true → a || b ≡ true
-    or-right true h = refl
-    or-right false h = h
-
     -- what is elsewhere is not of the full facts
     kept : (p : Path) → is_at_or_below (i ∷ q) p ≡ false → (b : Bool) → some_of (same_fact (init p)) (facts_below steps' (i ∷ q)) ≡ b → b || without (i ∷ q) has (init p) ≡ true → has (init p) ≡ true
     kept p apart true e h =
@@ -168,14 +165,14 @@ setting-any c has i q t value ps steps' sound place type typed exact = record {
     elsewhere p apart = (
       (λ h.
           let before = sym (set-has Name q i p (Some value) ps apart) ∙ h in
-          or-right (some_of (same_fact (init p)) (facts_below steps' (i ∷ q))) (ap₂ (λ a b. not a && b) apart ((sound.facts.values p).0 before))),
+          or_right (some_of (same_fact (init p)) (facts_below steps' (i ∷ q))) _ (ap₂ (λ a b. not a && b) apart ((sound.facts.values p).0 before))),
       (λ h. set-has Name q i p (Some value) ps apart ∙ (sound.facts.values p).1 (kept p apart (some_of (same_fact (init p)) (facts_below steps' (i ∷ q))) refl h)),
     )
 
     below : (r : Path) → IsTrue (has_value (put_at (i ∷ q) value ps) ((i ∷ q) ++ r)) ↔ IsTrue (with_steps steps' (i ∷ q) has (init ((i ∷ q) ++ r)))
     below r = (
-      (λ h. ap (λ b. b || without (i ∷ q) has (init ((i ∷ q) ++ r))) (in-full steps' (i ∷ q) r ((exact r).1 (sym (set-below c.types i q value ps place r) ∙ h)))),
-      (λ h. set-below c.types i q value ps place r ∙ (exact r).0 (made r (some_of (same_fact (init ((i ∷ q) ++ r))) (facts_below steps' (i ∷ q))) refl h)),
+      (λ h. ap (λ b. b || without (i ∷ q) has (init ((i ∷ q) ++ r))) (in-full steps' (i ∷ q) r ((exact r).1 (sym (set-below i q value ps place r) ∙ h)))),
+      (λ h. set-below i q value ps place r ∙ (exact r).0 (made r (some_of (same_fact (init ((i ∷ q) ++ r))) (facts_below steps' (i ∷ q))) refl h)),
     )
 
     at_path : (p : Path) (b : Bool) → is_at_or_below (i ∷ q) p ≡ b → IsTrue (has_value (put_at (i ∷ q) value ps) p) ↔ IsTrue (with_steps steps' (i ∷ q) has (init p))
@@ -200,6 +197,6 @@ pub setting-sound : SettingIsSound
 setting-sound c has i q t value ps sound place type deep full =
     setting-any c has i q t value ps (steps full_parts c.types t) sound place type (full-typed c.types t value full)
     (λ r. (
-      (λ h. leads-full Name c.types r t value full (steps-lead full_parts c.types greatest_depth t r h)),
-      (λ h. steps-listed full_parts c.types full-named greatest_depth t deep r (full-leads Name c.types r t value full h)),
+      (λ h. leads-full c.types r t value full (steps-lead full_parts c.types greatest_depth t r h)),
+      (λ h. steps-listed full_parts c.types full-named greatest_depth t deep r (full-leads c.types r t value full h)),
     ))

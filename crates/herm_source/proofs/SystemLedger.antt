@@ -1,8 +1,10 @@
 -- Each event of the system keeps the ledger.
 use Rattle.std.proofs.Common.{◌≡◌, ℕ, zero, suc, ◌+◌, List, [], ◌∷◌, ◌++◌, map, Bool, true, false, cond, Option, Some, None, option_map, slice_get, slice_set, refl, sym, ap, subst, arith}
-use Rattle.herm_model.specs.Lists.{list_of}
+use Rattle.herm_model.specs.Lists.{list_of, total}
+use Rattle.herm_model.proofs.Lists.{total-append}
 use Rattle.herm_model.proofs.Renaming.{map-append}
 use Rattle.herm_model.specs.Values.{Cell}
+use Rattle.herm_model.proofs.Options.{some-injective, none-not_some, chain-some, map-some}
 use Rattle.herm_journal.specs.Actions.{new_port, new_process, to_put, to_take, to_close, to_answer, to_hear, make_port, make_process, put, take, close, answer, hear}
 use Rattle.herm_journal.specs.Places.{Book, Limits, Port, empty_port, first_of, Replies, Holding, a_port, replies, a_book, after, next_process}
 use Rattle.herm_journal.specs.Entries.{Text, Place, port, reply_cell, book}
@@ -10,15 +12,10 @@ use Rattle.herm_source.specs.Bodies.{Name, Body}
 use Rattle.herm_source.specs.Exchanges.{CellReply, CellWant, CellAction, born}
 use Rattle.herm_source.specs.Edges.{Code}
 use Rattle.herm_source.specs.States.{State, begin, wanted, local_step, answered}
-use Rattle.herm_source.specs.Weights.{weigh, weigh_all, weigh_names, weigh_reply, held, made, kept, gone_out, come_in}
+use Rattle.herm_source.specs.Weights.{weigh, weigh_all, weigh_reply, held, made, kept, gone_out, come_in}
 use Rattle.herm_source.specs.Kept.{BeginningsKeep, LocalStepsKeep, AnswersKeep}
 use Rattle.herm_source.specs.Systems.{Modules, System, Moved, Event, steps, acts, Run, run, run_on, step, start, opening, main_port, own_name, done_at, holding_at, set_holding, numbered_from_one, set_from_one, with_process, with_made, set_process, local_event, act_at, action_event, behind_action, number_of}
-use Rattle.herm_source.specs.Ledger.{total, made_in, held_in, queued_at, queued_for, queued_in, finalised_in, HasLedger}
-use Rattle.herm_source.proofs.Events.{some-injective, none-not_some, chain-some, map-some}
-
-pub total-append : {X : Type 0} (f : X → ℕ) (xs ys : List X) → total f (xs ++ ys) ≡ total f xs + total f ys
-total-append f [] ys = omega arith
-total-append f (x ∷ xs) ys = omega (arith, total-append f xs ys)
+use Rattle.herm_source.specs.Ledger.{made_in, held_in, queued_at, queued_for, queued_in, finalised_in, HasLedger}
 
 pub total-set : {X : Type 0} (f : X → ℕ) (xs : List X) (i : ℕ) (x y : X) → slice_get xs i ≡ Some x → total f (slice_set xs i y) + f x ≡ total f xs + f y
 total-set f [] i x y e = none-not_some e
@@ -28,10 +25,6 @@ total-set f (z ∷ xs) (suc i) x y e = omega (arith, total-set f xs i x y e)
 pub total-from_one : {X : Type 0} (f : X → ℕ) (xs : List X) (p : ℕ) (x y : X) → numbered_from_one p xs ≡ Some x → total f (set_from_one p y xs) + f x ≡ total f xs + f y
 total-from_one f xs zero x y e = none-not_some e
 total-from_one f xs (suc i) x y e = total-set f xs i x y e
-
-weigh-append : (w : Name → ℕ) (xs ys : List (Cell Name)) → weigh_all w (xs ++ ys) ≡ weigh_all w xs + weigh_all w ys
-weigh-append w [] ys = omega arith
-weigh-append w (x ∷ xs) ys = omega (arith, weigh-append w xs ys)
 
 -- what is queued at a place
 abbrev weight_of : (Name → ℕ) → Holding (Cell Name) (CellReply Name) → ℕ
@@ -51,7 +44,7 @@ Moves w h want a = weight_of w (after a h) + come_in w a ≡ weight_of w h + giv
 
 put-moves : (w : Name → ℕ) (n : ℕ) (m : Cell Name) (b : Bool) (q : List (ℕ × Cell Name)) (k : ℕ) →
     Moves w (a_port (record { is_open = b; queue = q; placed = k })) (to_put n m) (put (cond b (Some k) None) m)
-put-moves w n m true q k = omega (arith, ap (weigh_all w) (map-append (λ (x : ℕ × Cell Name). x.1) q ((k, m) ∷ [])), weigh-append w (map (λ (x : ℕ × Cell Name). x.1) q) (m ∷ []))
+put-moves w n m true q k = omega (arith, ap (weigh_all w) (map-append (λ (x : ℕ × Cell Name). x.1) q ((k, m) ∷ [])), total-append (weigh w) (map (λ (x : ℕ × Cell Name). x.1) q) (m ∷ []))
 put-moves w n m false q k = omega arith
 
 take-moves : (w : Name → ℕ) (ports : List ℕ) (b : Bool) (q : List (ℕ × Cell Name)) (k : ℕ) (a : CellAction Name) →
@@ -156,7 +149,7 @@ abbrev holds : (Name → ℕ) → State Name → ℕ
 holds w x = held w x.body
 
 abbrev ends : (Name → ℕ) → State Name → ℕ
-ends w x = weigh_names w x.body.finalised
+ends w x = total w x.body.finalised
 
 step-balance : (w : Name → ℕ) (s : System) (p : ℕ) (x y : State Name) → numbered_from_one p s.processes ≡ Some x →
     own w y + kept w x.body ≡ own w x + kept w y.body → Balance w s → Balance w (set_process p y s)

@@ -1,20 +1,17 @@
 -- What is read at a path of typed variables has the path's type, and the path passes through no component.
-use Rattle.std.proofs.Common.{◌≡◌, ℕ, zero, suc, ◌+◌, List, [], ◌∷◌, map, Bool, true, false, cond, ◌||◌, Option, Some, None, option_map, refl, sym, ap, ap₂, ◌∙◌, subst, arith}
+use Rattle.std.proofs.Common.{◌≡◌, ℕ, List, [], ◌∷◌, map, Bool, true, false, cond, ◌||◌, Option, Some, None, refl, sym, ap, ap₂, ◌∙◌, subst, subst₂}
 use Rattle.std.specs.Prelude.{slice_get, is_some, IsTrue}
 use mathlib.Core.Bool.{false≢true}
 use Rattle.herm_model.specs.Lists.{IsIn, list_of, numbered}
 use Rattle.herm_model.specs.Types.{Parameter, TypeTable, Shape, fields, callmessage, part_type, part_of, type_below, is_cases, is_variant, enters_component, held_parts, Leads, is_within_depth, greatest_depth, steps, variable_paths}
-use Rattle.herm_model.specs.Values.{Kind, a_scalar, a_record, a_variant, a_table, a_polymorph, a_callmessage, an_inport, an_outport, Cell, cell, Parts, no_parts, gap, part, part_at, inside, opens, cell_at}
-use Rattle.herm_model.specs.Typed.{partly, a_value, exactly, unfit, parameter_content, layout, layout_at, is_bounded, is_bounded_at, Fits, HasType, HaveTypes}
-use Rattle.herm_model.proofs.Lists.{in-map, in-flat_map}
-use Rattle.herm_model.proofs.FactTests.{numbered-IsIn, got-IsIn}
+use Rattle.herm_model.specs.Values.{Kind, a_scalar, a_record, a_variant, a_table, a_polymorph, a_callmessage, an_inport, an_outport, Cell, cell, Parts, no_parts, part_at, inside, opens, cell_at}
+use Rattle.herm_model.specs.Typed.{partly, a_value, exactly, unfit, parameter_content, layout, layout_at, is_bounded, is_bounded_at, Fits, HasType, HaveTypes, IsOf}
+use Rattle.herm_model.proofs.Lists.{in-map, in-flat_map, slice_get-map}
+use Rattle.herm_model.proofs.FactTests.{at-numbered, got-IsIn}
 use Rattle.herm_model.proofs.Steps.{held-named, steps-listed}
-use Rattle.herm_source.proofs.Weights.{none≢some}
-
-get-map : {X Y : Type 0} (f : X → Y) (xs : List X) (i : ℕ) → option_map f (slice_get xs i) ≡ slice_get (map f xs) i
-get-map f [] i = refl
-get-map f (x ∷ xs) zero = refl
-get-map f (x ∷ xs) (suc i) = get-map f xs i
+use Rattle.herm_model.proofs.Options.{none-not_some, map-some}
+use Rattle.herm_model.proofs.NothingThere.{none-there}
+use Rattle.herm_model.proofs.FullFacts.{type_of, degree_of, at-fits}
 
 contents-of : (ps : List Parameter) → map (λ (p : Parameter). parameter_content partly p.mode p.content) ps ≡ map (a_value partly) (map (λ (p : Parameter). p.content) ps)
 contents-of [] = refl
@@ -58,7 +55,7 @@ module _ (N : Type 0) (table : TypeTable) where
     types = map (λ (p : Parameter). p.content) params;
     found = e;
     held = refl;
-    parts = λ i. get-map (λ (p : Parameter). p.content) params i;
+    parts = λ i. sym (slice_get-map (λ (p : Parameter). p.content) params i);
     closed = refl;
     contents = at_shape table t (a_callmessage caller call) (callmessage params raises) e ∙ ap exactly (contents-of params);
     bounded = λ qs. bounded_shape t (callmessage params raises) qs e refl;
@@ -87,14 +84,10 @@ module _ (N : Type 0) (table : TypeTable) where
     pub typed : HasType table type c
 
   pub typed-part : (ts : List ℕ) (ps : Parts N) (i : ℕ) (c : Cell N) → Fits table (exactly (map (a_value partly) ts)) ps → part_at i ps ≡ Some c → TypedPart ts i c
-  typed-part [] no_parts i c h e = absurd (none≢some e)
-  typed-part [] (gap ps) i c h e = absurd h
-  typed-part [] (part d ps) i c h e = absurd h
-  typed-part (t ∷ ts) no_parts i c h e = absurd h
-  typed-part (t ∷ ts) (gap ps) zero c h e = absurd (none≢some e)
-  typed-part (t ∷ ts) (gap ps) (suc i) c h e = let r = typed-part ts ps i c h.1 e in record { type = r.type; there = r.there; typed = r.typed }
-  typed-part (t ∷ ts) (part d ps) zero c h e = let same : d ≡ c = cc e in record { type = t; there = refl; typed = subst (HasType table t) same h.0 }
-  typed-part (t ∷ ts) (part d ps) (suc i) c h e = let r = typed-part ts ps i c h.1 e in record { type = r.type; there = r.there; typed = r.typed }
+  typed-part ts ps i c h e =
+      let a = at-fits table (map (a_value partly) ts) ps i c h e in
+      let t = map-some (a_value partly) (slice_get ts i) (a_value a.0 a.1) (sym (slice_get-map (a_value partly) ts i) ∙ a.2) in
+      record { type = t.0; there = t.1; typed = subst₂ (λ d u. IsOf d table u c) (sym (ap degree_of t.2)) (sym (ap type_of t.2)) a.3 }
 
   -- what is read at steps below a typed list
   pub record Reading (ts : List ℕ) (i : ℕ) (q : List ℕ) (c : Cell N) : Type 0 where
@@ -113,10 +106,6 @@ module _ (N : Type 0) (table : TypeTable) where
   type_there : (t : ℕ) (c : Cell N) → HasType table t c → IsTrue (is_some (slice_get table t))
   type_there t (cell n k ps) h = is_there t n k ps (slice_get table t) refl h.0
 
-  nothing_below : (j : ℕ) (r : List ℕ) (c : Cell N) → cell_at (j ∷ r) (let none : Parts N = no_parts in none) ≡ Some c → ⊥
-  nothing_below j [] c e = none≢some e
-  nothing_below j (s ∷ r) c e = nothing_below s r c e
-
   pub typed-read : (ts : List ℕ) (i : ℕ) (q : List ℕ) (ps : Parts N) (c : Cell N) → Fits table (exactly (map (a_value partly) ts)) ps → cell_at (i ∷ q) ps ≡ Some c → Reading ts i q c
   typed-read ts i [] ps c h e =
       let r = typed-part ts ps i c h e in
@@ -124,15 +113,14 @@ module _ (N : Type 0) (table : TypeTable) where
   typed-read ts i (j ∷ r) ps c h e = read_below (λ types qs. typed-read types j r qs c) (part_at i ps) refl e
     where
       read_open : ((types : List ℕ) (qs : Parts N) → Fits table (exactly (map (a_value partly) types)) qs → cell_at (j ∷ r) qs ≡ Some c → Reading types j r c) → (t : ℕ) (there : slice_get ts i ≡ Some t) (n : N) (k : Kind) (qs : Parts N) → HasType table t (cell n k qs) → (b : Bool) → opens k ≡ b → cell_at (j ∷ r) (cond b qs no_parts) ≡ Some c → Reading ts i (j ∷ r) c
-      read_open again t there n k qs typed false b e = absurd (nothing_below j r c e)
+      read_open again t there n k qs typed false b e = none-not_some (sym (none-there (j ∷ r)) ∙ e)
       read_open again t there n k qs typed true b e =
           let o = opening t n k qs b typed in
           let fits : Fits table (exactly (map (a_value partly) o.types)) qs = subst (λ l. Fits table l qs) o.contents typed.0 in
           let x = again o.types qs fits e in
           let next : part_of table (Some t) j ≡ Some x.first = ap (λ (s : Option Shape). elim s [ None ↦ None | Some s ↦ part_type s j ]) o.found ∙ o.parts j ∙ x.there in
-          let start : 0 + j ≡ j = omega arith in
           let listed : IsIn (j, x.first) (list_of held_parts (slice_get table t)) =
-          subst (λ s. IsIn (j, x.first) (list_of held_parts s)) (sym o.found) (subst (IsIn (j, x.first)) (sym o.held) (subst (λ k. IsIn (k, x.first) (numbered 0 o.types)) start (numbered-IsIn o.types 0 j x.first x.there))) in
+          subst (λ s. IsIn (j, x.first) (list_of held_parts s)) (sym o.found) (subst (IsIn (j, x.first)) (sym o.held) (at-numbered o.types j x.first x.there)) in
           let no_variant : is_variant table (Some t) ≡ false = ap (λ (s : Option Shape). elim s [ None ↦ false | Some s ↦ is_cases s ]) o.found ∙ o.closed in
           record {
             first = t;
@@ -145,7 +133,7 @@ module _ (N : Type 0) (table : TypeTable) where
           }
 
       read_below : ((types : List ℕ) (qs : Parts N) → Fits table (exactly (map (a_value partly) types)) qs → cell_at (j ∷ r) qs ≡ Some c → Reading types j r c) → (d : Option (Cell N)) → part_at i ps ≡ d → cell_at (j ∷ r) (inside d) ≡ Some c → Reading ts i (j ∷ r) c
-      read_below again None at e = absurd (nothing_below j r c e)
+      read_below again None at e = none-not_some (sym (none-there (j ∷ r)) ∙ e)
       read_below again (Some (cell n k qs)) at e =
           let x = typed-part ts ps i (cell n k qs) h at in read_open again x.type x.there n k qs x.typed (opens k) refl e
 
@@ -154,7 +142,6 @@ module _ (N : Type 0) (table : TypeTable) where
       → HaveTypes table variables ps → cell_at (i ∷ q) ps ≡ Some c → IsIn (i ∷ q) (variable_paths held_parts table variables)
   read-listed variables deep i q ps c h e =
       let r = typed-read variables i q ps c h e in
-      let start : 0 + i ≡ i = omega arith in
-      let at : IsIn (i, r.first) (numbered 0 variables) = subst (λ k. IsIn (k, r.first) (numbered 0 variables)) start (numbered-IsIn variables 0 i r.first r.there) in
+      let at = at-numbered variables i r.first r.there in
       in-flat_map (λ (v : ℕ × ℕ). map (v.0 ∷◌) (steps held_parts table v.1)) (i, r.first) (i ∷ q) (numbered 0 variables) at
       (in-map (i ∷◌) q (steps held_parts table r.first) (steps-listed held_parts table held-named greatest_depth r.first (deep r.first (got-IsIn variables i r.first r.there)) q r.leads))

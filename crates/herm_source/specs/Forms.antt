@@ -1,8 +1,8 @@
 -- What each form does that is a local step: one function for each, which takes what is static as arguments.
-use Rattle.std.specs.Prelude.{ℕ, zero, suc, List, [], ◌∷◌, true, false, cond, nat_eq, nat_lt, Option, Some, None}
+use Rattle.std.specs.Prelude.{ℕ, List, [], ◌∷◌, true, false, cond, nat_eq, nat_lt, Option, Some, None}
 use Rattle.herm_model.specs.Paths.{Path}
 use Rattle.herm_model.specs.Outcomes.{ok, is_true, is_false, turn, done, component, raised, depletion, case_error, polymorph_mismatch, duplicate_key, not_found}
-use Rattle.herm_model.specs.Values.{Scalar, a_boolean, Kind, a_scalar, a_variant, a_polymorph, an_inport, an_outport, Cell, cell, Parts, no_parts, gap, part, part_at, size, joined, parts_of, cell_at, opens, change_part, is_component, polymorph_depth, Value}
+use Rattle.herm_model.specs.Values.{Scalar, a_boolean, Kind, a_scalar, a_variant, a_polymorph, an_inport, an_outport, Cell, cell, Parts, no_parts, gap, part, part_at, size, joined, parts_of, cell_at, change_at, is_component, polymorph_depth, Value}
 use Rattle.herm_model.specs.Tables.{has_key, key_of, place_of_key, without_part}
 use Rattle.herm_model.specs.Typed.{greatest_rows, greatest_polymorph}
 use Rattle.herm_source.specs.Evaluate.{Evaluated, gives, raises, no_value}
@@ -93,39 +93,13 @@ unwrap t p y b =
     (λ c. elim (content_of t c) [ None ↦ goes (raised polymorph_mismatch) b | Some o ↦ moving_content y o (cleared p b) ])
     (cell_at p b.variables)
 
--- where the part of a number stands, when so many places that are not there come first
-abbrev pub behind : ℕ → ℕ → Option ℕ
-behind zero j = Some j
-behind (suc c) zero = None
-behind (suc c) (suc j) = behind c j
-
--- where the part of a number stands among a cell's parts: a variant has its component alone
-abbrev pub place_in : Kind → ℕ → Option ℕ
-place_in (a_variant c) j = behind c j
-place_in k j = cond (opens k) (Some j) None
-
--- the parts with the cell at a place, if it is one, changed
-abbrev pub change_at_place : {N : Type 0} → Option ℕ → (Cell N → Cell N) → Parts N → Parts N
-change_at_place None f ps = ps
-change_at_place (Some i) f ps = change_part i f ps
-
--- the cell with what is at these steps below it changed, which may pass through components
-abbrev pub change_below : {N : Type 0} → List ℕ → (Cell N → Cell N) → Cell N → Cell N
-change_below [] f c = f c
-change_below (j ∷ p) f (cell n k ps) = cell n k (change_at_place (place_in k j) (change_below p f) ps)
-
--- the variables with the cell at a path changed
-abbrev pub change_read : {N : Type 0} → Path → (Cell N → Cell N) → Parts N → Parts N
-change_read [] f ps = ps
-change_read (i ∷ p) f ps = change_part i (change_below p f) ps
-
 -- the cell with its parts changed
 abbrev pub with_parts : {N : Type 0} → (Parts N → Parts N) → Cell N → Cell N
 with_parts f (cell n k ps) = cell n k (f ps)
 
 -- the rows of the table at a path changed
 abbrev pub change_rows : {N : Type 0} → Path → (Parts N → Parts N) → Body N → Body N
-change_rows t f b = record b { variables = change_read t (with_parts f) b.variables }
+change_rows t f b = record b { variables = change_at t (with_parts f) b.variables }
 
 -- a row behind the others
 abbrev pub add_row : {N : Type 0} → Cell N → Parts N → Parts N

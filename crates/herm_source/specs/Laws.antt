@@ -4,7 +4,7 @@ use Rattle.herm_model.specs.Values.{Cell}
 use Rattle.herm_model.specs.Texts.{text_of}
 use Rattle.herm_journal.specs.Places.{Limits, Holding, Fits, after}
 use Rattle.herm_journal.specs.Entries.{Text, Place, Entry, recorded, told}
-use Rattle.herm_journal.specs.Journals.{IsRising, IsStamped, IsJournalOf, ordered, part_of_process, part_of_place, first_told, at_start, replay, IsLegal}
+use Rattle.herm_journal.specs.Journals.{IsStamped, IsJournalOf, ordered, part_of_process, part_of_place, first_told, at_start, replay, IsLegal}
 use Rattle.herm_source.specs.Bodies.{Name}
 use Rattle.herm_source.specs.Exchanges.{CellReply, CellWant, CellAction}
 use Rattle.herm_source.specs.Edges.{Code}

@@ -1,17 +1,13 @@
 -- The ledger: every cell made is held, queued or finalised, once.
-use Rattle.std.specs.Prelude.{ℕ, ◌+◌, ◌≤◌, List, [], ◌∷◌, ◌≡◌}
+use Rattle.std.specs.Prelude.{ℕ, ◌+◌, ◌≤◌, ◌≡◌}
+use Rattle.herm_model.specs.Lists.{total}
 use Rattle.herm_model.specs.Values.{Cell}
 use Rattle.herm_journal.specs.Places.{Port, left_in, Replies}
 use Rattle.herm_source.specs.Bodies.{Name}
 use Rattle.herm_source.specs.Exchanges.{CellReply}
 use Rattle.herm_source.specs.States.{State}
-use Rattle.herm_source.specs.Weights.{only, weigh, weigh_all, weigh_names, weigh_reply, weigh_serials, held, made}
+use Rattle.herm_source.specs.Weights.{only, weigh, weigh_all, weigh_reply, weigh_serials, held, made}
 use Rattle.herm_source.specs.Systems.{System, own_name, opening_name, console_port}
-
--- the sum over a list
-abbrev pub total : {X : Type 0} → (X → ℕ) → List X → ℕ
-total f [] = 0
-total f (x ∷ xs) = f x + total f xs
 
 module _ (w : Name → ℕ) where
   -- what was made: the five opening cells, and what each process has made
@@ -33,7 +29,7 @@ module _ (w : Name → ℕ) where
   queued_in s = total queued_at s.ports + total queued_for s.replies
 
   abbrev pub finalised_in : System → ℕ
-  finalised_in s = total (λ (p : State Name). weigh_names w p.body.finalised) s.processes
+  finalised_in s = total (λ (p : State Name). total w p.body.finalised) s.processes
 
 -- By every weight of names what was made is what is held, queued and finalised. With a weight of 1 for one name, it is
 -- at one place if it was made once, and at none if it was not made; with a weight of 1 for all it counts cells.

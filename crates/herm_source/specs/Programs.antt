@@ -4,14 +4,10 @@ use Rattle.herm_model.specs.Paths.{Path}
 use Rattle.herm_model.specs.Types.{TypeTable, predefined, fields, rows, inport, outport, callmessage, by_in, by_inout, Raised}
 use Rattle.herm_model.specs.Expressions.{Expression, copy, operation, equal, less, at_most, plus, concatenated, decimal, boolean, integer, text, path}
 use Rattle.herm_model.specs.Expressions
-use Rattle.herm_model.specs.Statements.{Assign, Move, New, Discard, Wrap, Insert, For, Connect, Receive, Send, Select, If, While, Create, Call, Return, ReturnBy, Statement, simple, choosing, repeating, leaving, trying, Block, no_statements, statement, no_blocks, block, Handlers, no_handlers, handler, Process}
+use Rattle.herm_model.specs.Statements.{Assign, Move, New, Discard, Wrap, Insert, For, Connect, Receive, Send, Select, If, While, Create, Call, Return, ReturnBy, Statement, simple, choosing, repeating, leaving, trying, Block, no_statements, no_blocks, block, Handlers, no_handlers, handler, Process}
 use Rattle.herm_model.specs.Outcomes.{depletion, duplicate_key, disconnected}
+use Rattle.herm_model.specs.Examples.{in_order}
 use Rattle.herm_source.specs.Systems.{Program}
-
--- a block of these statements
-abbrev pub lines : List Statement → Block
-lines [] = no_statements
-lines (s ∷ rest) = statement s (lines rest)
 
 -- a variable as a path, and a part of it
 abbrev pub variable : ℕ → Path
@@ -27,7 +23,7 @@ abbrev pub a_string : List ℕ → Expression
 a_string s = Expressions.Expression.literal (text s)
 
 abbrev pub process_of : List ℕ → List Statement → Process
-process_of variables body = record { variables = variables; body = lines body }
+process_of variables body = record { variables = variables; body = in_order body }
 
 abbrev pub alone : TypeTable → Process → Program
 alone defined main = record { types = predefined ++ defined; processes = main ∷ []; main = 0 }
@@ -62,7 +58,7 @@ abbrev pub one_branch : Program
 one_branch = alone [] (process_of (7 ∷ 6 ∷ 2 ∷ []) (
     receives_start
     ∷ choosing (If (operation equal (copy (part_in 1 0)) (a_string [])))
-    (block (lines (simple (Assign (variable 2) (a_string (codes "a"))) ∷ [])) (block no_statements no_blocks))
+    (block (in_order (simple (Assign (variable 2) (a_string (codes "a"))) ∷ [])) (block no_statements no_blocks))
     ∷ simple (Discard (variable 1)) ∷ []))
 
 -- type row = record { k: integer };  type rows = table of row key (k);
@@ -87,14 +83,14 @@ says_key = simple (Assign (variable 4) (decimal (copy (part_in 2 0)))) ∷ says 
 abbrev pub refused_insert : Program
 refused_insert = alone row_types (process_of (7 ∷ 6 ∷ 8 ∷ 9 ∷ 2 ∷ []) (
     receives_start ∷ simple (New (variable 3)) ∷ (new_row 1 ++
-    trying (lines (inserts ∷ (new_row 1 ++ inserts ∷ []))) (handler duplicate_key (lines says_key) no_handlers) ∷ [])))
+    trying (in_order (inserts ∷ (new_row 1 ++ inserts ∷ []))) (handler duplicate_key (in_order says_key) no_handlers) ∷ [])))
 
 -- the same with  insert r into t; new r; r.k := 2; insert r into t; for r in t { s := text(r.k); send s to m.out; leave; }
 -- behind r.k := 1
 abbrev pub left_loop : Program
 left_loop = alone row_types (process_of (7 ∷ 6 ∷ 8 ∷ 9 ∷ 2 ∷ []) (
     receives_start ∷ simple (New (variable 3)) ∷ (new_row 1 ++ inserts ∷ (new_row 2 ++ inserts
-    ∷ repeating (For (variable 2) (variable 3)) (lines (says_key ++ leaving ∷ [])) ∷ []))))
+    ∷ repeating (For (variable 2) (variable 3)) (in_order (says_key ++ leaving ∷ [])) ∷ []))))
 
 -- type ask = callmessage (in q: string, inout w: string) and its raises;  type ask_in = inport of ask;
 -- type ask_out = outport of ask_in;
@@ -110,7 +106,7 @@ abbrev pub caller : List Statement → Handlers → Process
 caller follows handlers = process_of (7 ∷ 6 ∷ 10 ∷ 2 ∷ 2 ∷ []) (
     receives_start ∷ simple (Create (variable 2) 0)
     ∷ simple (Assign (variable 3) (a_string (codes "q"))) ∷ simple (Assign (variable 4) (a_string (codes "w")))
-    ∷ trying (lines (simple (Call (variable 2) (path (variable 3) ∷ path (variable 4) ∷ [])) ∷ follows)) handlers ∷ [])
+    ∷ trying (in_order (simple (Call (variable 2) (path (variable 3) ∷ path (variable 4) ∷ [])) ∷ follows)) handlers ∷ [])
 
 -- process callee(start: ask_in) { var c: ask; .. }
 abbrev pub called_with : List Raised → List Statement → List Statement → Handlers → Program
@@ -122,7 +118,7 @@ called_with raises callee follows handlers = record {
 
 -- on Disconnected { send q to m.out; }
 abbrev pub says_question : Handlers
-says_question = handler disconnected (lines (says 3 ∷ [])) no_handlers
+says_question = handler disconnected (in_order (says 3 ∷ [])) no_handlers
 
 -- a callee with  receive c from start; discard c;
 abbrev pub discarded_call : Program
@@ -143,7 +139,7 @@ busy = 7
 
 abbrev pub kept_parameter : Program
 kept_parameter = called_with (record { exception = busy; kept = 1 ∷ [] } ∷ []) (receives_start ∷ simple (ReturnBy (variable 1) busy) ∷ []) []
-    (handler busy (lines (says 4 ∷ [])) says_question)
+    (handler busy (in_order (says 4 ∷ [])) says_question)
 
 -- process main(start: main_start) {
 --   var m: main_message, p: polymorph, q: polymorph, n: integer, s: string;
@@ -155,10 +151,10 @@ abbrev pub deep_polymorph : Program
 deep_polymorph = alone [] (process_of (7 ∷ 6 ∷ 3 ∷ 3 ∷ 1 ∷ 2 ∷ []) (
     receives_start ∷ simple (Assign (variable 4) (a_number 0)) ∷ simple (Wrap (variable 4) (variable 2)) ∷ simple (Assign (variable 4) (a_number 1))
     ∷ trying
-    (lines (repeating (While (Expressions.Expression.literal (boolean true))) (lines (
+    (in_order (repeating (While (Expressions.Expression.literal (boolean true))) (in_order (
     simple (Wrap (variable 2) (variable 3)) ∷ simple (Move (variable 3) (variable 2))
     ∷ simple (Assign (variable 4) (operation plus (copy (variable 4)) (a_number 1))) ∷ [])) ∷ []))
-    (handler depletion (lines (simple (Assign (variable 5) (decimal (copy (variable 4)))) ∷ says 5 ∷ [])) no_handlers) ∷ []))
+    (handler depletion (in_order (simple (Assign (variable 5) (decimal (copy (variable 4)))) ∷ says 5 ∷ [])) no_handlers) ∷ []))
 
 -- type li = inport of integer;
 -- process main(start: main_start) {
@@ -169,8 +165,8 @@ deep_polymorph = alone [] (process_of (7 ∷ 6 ∷ 3 ∷ 3 ∷ 1 ∷ 2 ∷ []) (
 abbrev pub ports_until_full : Program
 ports_until_full = alone (inport 1 [] ∷ []) (process_of (7 ∷ 6 ∷ 8 ∷ 8 ∷ 8 ∷ 2 ∷ []) (
     receives_start
-    ∷ trying (lines (simple (New (variable 2)) ∷ simple (New (variable 3)) ∷ simple (New (variable 4)) ∷ []))
-    (handler depletion (lines (simple (Assign (variable 5) (a_string (codes "full"))) ∷ says 5 ∷ [])) no_handlers) ∷ []))
+    ∷ trying (in_order (simple (New (variable 2)) ∷ simple (New (variable 3)) ∷ simple (New (variable 4)) ∷ []))
+    (handler depletion (in_order (simple (Assign (variable 5) (a_string (codes "full"))) ∷ says 5 ∷ [])) no_handlers) ∷ []))
 
 -- type loop_in = inport of polymorph;  type loop_out = outport of loop_in;
 -- process main(start: main_start) {
@@ -281,7 +277,7 @@ one_more v = operation plus (copy (variable v)) (a_number 1)
 abbrev pub sender : ℕ → Process
 sender n = process_of (12 ∷ 11 ∷ 8 ∷ 1 ∷ []) (
     receives_start ∷ simple (Assign (variable 3) (a_number 1))
-    ∷ repeating (While (operation at_most (copy (variable 3)) (a_number n))) (lines (
+    ∷ repeating (While (operation at_most (copy (variable 3)) (a_number n))) (in_order (
     simple (New (variable 2)) ∷ simple (Assign (part_in 2 0) (copy (part_in 1 0))) ∷ simple (Assign (part_in 2 1) (copy (variable 3)))
     ∷ simple (Send (variable 2) (part_in 1 1)) ∷ simple (Assign (variable 3) (one_more 3)) ∷ []))
     ∷ [])
@@ -293,8 +289,8 @@ starts_sender who =
 
 -- if x.n = v + 1 { v := x.n; }
 abbrev pub counts_in : ℕ → Block
-counts_in v = lines (choosing (If (operation equal (copy (part_in 6 1)) (one_more v)))
-    (block (lines (simple (Assign (variable v) (copy (part_in 6 1))) ∷ [])) (block no_statements no_blocks)) ∷ [])
+counts_in v = in_order (choosing (If (operation equal (copy (part_in 6 1)) (one_more v)))
+    (block (in_order (simple (Assign (variable v) (copy (part_in 6 1))) ∷ [])) (block no_statements no_blocks)) ∷ [])
 
 abbrev pub two_senders : ℕ → Program
 two_senders n = record {
@@ -303,7 +299,7 @@ two_senders n = record {
       receives_start ∷ simple (New (variable 2)) ∷ simple (Connect (variable 3) (variable 2))
       ∷ (starts_sender 1 ++ (starts_sender 2 ++
       simple (Assign (variable 7) (a_number 0)) ∷ simple (Assign (variable 8) (a_number 0)) ∷ simple (Assign (variable 9) (a_number 0))
-      ∷ repeating (While (operation less (copy (variable 9)) (a_number (n + n)))) (lines (
+      ∷ repeating (While (operation less (copy (variable 9)) (a_number (n + n)))) (in_order (
       simple (Receive (variable 6) (variable 2))
       ∷ choosing (If (operation equal (copy (part_in 6 0)) (a_number 1))) (block (counts_in 7) (block (counts_in 8) no_blocks))
       ∷ simple (Assign (variable 9) (one_more 9)) ∷ []))

@@ -1,6 +1,6 @@
 -- How a run ends: what became of each process, the status, the numbers of the summary, and the text that is written.
 use Rattle.std.specs.Prelude.{ℕ, ◌^◌, min, List, [], ◌∷◌, ◌++◌, map, flat_map, Bool, true, false, cond, Option, Some, None, length, filter, codes}
-use Rattle.herm_model.specs.Lists.{some_of, list_of, numbered}
+use Rattle.herm_model.specs.Lists.{some_of, list_of, numbered, total}
 use Rattle.herm_model.specs.Nodes.{Target, node, end, end_by}
 use Rattle.herm_model.specs.Texts.{text_of}
 use Rattle.herm_model.specs.Values.{a_scalar, a_text, Cell, cell}
@@ -13,7 +13,7 @@ use Rattle.herm_source.specs.Bodies.{Name}
 use Rattle.herm_source.specs.Exchanges.{CellWant}
 use Rattle.herm_source.specs.States.{State, wanted, Standing, ended, out_of_steps, out_of_actions, waiting, local, acting, greatest_actions}
 use Rattle.herm_source.specs.Systems.{Modules, System, own_name, with_process, standing_of, Run}
-use Rattle.herm_source.specs.Ledger.{total, made_in, held_in, queued_in, finalised_in}
+use Rattle.herm_source.specs.Ledger.{made_in, held_in, queued_in, finalised_in}
 
 -- What became of a process: it ended, normally or by an exception; it waits on ports, in the order in which it looks
 -- at them, or for a reply, where there are none; a limit stopped it; or it can step. Language reference, "Processes".

@@ -1,5 +1,6 @@
 -- The weight of a state: of what a process holds, has finalised and has made, each by a weight for every name.
-use Rattle.std.specs.Prelude.{ℕ, zero, suc, ◌+◌, List, [], ◌∷◌, nat_eq, ◌&&◌, cond, Some, None}
+use Rattle.std.specs.Prelude.{ℕ, ◌+◌, List, nat_eq, ◌&&◌, cond, Some, None}
+use Rattle.herm_model.specs.Lists.{total, range}
 use Rattle.herm_model.specs.Values.{Cell, cell, Parts, no_parts, gap, part}
 use Rattle.herm_journal.specs.Actions.{values, raised, gone, new_process, to_put, to_answer, make_process, put, take, close, hear}
 use Rattle.herm_source.specs.Bodies.{Name, Loop, Body}
@@ -10,7 +11,8 @@ abbrev pub only : Name → Name → ℕ
 only n m = cond (nat_eq n.0 m.0 && nat_eq n.1 m.1) 1 0
 
 module _ {N : Type 0} (w : N → ℕ) where
-  -- what cells weigh: the sum over their names
+  -- What cells weigh: the total over their names, summed along the tree so that it computes where lists of names would
+  -- have to be joined.
   abbrev mutual
     pub weigh : Cell N → ℕ
     weigh (cell n k ps) = w n + weigh_in ps
@@ -21,16 +23,10 @@ module _ {N : Type 0} (w : N → ℕ) where
     weigh_in (part c ps) = weigh c + weigh_in ps
 
   abbrev pub weigh_all : List (Cell N) → ℕ
-  weigh_all [] = 0
-  weigh_all (c ∷ cs) = weigh c + weigh_all cs
-
-  abbrev pub weigh_names : List N → ℕ
-  weigh_names [] = 0
-  weigh_names (n ∷ ns) = w n + weigh_names ns
+  weigh_all cs = total weigh cs
 
   abbrev pub weigh_loops : List (Loop N) → ℕ
-  weigh_loops [] = 0
-  weigh_loops (l ∷ loops) = weigh_in l.rows + weigh_loops loops
+  weigh_loops loops = total (λ (l : Loop N). weigh_in l.rows) loops
 
   abbrev pub weigh_reply : CellReply N → ℕ
   weigh_reply (values cs) = weigh_all cs
@@ -44,12 +40,11 @@ module _ {N : Type 0} (w : N → ℕ) where
 
   -- what it holds or has finalised
   abbrev pub kept : Body N → ℕ
-  kept b = held b + weigh_names b.finalised
+  kept b = held b + total w b.finalised
 
   -- the names with these serials: so many from one on
   abbrev pub weigh_serials : (ℕ → N) → (from count : ℕ) → ℕ
-  weigh_serials name s zero = 0
-  weigh_serials name s (suc n) = w (name s) + weigh_serials name (suc s) n
+  weigh_serials name s count = total (λ s. w (name s)) (range s count)
 
   -- What a process has made: the names with its number and the serials below its next one.
   -- Language reference, "The ledger".

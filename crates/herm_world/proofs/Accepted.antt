@@ -29,7 +29,7 @@ use Rattle.herm_world.specs.StraightRuns.{IsRunnable, program_of}
 use Rattle.herm_world.proofs.Slots.{Made, Slots, string_cell, empty_slots, slot_at, values_of, values-empty, length-empty, part-slot, slot-found, value-slot, values-set, length-set_slot}
 use Rattle.herm_world.proofs.Progress.{Progress, after_set, after_send, after_discard, after_line, variables_with}
 use Rattle.herm_world.proofs.StraightRun.{able, behind-line}
-use Rattle.herm_world.proofs.StraightFacts.{receive-told, start-told, line-told, set-told, send-told, discard-told}
+use Rattle.herm_world.proofs.StraightFacts.{receive-told, start-told, line-told, set-told, clear-told}
 use Rattle.herm_world.proofs.StraightEnd.{steps-of}
 
 -- ---- labels
@@ -171,7 +171,7 @@ module _ (count : ℕ) (all : List Line) (hold_all : (d : Demand) → IsIn d (de
         subst HasString (sym (value-slot n p.slots found.0 found.1)) tt,
         subst (λ v. FindsStrings v lines) (values-set n None p.slots)
             (finds-along lines (before ++ line ∷ []) (after_send (Some found.0) n p) (parts ∙ sym (append_assoc before (line ∷ []) lines)) (subst (λ i. At (straight all) i lines) (sym more) here.1) well.1 (length-set_slot n None p.slots ∙ size)
-            (λ f. send-told [] p.slots n within f ∙ ap (hold f line) (told f) ∙ sym (carry_append f (held_at_start f) before line))),
+            (λ f. clear-told [] p.slots n line within (λ f b. refl) f ∙ ap (hold f line) (told f) ∙ sym (carry_append f (held_at_start f) before line))),
       )
   finds-along (TheVariants.Discard n ∷ lines) before p parts here well size told =
       let line : Line = TheVariants.Discard n in
@@ -181,7 +181,7 @@ module _ (count : ℕ) (all : List Line) (hold_all : (d : Demand) → IsIn d (de
         subst HasString (sym (value-slot n p.slots found.0 found.1)) tt,
         subst (λ v. FindsStrings v lines) (values-set n None p.slots)
             (finds-along lines (before ++ line ∷ []) (after_discard (Some found.0) n p) (parts ∙ sym (append_assoc before (line ∷ []) lines)) (subst (λ i. At (straight all) i lines) (sym more) here.1) well.1 (length-set_slot n None p.slots ∙ size)
-            (λ f. discard-told [] p.slots n within f ∙ ap (hold f line) (told f) ∙ sym (carry_append f (held_at_start f) before line))),
+            (λ f. clear-told [] p.slots n line within (λ f b. refl) f ∙ ap (hold f line) (told f) ∙ sym (carry_append f (held_at_start f) before line))),
       )
 
 finds-rest : (count : ℕ) (lines : List Line) → AllByRecursion (IsLine count) lines → IsAccepted predefined (process_of count (TheVariants.Receive ∷ lines)) → FindsStrings (replicate count None) lines

@@ -1,11 +1,12 @@
 -- What edges finalise in a straight-line program: nothing between lines, and everything at the end.
-use Rattle.std.proofs.Common.{◌≡◌, ℕ, zero, suc, ◌+◌, List, [], ◌∷◌, ◌++◌, Bool, true, false, cond, not, ◌&&◌, Option, Some, None, option_map, is_some, length, replicate, slice_get, nat_lt, flat_map, refl, sym, ap, ◌∙◌, arith}
+use Rattle.std.proofs.Common.{◌≡◌, ℕ, zero, suc, ◌+◌, List, [], ◌∷◌, ◌++◌, Bool, true, false, cond, not, ◌&&◌, Option, Some, None, is_some, length, replicate, slice_get, nat_lt, flat_map, refl, sym, ap, ◌∙◌, arith}
 use Rattle.herm_model.specs.Lists.{with_some, numbered}
 use Rattle.herm_model.specs.Paths.{Path, Fact, init}
 use Rattle.herm_model.specs.Types.{TypeTable, Shape, predefined, greatest_depth, held_parts}
 use Rattle.herm_model.specs.Nodes.{node, end, Node}
 use Rattle.herm_model.specs.Values.{Cell, Parts, gap, part, part_at, set_part, gaps, behind_gaps, has_value}
 use Rattle.herm_model.specs.Finalising.{is_left, excess_from, excess_at, excess}
+use Rattle.herm_model.proofs.Options.{is_some-map}
 use Rattle.herm_journal.specs.Places.{Limits}
 use Rattle.herm_journal.specs.Entries.{Text, Entry, port}
 use Rattle.herm_journal.specs.Journals.{entry_behind}
@@ -76,16 +77,12 @@ present-left v i (o ∷ slots) same =
     let rest : lost_from v (suc i) (length slots) ≡ present (suc i) slots = present-left v (suc i) slots (λ j. ap (λ n. has_value v (n ∷ [])) (next j) ∙ same (suc j)) in
     ap (λ (paths : List Path). excess_at predefined (has_value v) (λ (q : Path). false) (i ∷ []) 2 ++ paths) rest ∙ one-present v i o (present (suc i) slots) first ∙ present-cons i o slots
 
-is-some-map : {X Y : Type 0} (f : X → Y) (o : Option X) → is_some (option_map f o) ≡ is_some o
-is-some-map f None = refl
-is-some-map f (Some x) = refl
-
 end-excess : (arg : Text) (slots : Slots) → excess predefined (types_of (length slots)) (has_value (variables_with arg slots)) (λ (q : Path). false) ≡ (0 ∷ []) ∷ (1 ∷ []) ∷ present 2 slots
 end-excess arg slots =
     let two : (j : ℕ) → 2 + j ≡ suc (suc j) = λ j. omega arith in
     ap (λ (paths : List Path). (0 ∷ []) ∷ (1 ∷ []) ∷ paths)
     (present-left (variables_with arg slots) 2 slots
-    (λ j. ap (λ n. has_value (variables_with arg slots) (n ∷ [])) (two j) ∙ ap (λ (o : Option (Cell Name)). is_some o) (part-slot j slots) ∙ is-some-map string_cell (slot_at j slots)))
+    (λ j. ap (λ n. has_value (variables_with arg slots) (n ∷ [])) (two j) ∙ ap (λ (o : Option (Cell Name)). is_some o) (part-slot j slots) ∙ is_some-map string_cell (slot_at j slots)))
 
 -- dropping the strings, one after another
 

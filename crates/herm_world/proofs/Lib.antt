@@ -13,7 +13,6 @@ pub mod Accepted
 pub mod OneRun
 pub mod StraightReports
 pub mod Apart
-pub mod NothingThere
 pub mod HeldTexts
 pub mod TypedTexts
 pub mod KeptTexts

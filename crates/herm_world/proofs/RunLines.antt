@@ -1,5 +1,6 @@
 -- What the code of a run has recorded when the lines are done, in the words of the report.
 use Rattle.std.proofs.Common.{flat_map, ◌≡◌, ℕ, ◌+◌, ◌-◌, List, [], ◌∷◌, ◌++◌, map, length, refl, sym, ap, ap₂, subst, ◌∙◌, arith, append-nil}
+use Rattle.herm_model.proofs.Lists.{length-map}
 use Rattle.herm_journal.specs.Entries.{Text, Entry}
 use Rattle.herm_source.specs.Headline.{Report}
 use Rattle.herm_source.specs.Statuses.{Fate, Counts, ended_normally, line}
@@ -17,17 +18,13 @@ pub record AtEnd (E : List Entry) (n : ℕ) (console : List Text) (arg : Text) (
   pub acted : n + 1 ≡ length S + 2
   pub said : console ≡ map quoted S
 
-map-length : {X Y : Type 0} (f : X → Y) (xs : List X) → length (map f xs) ≡ length xs
-map-length f [] = refl
-map-length f (x ∷ xs) = omega (arith, map-length f xs)
-
 pub at-end : (E : List Entry) (n : ℕ) (console : List Text) (strings : Values) (rest : List Line) (arg : Text) (S : List Text) → rest ≡ []
     → E ++ sent_all (n + 1) (length console) (sent_from strings rest) ≡ taken_at 1 arg ∷ sent_all 2 0 S
     → console ++ map quoted (sent_from strings rest) ≡ map quoted S → n ≡ 1 + length console → AtEnd E n console arg S
 at-end E n console strings rest arg S none entries said count =
     let entries_now : E ++ [] ≡ taken_at 1 arg ∷ sent_all 2 0 S = subst (λ ls. E ++ sent_all (n + 1) (length console) (sent_from strings ls) ≡ taken_at 1 arg ∷ sent_all 2 0 S) none entries in
     let said_now : console ++ [] ≡ map quoted S = subst (λ ls. console ++ map quoted (sent_from strings ls) ≡ map quoted S) none said in
-    let many : length console ≡ length S = ap length (sym (append-nil console) ∙ said_now) ∙ map-length quoted S in
+    let many : length console ≡ length S = ap length (sym (append-nil console) ∙ said_now) ∙ length-map quoted S in
     let stamp : n + 1 ≡ 2 + length S = omega arith in
     record {
       journal = ap (λ es. es ++ closed_at (n + 1) ∷ []) (sym (append-nil E) ∙ entries_now) ∙ ap (λ k. (taken_at 1 arg ∷ sent_all 2 0 S) ++ closed_at k ∷ []) stamp;

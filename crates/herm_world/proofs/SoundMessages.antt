@@ -13,7 +13,7 @@ use Rattle.herm_source.specs.Messages.{IsMessage}
 use Rattle.herm_source.specs.Systems.{first_message}
 use Rattle.herm_world.proofs.Slots.{Made, string_cell}
 use Rattle.herm_world.proofs.Apart.{not-zero, far-one}
-use Rattle.herm_world.proofs.NothingThere.{nothing-there}
+use Rattle.herm_model.proofs.NothingThere.{nothing-there}
 use Rattle.herm_world.proofs.TypedTexts.{text-typed, message-typed}
 use Rattle.herm_world.proofs.HeldTexts.{AreQueued}
 
@@ -29,9 +29,9 @@ exactly-listed ps facts values components = record {
 string-told : (m : Made) (p : Path) → has_value (part (string_cell m) no_parts) p ≡ some_of (same_fact (init p)) (init (0 ∷ []) ∷ [])
 string-told m [] = refl
 string-told m (zero ∷ []) = refl
-string-told m (zero ∷ j ∷ q) = nothing-there (j ∷ q)
+string-told m (zero ∷ j ∷ q) = nothing-there Name (j ∷ q)
 string-told m (suc i ∷ []) = rw (not-zero i) refl
-string-told m (suc i ∷ j ∷ q) = rw (not-zero i) (nothing-there (j ∷ q))
+string-told m (suc i ∷ j ∷ q) = rw (not-zero i) (nothing-there Name (j ∷ q))
 
 pub string-message : (m : Made) → IsTrue (is_text m.1) → IsMessage predefined 4 (string_cell m)
 string-message m text = (text-typed (1, m.0) m.1 text, exactly-listed (part (string_cell m) no_parts) (declared_facts predefined 4 (0 ∷ [])) (string-told m) (λ p c. refl))
@@ -50,13 +50,13 @@ first-told : (arg : Text) (p : Path) → has_value (part (first_message arg) no_
 first-told arg [] = refl
 first-told arg (zero ∷ []) = refl
 first-told arg (zero ∷ zero ∷ []) = refl
-first-told arg (zero ∷ zero ∷ k ∷ q) = nothing-there (k ∷ q)
+first-told arg (zero ∷ zero ∷ k ∷ q) = nothing-there Name (k ∷ q)
 first-told arg (zero ∷ suc zero ∷ []) = refl
-first-told arg (zero ∷ suc zero ∷ k ∷ q) = nothing-there (k ∷ q)
+first-told arg (zero ∷ suc zero ∷ k ∷ q) = nothing-there Name (k ∷ q)
 first-told arg (zero ∷ suc (suc j) ∷ []) = rw (not-zero (suc j), far-one j) refl
-first-told arg (zero ∷ suc (suc j) ∷ k ∷ q) = rw (not-zero (suc j), far-one j) (nothing-there (k ∷ q))
+first-told arg (zero ∷ suc (suc j) ∷ k ∷ q) = rw (not-zero (suc j), far-one j) (nothing-there Name (k ∷ q))
 first-told arg (suc i ∷ []) = rw (not-zero i) refl
-first-told arg (suc i ∷ j ∷ q) = rw (not-zero i) (nothing-there (j ∷ q))
+first-told arg (suc i ∷ j ∷ q) = rw (not-zero i) (nothing-there Name (j ∷ q))
 
 pub first-messages : (arg : Text) → IsTrue (is_text arg) → (x : Cell Name) → IsIn x (first_message arg ∷ []) → IsMessage predefined 7 x
 first-messages arg text x (inl e) =

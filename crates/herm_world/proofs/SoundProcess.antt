@@ -7,7 +7,7 @@ use Rattle.herm_model.specs.Types.{predefined}
 use Rattle.herm_model.specs.Nodes.{Target, node, end, Node}
 use Rattle.herm_model.specs.StatementTable.{needs}
 use Rattle.herm_model.specs.Control.{Point}
-use Rattle.herm_model.specs.Values.{Cell, Parts, gap, part_at, gaps, inside, cell_at, has_value, tells, HasExactly}
+use Rattle.herm_model.specs.Values.{Cell, Parts, gap, gaps, has_value, tells, HasExactly}
 use Rattle.herm_model.specs.Typed.{is_text, HasType, HaveTypes}
 use Rattle.herm_journal.specs.Places.{Limits, Port}
 use Rattle.herm_journal.specs.Entries.{Text}
@@ -30,7 +30,7 @@ use Rattle.herm_world.proofs.Ends.{ending}
 use Rattle.herm_world.proofs.StraightRun.{Able}
 use Rattle.herm_world.proofs.StraightFacts.{before_receive}
 use Rattle.herm_world.proofs.StraightEnd.{steps-of}
-use Rattle.herm_world.proofs.NothingThere.{nothing-there}
+use Rattle.herm_model.proofs.NothingThere.{nothing-in_gaps}
 use Rattle.herm_world.proofs.TypedTexts.{text-typed, message-typed}
 use Rattle.herm_world.proofs.KeptTexts.{texts-empty}
 use Rattle.herm_world.proofs.HeldTexts.{AreTexts}
@@ -55,18 +55,6 @@ opening-typed count =
 gaps-typed : (n : ℕ) → HaveTypes predefined (replicate n 2) (gaps {N = Name} n)
 gaps-typed zero = tt
 gaps-typed (suc n) = (tt, gaps-typed n)
-
--- ---- no values in empty places
-
-gap-empty : (i n : ℕ) → part_at {N = Name} i (gaps n) ≡ None
-gap-empty i zero = refl
-gap-empty zero (suc n) = refl
-gap-empty (suc i) (suc n) = gap-empty i n
-
-gaps-none : (n : ℕ) (p : Path) → has_value {N = Name} (gaps n) p ≡ false
-gaps-none n [] = refl
-gaps-none n (i ∷ []) = ap (λ (o : Option (Cell Name)). is_some o) (gap-empty i n)
-gaps-none n (i ∷ j ∷ p) = ap (λ (o : Option (Cell Name)). is_some (cell_at (j ∷ p) (inside o))) (gap-empty i n) ∙ nothing-there (j ∷ p)
 
 -- ---- work lists
 
@@ -124,7 +112,7 @@ module _ (count : ℕ) (nodes : List Node) (label : ℕ → Fact → Bool) where
   end-local : (work : List (Cell Name)) (s a m : ℕ) (g : List Name) → ((item : Cell Name) → IsIn item work → IsItem item) → IsLocallySound code (state_of end (body_of (gap (gap (gaps count))) work s a m g))
   end-local work s a m g items =
       let v : Parts Name = gap (gap (gaps count)) in
-      local-by end v work s a m g (ended v work s a m g (gaps-none (suc (suc count)))) (tt, (tt, gaps-typed count)) items
+      local-by end v work s a m g (ended v work s a m g (nothing-in_gaps Name (suc (suc count)))) (tt, (tt, gaps-typed count)) items
 
   pub ending-local : (s a m : ℕ) (g : List Name) → IsLocallySound code (state_of end (ending (gap (gap (gaps count))) s a m g))
   ending-local s a m g = end-local (main_port ∷ []) s a m g port-item

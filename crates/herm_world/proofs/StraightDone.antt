@@ -19,6 +19,7 @@ use Rattle.herm_source.specs.Ledger.{HasLedger, made_in, held_in, queued_in, fin
 use Rattle.herm_source.specs.Statuses.{counts, one, cut, line, bytes_of}
 use Rattle.herm_source.specs.Systems.{Modules, System, run, run_on, Event, acts, start, IsFinal, opening, Run}
 use Rattle.herm_source.specs.Headline.{AreAccepted, AreCodesOf, IsRunTo}
+use Rattle.herm_source.proofs.Events.{run-joined}
 use Rattle.herm_source.proofs.Numbered.{runs-numbered, numbered-once}
 use Rattle.herm_source.proofs.SystemLedger.{runs-keep}
 use Rattle.herm_source.proofs.KeptSteps.{beginnings-keep, local-steps-keep, answers-keep}
@@ -32,7 +33,7 @@ use Rattle.herm_world.specs.StraightRuns.{IsRunnable, program_of, closed_at, jou
 use Rattle.herm_world.proofs.Slots.{Slots, empty_slots, values_of, values-empty, length-empty}
 use Rattle.herm_world.proofs.Progress.{code_with, modules_with, Progress, body_of, event_of, variables_with, body_at, open_port, system_with, run_with, arrived}
 use Rattle.herm_world.proofs.Ends.{arrive-end, ending, close-run}
-use Rattle.herm_world.proofs.StraightRun.{after_lines, HaveNodes, HaveLabels, run-joined, received, body-run}
+use Rattle.herm_world.proofs.StraightRun.{after_lines, HaveNodes, HaveLabels, received, body-run}
 use Rattle.herm_world.proofs.StraightJournal.{IsClocked, next-clock, either-below, lines-journal, Totals, lines-totals, AreStrings}
 use Rattle.herm_world.proofs.StraightFacts.{before_receive, receive-told, start-told}
 use Rattle.herm_world.proofs.StraightEnd.{nodes-from, code-is, exact-carry, labels-along, steps-of, serials-one, gaps-weigh, strings-weigh, sets-few, same-counts, few-cut}

@@ -1,13 +1,15 @@
 -- In a straight-line program the facts that are held before a line are those that the values tell there.
-use Rattle.std.proofs.Common.{◌≡◌, ◌≢◌, ◌<◌, ℕ, zero, suc, List, [], ◌∷◌, Bool, true, false, cond, ◌||◌, Option, Some, None, option_map, is_some, nat_eq, length, refl, sym, ap, subst, ◌∙◌, arith}
+use Rattle.std.proofs.Common.{◌≡◌, ◌<◌, ℕ, zero, suc, List, [], ◌∷◌, Bool, true, false, cond, Option, Some, None, option_map, is_some, nat_eq, length, refl, sym, ap, subst, ◌∙◌, arith}
 use Rattle.std.proofs.lemmas.Bool.{eq-eqb, eqb-true, eqb-false, ne_eqb}
+use Rattle.std.proofs.Math.Bool.{or-false}
 use Rattle.herm_model.specs.Lists.{same_numbers}
 use Rattle.herm_model.specs.Paths.{Path, Fact, init, case}
-use Rattle.herm_model.specs.Values.{a_scalar, a_text, an_inport, an_outport, Cell, cell, Parts, no_parts, gap, part, part_at, set_part, size, inside, cell_at, read_at, readable_of, is_component, tells}
+use Rattle.herm_model.specs.Values.{a_scalar, a_text, an_inport, an_outport, Cell, cell, Parts, no_parts, gap, part, part_at, set_part, size, cell_at, read_at, is_component, tells}
 use Rattle.herm_model.specs.Nodes.{end}
 use Rattle.herm_model.specs.Control.{held_behind, held_at_start}
 use Rattle.herm_model.specs.Outcomes.{ok}
-use Rattle.herm_model.proofs.Places.{part_at-set_same, part_at-set_other}
+use Rattle.herm_model.proofs.NothingThere.{none-there, none-read}
+use Rattle.herm_model.proofs.Places.{cell_below, cell-below, read_below, read-below, part_at-set_same, part_at-set_other}
 use Rattle.herm_source.specs.Bodies.{Name}
 use Rattle.herm_journal.specs.Entries.{Text}
 use Rattle.herm_source.specs.Systems.{main_port, first_message}
@@ -18,30 +20,17 @@ use Rattle.herm_compile.specs.declared.compiled.Line.TheVariants
 use Rattle.herm_world.specs.Lines.{FindsStrings}
 use Rattle.herm_world.proofs.Slots.{size-strings, Made, Slots, string_cell, strings_of, empty_slots, slot_at, set_slot, values_of, part-slot, set-some, set-none, slot-found}
 use Rattle.herm_world.proofs.Apart.{not-zero, far-one, one-far}
-use Rattle.herm_world.proofs.NothingThere.{none-there}
 use Rattle.herm_world.proofs.Progress.{Progress, after_send, after_discard, after_line, variables_with}
 
--- a path through the part at its first place
-abbrev below : Path → Option (Cell Name) → Option (Cell Name)
-below [] o = o
-below (j ∷ q) o = cell_at (j ∷ q) (inside o)
-
-cell-below : (i : ℕ) (q : Path) (ps : Parts Name) → cell_at (i ∷ q) ps ≡ below q (part_at i ps)
-cell-below i [] ps = refl
-cell-below i (j ∷ q) ps = refl
-
-none-below : (q : Path) → below q None ≡ None
+none-below : (q : Path) → cell_below {N = Name} q None ≡ None
 none-below [] = refl
 none-below (j ∷ q) = none-there (j ∷ q)
 
--- what a set and a clear do to the facts
-abbrev putting : ℕ → Fact → Bool → Bool
-putting n f held = held_behind (record { outcome = ok; makes = init (n ∷ []) ∷ []; kills = (n ∷ []) ∷ []; target = end }) f held
+-- what a string that is set, or cleared, does to the facts
+abbrev setting : ℕ → Option Made → Fact → Bool → Bool
+setting n o f held = held_behind (record { outcome = ok; makes = cond (is_some o) (init (n ∷ []) ∷ []) []; kills = (n ∷ []) ∷ []; target = end }) f held
 
-abbrev clearing : ℕ → Fact → Bool → Bool
-clearing n f held = held_behind (record { outcome = ok; makes = []; kills = (n ∷ []) ∷ []; target = end }) f held
-
-string-below : (m : Made) (q : Path) → is_some (below q (Some (string_cell m))) ≡ same_numbers q []
+string-below : (m : Made) (q : Path) → is_some (cell_below q (Some (string_cell m))) ≡ same_numbers q []
 string-below m [] = refl
 string-below m (j ∷ q) = ap (λ (o : Option (Cell Name)). is_some o) (none-there (j ∷ q))
 
@@ -49,58 +38,31 @@ empty-killed : (q : Path) (b : Bool) → cond (same_numbers q []) true (cond tru
 empty-killed [] b = refl
 empty-killed (j ∷ q) b = refl
 
-put-at : (n i : ℕ) (q : Path) (m : Made) (v : Parts Name) → n < size v → is_some (cell_at (i ∷ q) (set_part n (Some (string_cell m)) v)) ≡ putting n (init (i ∷ q)) (is_some (cell_at (i ∷ q) v))
-put-at n i q m v h = by (nat_eq n i) refl
+set-at : (n i : ℕ) (q : Path) (o : Option Made) (v : Parts Name) → n < size v → is_some (cell_at (i ∷ q) (set_part n (option_map string_cell o) v)) ≡ setting n o (init (i ∷ q)) (is_some (cell_at (i ∷ q) v))
+set-at n i q o v h = by (nat_eq n i) refl
   where
-    by : (b : Bool) → nat_eq n i ≡ b → is_some (cell_at (i ∷ q) (set_part n (Some (string_cell m)) v)) ≡ putting n (init (i ∷ q)) (is_some (cell_at (i ∷ q) v))
-    by true e =
-        let same : n ≡ i = eqb-true n i e in
-        subst (λ k. is_some (cell_at (k ∷ q) (set_part n (Some (string_cell m)) v)) ≡ putting n (init (k ∷ q)) (is_some (cell_at (k ∷ q) v))) same
-        (ap (λ (o : Option (Cell Name)). is_some o) (cell-below n q (set_part n (Some (string_cell m)) v) ∙ ap (below q) (part_at-set_same n (Some (string_cell m)) v h))
-        ∙ string-below m q ∙ sym (empty-killed q (is_some (cell_at (n ∷ q) v)))
-        ∙ (rw (eq-eqb n n refl, or-false (same_numbers q [])) refl))
-      where
-        or-false : (b : Bool) → (b || false) ≡ b
-        or-false true = refl
-        or-false false = refl
-    by false e =
-        let other : n ≢ i = eqb-false n i e in
-        ap (λ (o : Option (Cell Name)). is_some o) (cell-below i q (set_part n (Some (string_cell m)) v) ∙ ap (below q) (part_at-set_other n i (Some (string_cell m)) v other) ∙ sym (cell-below i q v))
-        ∙ (rw (e, ne_eqb i n (λ s. other (sym s))) refl)
+    here : (o : Option Made) (b : Bool) → is_some (cell_below q (option_map string_cell o)) ≡ setting n o (init (n ∷ q)) b
+    here None b = ap (λ (o : Option (Cell Name)). is_some o) (none-below q) ∙ (rw (eq-eqb n n refl) refl)
+    here (Some m) b = string-below m q ∙ sym (empty-killed q b) ∙ (rw (eq-eqb n n refl, or-false (same_numbers q [])) refl)
 
-clear-at : (n i : ℕ) (q : Path) (v : Parts Name) → n < size v → is_some (cell_at (i ∷ q) (set_part n None v)) ≡ clearing n (init (i ∷ q)) (is_some (cell_at (i ∷ q) v))
-clear-at n i q v h = by (nat_eq n i) refl
-  where
-    by : (b : Bool) → nat_eq n i ≡ b → is_some (cell_at (i ∷ q) (set_part n None v)) ≡ clearing n (init (i ∷ q)) (is_some (cell_at (i ∷ q) v))
+    elsewhere : (o : Option Made) (b : Bool) → nat_eq n i ≡ false → b ≡ setting n o (init (i ∷ q)) b
+    elsewhere None b e = rw e refl
+    elsewhere (Some m) b e = rw (e, ne_eqb i n (λ s. eqb-false n i e (sym s))) refl
+
+    by : (b : Bool) → nat_eq n i ≡ b → is_some (cell_at (i ∷ q) (set_part n (option_map string_cell o) v)) ≡ setting n o (init (i ∷ q)) (is_some (cell_at (i ∷ q) v))
     by true e =
-        let same : n ≡ i = eqb-true n i e in
-        subst (λ k. is_some (cell_at (k ∷ q) (set_part n None v)) ≡ clearing n (init (k ∷ q)) (is_some (cell_at (k ∷ q) v))) same
-        (ap (λ (o : Option (Cell Name)). is_some o) (cell-below n q (set_part n None v) ∙ ap (below q) (part_at-set_same n None v h) ∙ none-below q)
-        ∙ (rw (eq-eqb n n refl) refl))
+        subst (λ k. is_some (cell_at (k ∷ q) (set_part n (option_map string_cell o) v)) ≡ setting n o (init (k ∷ q)) (is_some (cell_at (k ∷ q) v))) (eqb-true n i e)
+        (ap (λ (o : Option (Cell Name)). is_some o) (cell-below n q (set_part n (option_map string_cell o) v) ∙ ap (cell_below q) (part_at-set_same n (option_map string_cell o) v h))
+        ∙ here o (is_some (cell_at (n ∷ q) v)))
     by false e =
-        let other : n ≢ i = eqb-false n i e in
-        ap (λ (o : Option (Cell Name)). is_some o) (cell-below i q (set_part n None v) ∙ ap (below q) (part_at-set_other n i None v other) ∙ sym (cell-below i q v))
-        ∙ (rw e refl)
+        ap (λ (o : Option (Cell Name)). is_some o) (cell-below i q (set_part n (option_map string_cell o) v) ∙ ap (cell_below q) (part_at-set_other n i (option_map string_cell o) v (eqb-false n i e)) ∙ sym (cell-below i q v))
+        ∙ elsewhere o (is_some (cell_at (i ∷ q) v)) e
 
 -- no value here is a variant
-
-abbrev read_below : Path → Option (Cell Name) → Option (Cell Name)
-read_below [] o = o
-read_below (j ∷ q) o = read_at (j ∷ q) (readable_of o)
-
-read-below : (i : ℕ) (q : Path) (ps : Parts Name) → read_at (i ∷ q) ps ≡ read_below q (part_at i ps)
-read-below i [] ps = refl
-read-below i (j ∷ q) ps = refl
-
-none-read : (p : Path) → read_at {N = Name} p no_parts ≡ None
-none-read [] = refl
-none-read (i ∷ []) = refl
-none-read (i ∷ j ∷ q) = none-read (j ∷ q)
-
 abbrev IsOf : ℕ → Option (Cell Name) → Bool
 IsOf c o = is_component o c
 
-none-component : (q : Path) (c : ℕ) → is_component (read_below q None) c ≡ false
+none-component : (q : Path) (c : ℕ) → is_component (read_below {N = Name} q None) c ≡ false
 none-component [] c = refl
 none-component (j ∷ q) c = ap (IsOf c) (none-read (j ∷ q))
 
@@ -172,22 +134,20 @@ pub set-told : (arg : Text) (slots : Slots) (k : ℕ) (bytes : Text) (m : Made) 
 set-told arg slots k bytes m h (init []) = refl
 set-told arg slots k bytes m h (init (i ∷ q)) =
     ap (λ (ps : Parts Name). is_some (cell_at (i ∷ q) (part main_port (part (first_message arg) ps)))) (sym (set-some k m slots))
-    ∙ put-at (suc (suc k)) i q m (variables_with arg slots) (fits arg k slots h)
+    ∙ set-at (suc (suc k)) i q (Some m) (variables_with arg slots) (fits arg k slots h)
 set-told arg slots k bytes m h (case p c) = case-told arg slots (set_slot k (Some m) slots) (TheVariants.Set k bytes) p c
 
-pub send-told : (arg : Text) (slots : Slots) (k : ℕ) → k < length slots → (f : Fact) → Tells arg slots (TheVariants.Send k) (set_slot k None slots) f
-send-told arg slots k h (init []) = refl
-send-told arg slots k h (init (i ∷ q)) =
-    ap (λ (ps : Parts Name). is_some (cell_at (i ∷ q) (part main_port (part (first_message arg) ps)))) (sym (set-none k slots))
-    ∙ clear-at (suc (suc k)) i q (variables_with arg slots) (fits arg k slots h)
-send-told arg slots k h (case p c) = case-told arg slots (set_slot k None slots) (TheVariants.Send k) p c
+-- a send and a discard both clear the string
+abbrev Clears : ℕ → Line → Type 0
+Clears k line = (f : Fact) (b : Bool) → hold f line b ≡ setting (suc (suc k)) None f b
 
-pub discard-told : (arg : Text) (slots : Slots) (k : ℕ) → k < length slots → (f : Fact) → Tells arg slots (TheVariants.Discard k) (set_slot k None slots) f
-discard-told arg slots k h (init []) = refl
-discard-told arg slots k h (init (i ∷ q)) =
+pub clear-told : (arg : Text) (slots : Slots) (k : ℕ) (line : Line) → k < length slots → Clears k line → (f : Fact) → Tells arg slots line (set_slot k None slots) f
+clear-told arg slots k line h clears (init []) = sym (clears (init []) false)
+clear-told arg slots k line h clears (init (i ∷ q)) =
     ap (λ (ps : Parts Name). is_some (cell_at (i ∷ q) (part main_port (part (first_message arg) ps)))) (sym (set-none k slots))
-    ∙ clear-at (suc (suc k)) i q (variables_with arg slots) (fits arg k slots h)
-discard-told arg slots k h (case p c) = case-told arg slots (set_slot k None slots) (TheVariants.Discard k) p c
+    ∙ set-at (suc (suc k)) i q None (variables_with arg slots) (fits arg k slots h)
+    ∙ sym (clears (init (i ∷ q)) (is_some (cell_at (i ∷ q) (variables_with arg slots))))
+clear-told arg slots k line h clears (case p c) = case-told arg slots (set_slot k None slots) line p c
 
 -- the receive
 
@@ -224,7 +184,7 @@ start-told count (init (zero ∷ [])) = refl
 start-told count (init (zero ∷ j ∷ q)) = ap IsThere (none-there (j ∷ q))
 start-told count (init (suc zero ∷ q)) = ap IsThere (cell-below 1 q (before_receive (empty_slots count)) ∙ none-below q)
 start-told count (init (suc (suc i) ∷ q)) =
-    ap IsThere (cell-below (suc (suc i)) q (before_receive (empty_slots count)) ∙ ap (below q) (part-slot i (empty_slots count) ∙ ap (λ (o : Option Made). option_map string_cell o) (empty-slot i count)) ∙ none-below q)
+    ap IsThere (cell-below (suc (suc i)) q (before_receive (empty_slots count)) ∙ ap (cell_below q) (part-slot i (empty_slots count) ∙ ap (λ (o : Option Made). option_map string_cell o) (empty-slot i count)) ∙ none-below q)
     ∙ (rw (not-zero (suc i)) refl)
 start-told count (case p c) = no-component_first (empty_slots count) p c
 
@@ -236,8 +196,8 @@ line-told arg count (TheVariants.Set k bytes) lines p h finds size f = let withi
 line-told arg count (TheVariants.Send k) lines p h finds size f =
     let within : k < length p.slots = omega (arith, h) in
     let found = slot-found k p.slots finds.0 in
-    subst (λ o. tells (variables_with arg (after_send o k p).slots) f ≡ hold f (TheVariants.Send k) (tells (variables_with arg p.slots) f)) (sym found.1) (send-told arg p.slots k within f)
+    subst (λ o. tells (variables_with arg (after_send o k p).slots) f ≡ hold f (TheVariants.Send k) (tells (variables_with arg p.slots) f)) (sym found.1) (clear-told arg p.slots k (TheVariants.Send k) within (λ f b. refl) f)
 line-told arg count (TheVariants.Discard k) lines p h finds size f =
     let within : k < length p.slots = omega (arith, h) in
     let found = slot-found k p.slots finds.0 in
-    subst (λ o. tells (variables_with arg (after_discard o k p).slots) f ≡ hold f (TheVariants.Discard k) (tells (variables_with arg p.slots) f)) (sym found.1) (discard-told arg p.slots k within f)
+    subst (λ o. tells (variables_with arg (after_discard o k p).slots) f ≡ hold f (TheVariants.Discard k) (tells (variables_with arg p.slots) f)) (sym found.1) (clear-told arg p.slots k (TheVariants.Discard k) within (λ f b. refl) f)

@@ -7,8 +7,9 @@ use Rattle.herm_model.specs.Values.{Cell}
 use Rattle.herm_model.specs.Texts.{text_of}
 use Rattle.herm_journal.specs.Actions.{put}
 use Rattle.herm_journal.specs.Entries.{Text, Entry, port, Record}
-use Rattle.herm_journal.specs.Journals.{last_stamp, clock_of_process, clock_of_place, next_stamp, entry_behind}
+use Rattle.herm_journal.specs.Journals.{clock_of_process, clock_of_place, next_stamp, entry_behind}
 use Rattle.herm_source.specs.Bodies.{Name}
+use Rattle.herm_source.proofs.Ordered.{last-more}
 use Rattle.herm_compile.specs.Form.{IsLine}
 use Rattle.herm_compile.specs.declared.compiled.Line.{Line}
 use Rattle.herm_compile.specs.declared.compiled.Line.TheVariants
@@ -22,10 +23,6 @@ use Rattle.herm_world.proofs.StraightRun.{after_lines, behind-line}
 pub record IsClocked (journal : List Entry) (stamp : ℕ) : Type 0 where
   pub process : clock_of_process 1 journal ≡ stamp
   pub place : (n : ℕ) → clock_of_place (port n) journal ≤ stamp
-
-last-more : (test : Entry → Bool) (s : ℕ) (es : List Entry) (e : Entry) → last_stamp test s (es ++ e ∷ []) ≡ cond (test e) e.stamp (last_stamp test s es)
-last-more test s [] e = refl
-last-more test s (x ∷ es) e = last-more test (cond (test x) x.stamp s) es e
 
 pub next-clock : (journal : List Entry) (stamp n : ℕ) → IsClocked journal stamp → next_stamp journal 1 (port n) ≡ suc stamp
 next-clock journal stamp n c = ap (λ k. suc (max k (clock_of_place (port n) journal))) c.process ∙ ap suc (max-eq_left (c.place n))

@@ -1,5 +1,5 @@
 -- The run of a straight-line program, line by line.
-use Rattle.std.proofs.Common.{◌≡◌, ℕ, suc, ◌<◌, ◌≤◌, ◌+◌, List, [], ◌∷◌, ◌++◌, map, Bool, true, Some, None, option_and_then, length, replicate, slice_get, nat_lt, refl, sym, ap, subst, ◌∙◌, arith}
+use Rattle.std.proofs.Common.{◌≡◌, ℕ, suc, ◌<◌, ◌≤◌, ◌+◌, List, [], ◌∷◌, map, Bool, true, Some, None, option_and_then, length, replicate, slice_get, nat_lt, refl, sym, ap, subst, ◌∙◌, arith}
 use Rattle.std.specs.Prelude.{⊤}
 use Rattle.std.specs.List.{AllByRecursion}
 use Rattle.std.proofs.lemmas.Bool.{lt-ltb}
@@ -15,8 +15,7 @@ use Rattle.herm_journal.specs.Journals.{entry_behind}
 use Rattle.herm_source.specs.Bodies.{Name, Body}
 use Rattle.herm_source.specs.Edges.{arrive}
 use Rattle.herm_source.specs.States.{greatest_actions, answered}
-use Rattle.herm_source.specs.Systems.{Modules, Run, run, run_on, Event, acts, start, own_name, main_port, first_message}
-use Rattle.herm_source.proofs.Events.{chain-some, some-injective}
+use Rattle.herm_source.specs.Systems.{Modules, Run, run, run_on, acts, start, own_name, main_port, first_message}
 use Rattle.herm_compile.specs.Form.{IsLine}
 use Rattle.herm_compile.specs.declared.compiled.Line.{Line}
 use Rattle.herm_compile.specs.declared.compiled.Line.TheVariants
@@ -88,13 +87,6 @@ behind-line (TheVariants.Discard k) p h =
       size = length-set_slot k None p.slots;
       finds = λ lines finds. subst (λ v. FindsStrings v lines) (sym (values-set k None p.slots)) finds.1;
     })
-
--- a run goes on
-pub run-joined : (modules : Modules) (before rest : List Event) (r t : Run) → run modules before r ≡ Some t → run modules (before ++ rest) r ≡ run modules rest t
-run-joined modules [] rest r t e = ap (run modules rest) (some-injective e)
-run-joined modules (x ∷ before) rest r t e =
-    let b = chain-some (run modules before) (run_on modules x r) t e in
-    ap (option_and_then (run modules (before ++ rest))) b.1 ∙ run-joined modules before rest b.0 t b.2
 
 module _ (count : ℕ) (nodes : List Node) (label : ℕ → Fact → Bool) (limits : Limits) (arg : Text) where
   abbrev modules : Modules

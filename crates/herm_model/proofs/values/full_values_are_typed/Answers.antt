@@ -1,12 +1,11 @@
-use Rattle.std.proofs.Common.{◌∷◌, refl, subst, sym, ap}
+use Rattle.std.proofs.Common.{◌∷◌, subst, sym, ap}
 use Rattle.herm_model.specs.Lists.{IsIn}
 use Rattle.herm_model.specs.Paths.{init, path_of}
 use Rattle.herm_model.specs.Types.{full_parts, greatest_depth, steps}
-use Rattle.herm_model.specs.Values.{part, no_parts}
 use Rattle.herm_model.proofs.Lists.{in-map, in-map_from, cons-tail}
 use Rattle.herm_model.proofs.Steps.{full-named, steps-lead, steps-listed}
 use Rattle.herm_model.proofs.Typing.{full-typed}
-use Rattle.herm_model.proofs.FullFacts.{value-leads, leads-value, exact-full}
+use Rattle.herm_model.proofs.FullFacts.{full-leads, leads-full, exact-full}
 use Rattle.herm_model.proofs.values.full_values_are_typed.Goals as goal
 
 pub returns-clause-full : goal.returns-clause-full
@@ -14,9 +13,9 @@ returns-clause-full c = λ table t x h. full-typed table t x h
 
 pub returns-clause-facts : goal.returns-clause-facts
 returns-clause-facts c = λ table t x w h q. (
-  λ v. in-map (λ r. init (0 ∷ r)) q (steps full_parts table t) (steps-listed full_parts table full-named greatest_depth t w q (value-leads table q 0 t (part x no_parts) x refl h v)),
+  λ v. in-map (λ r. init (0 ∷ r)) q (steps full_parts table t) (steps-listed full_parts table full-named greatest_depth t w q (full-leads table q t x h v)),
   λ i. let r = in-map_from (λ r. init (0 ∷ r)) (init (0 ∷ q)) (steps full_parts table t) i in
-      leads-value table q 0 t (part x no_parts) x refl h (steps-lead full_parts table greatest_depth t q (subst (λ z. IsIn z (steps full_parts table t)) (sym (cons-tail (ap path_of r.2))) r.1)),
+      leads-full table q t x h (steps-lead full_parts table greatest_depth t q (subst (λ z. IsIn z (steps full_parts table t)) (sym (cons-tail (ap path_of r.2))) r.1)),
 )
 
 pub returns-clause-only : goal.returns-clause-only
