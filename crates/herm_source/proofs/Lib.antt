@@ -31,3 +31,6 @@ pub mod AsBefore
 pub mod NewValues
 pub mod Moves
 pub mod Contents
+pub mod FoundNeeds
+pub mod LeadsOn
+pub mod RunsReach

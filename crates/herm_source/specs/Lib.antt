@@ -24,3 +24,4 @@ pub mod Kept
 pub mod Forgetting
 pub mod Arrival
 pub mod Exceptions
+pub mod NeedsLaws

@@ -8,4 +8,5 @@ pub mod examples;
 pub mod exceptions;
 pub mod forgetting;
 pub mod ledger;
+pub mod needs;
 pub mod runs;

@@ -22,3 +22,4 @@ pub mod SoundPlaces
 pub mod SoundCounts
 pub mod SoundSystem
 pub mod SoundRun
+pub mod LineNeeds

@@ -147,9 +147,9 @@ module _ (count : ℕ) (nodes : List Node) (label : ℕ → Fact → Bool) (limi
 
   -- what is so in the opening state, between lines, at the end before the port is closed, and in the final state
   pub record IsSoThroughout (IsSo : System → Type 0) : Type 0 where
-    pub opening : (t : Target) → slice_get nodes 0 ≡ Some (node_for 0 TheVariants.Receive t) → ((f : Fact) → label 0 f ≡ tells (before_receive (empty_slots count)) f) → IsSo (first_run count nodes label limits arg).system
-    pub between : (i : ℕ) (line : Line) (t : Target) (p : Progress) → slice_get nodes i ≡ Some (node_for i line t) → ((f : Fact) → label i f ≡ tells (variables_with arg p.slots) f)
-        → length p.slots ≡ count → IsLine count line → Able (values_of p.slots) line → AreTexts p.slots → AreQueued p.queue → IsSo (run_at limits arg (node i) p).system
+    pub opening : ((f : Fact) → label 0 f ≡ tells (before_receive (empty_slots count)) f) → IsSo (first_run count nodes label limits arg).system
+    pub between : (i : ℕ) (p : Progress) → ((f : Fact) → label i f ≡ tells (variables_with arg p.slots) f) → length p.slots ≡ count → AreTexts p.slots → AreQueued p.queue
+        → IsSo (run_at limits arg (node i) p).system
     pub ending : (p : Progress) (g : List Name) → length p.slots ≡ count → AreQueued p.queue
         → IsSo (run_with limits end (ending (gap (gap (gaps (length p.slots)))) p.steps p.actions p.serial g) p.queue p.placed p.journal).system
     pub final : (p : Progress) (g : List Name) → length p.slots ≡ count → AreQueued p.queue → IsSo (final_system limits p g)
@@ -202,7 +202,7 @@ module _ (count : ℕ) (nodes : List Node) (label : ℕ → Fact → Bool) (limi
         let q : Progress = after_line line p in
         let room : q.actions < greatest_actions = omega (arith, behind.actions) in
         let step = line-step count nodes label limits arg i line end p here.0 (lt-ltb p.steps limits.steps below) (lt-ltb p.actions greatest_actions fewer) size well.0 can in (
-          so.between i line end p here.0 labels.0 size well.0 can texts queued,
+          so.between i p labels.0 size texts queued,
           only-line i line end p here.0 (lt-ltb p.steps limits.steps below) (lt-ltb p.actions greatest_actions fewer) well.0 can,
           λ t e. subst (OnlyAlong here_modules IsSo (close_event ∷ [])) (some-injective (sym step ∙ e)) (end-only q (behind.size ∙ size) (queued-kept count line p well.0 can texts queued) room),
         )
@@ -216,7 +216,7 @@ module _ (count : ℕ) (nodes : List Node) (label : ℕ → Fact → Bool) (limi
         let room : q.actions + length (next ∷ lines) < greatest_actions = omega (arith, behind.actions) in
         let step = line-step count nodes label limits arg i line (node (suc i)) p here.0 (lt-ltb p.steps limits.steps below) (lt-ltb p.actions greatest_actions fewer) size well.0 can
         ∙ ap (λ (r : Run). a_run r) (arrived-kept count nodes label limits arg (suc i) next lines q labels.1) in (
-          so.between i line (node (suc i)) p here.0 labels.0 size well.0 can texts queued,
+          so.between i p labels.0 size texts queued,
           only-line i line (node (suc i)) p here.0 (lt-ltb p.steps limits.steps below) (lt-ltb p.actions greatest_actions fewer) well.0 can,
           λ t e. subst (OnlyAlong here_modules IsSo (map event_of (next ∷ lines) ++ close_event ∷ [])) (some-injective (sym step ∙ e))
               (lines-only lines next (suc i) q here.1 labels.1 (behind.size ∙ size) (texts-kept count line p well.0 can texts) (queued-kept count line p well.0 can texts queued) well.1 (behind.finds (next ∷ lines) finds) more room),
@@ -229,7 +229,7 @@ module _ (count : ℕ) (nodes : List Node) (label : ℕ → Fact → Bool) (limi
         let p : Progress = received count nodes label limits arg in
         let room : p.actions < greatest_actions = omega arith in
         subst (OnlyAlong here_modules IsSo (acts 1 (port 1) ∷ close_event ∷ [])) (sym (start-is count nodes label limits arg set.begins)) (
-          so.opening end set.here.0 set.begins,
+          so.opening set.begins,
           only-take end set.here.0 below,
           λ t e. subst (OnlyAlong here_modules IsSo (close_event ∷ [])) (some-injective (sym step ∙ e)) (end-only p (length-empty count) tt room),
         )
@@ -240,7 +240,7 @@ module _ (count : ℕ) (nodes : List Node) (label : ℕ → Fact → Bool) (limi
         let room : 1 + length (line ∷ lines) < greatest_actions = omega (arith, set.few) in
         let step = take-run count nodes label limits arg (node 1) set.here.0 below ∙ ap (λ (r : Run). a_run r) (arrived-kept count nodes label limits arg 1 line lines p set.labels) in
         subst (OnlyAlong here_modules IsSo (acts 1 (port 1) ∷ (map event_of (line ∷ lines) ++ close_event ∷ []))) (sym (start-is count nodes label limits arg set.begins)) (
-          so.opening (node 1) set.here.0 set.begins,
+          so.opening set.begins,
           only-take (node 1) set.here.0 below,
           λ t e. subst (OnlyAlong here_modules IsSo (map event_of (line ∷ lines) ++ close_event ∷ [])) (some-injective (sym step ∙ e))
               (lines-only lines line 1 p set.here.1 set.labels (length-empty count) (texts-empty count) tt set.well set.finds more room),
@@ -262,7 +262,7 @@ module _ (count : ℕ) (limits : Limits) (arg : Text) where
       let p : Progress = after_lines lines (received count nodes label limits arg) in
       let ends = lines-end count nodes label limits arg lines set in
       let final : System = final_system limits p ends.names in
-      let any : IsSoThroughout count nodes label limits arg IsAny = record { opening = λ t here same. tt; between = λ i line t q here same size well can texts queued. tt; ending = λ q g size queued. tt; final = λ q g size queued. tt } in
+      let any : IsSoThroughout count nodes label limits arg IsAny = record { opening = λ same. tt; between = λ i q same size texts queued. tt; ending = λ q g size queued. tt; final = λ q g size queued. tt } in
       let b = begins modules IsAny (all_events count nodes label limits arg lines) (start modules limits arg) (record { system = final; journal = journal_of arg (sent_from (values_of (empty_slots count)) lines) })
       (body-only count nodes label limits arg IsAny any lines set) ends.is_run events r e in
       (b.0, final, b.1, none-steps (code_with count nodes label) limits p ends.names)

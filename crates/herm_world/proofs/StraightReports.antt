@@ -9,7 +9,7 @@ use Rattle.herm_journal.specs.Entries.{Text}
 use Rattle.herm_source.specs.Bodies.{Name}
 use Rattle.herm_source.specs.Edges.{Code}
 use Rattle.herm_source.specs.Systems.{Modules, System, Run}
-use Rattle.herm_source.specs.Headline.{Describes}
+use Rattle.herm_source.specs.Headline.{AreAccepted, Describes}
 use Rattle.herm_source.specs.Statuses.{line, bytes_of, plainly}
 use Rattle.herm_source.proofs.Events.{run-stamped}
 use Rattle.herm_source.proofs.SystemLedger.{runs-keep}
@@ -17,23 +17,24 @@ use Rattle.herm_source.proofs.KeptSteps.{beginnings-keep, local-steps-keep, answ
 use Rattle.herm_compile.specs.declared.compiled.Line.{Line}
 use Rattle.herm_compile.specs.declared.compiled.Line.TheVariants
 use Rattle.herm_world.specs.Lines.{sent_from}
-use Rattle.herm_world.specs.StraightRuns.{journal_of, report_of, StraightLinesRun}
+use Rattle.herm_world.specs.StraightRuns.{program_of, journal_of, report_of, StraightLinesRun}
 use Rattle.herm_world.proofs.Slots.{empty_slots, values_of}
 use Rattle.herm_world.proofs.Progress.{Progress, code_with, modules_with}
 use Rattle.herm_world.proofs.StraightRun.{after_lines, received}
 use Rattle.herm_world.proofs.StraightEnd.{strings-texts, journal-rising}
 use Rattle.herm_world.proofs.StraightDone.{AreSet, all_events, lines-end, final_system, none-steps, keeps-once, final-counts, strings-lines, by-lines}
 use Rattle.herm_world.proofs.Accepted.{lines-accepted}
+use Rattle.herm_world.proofs.LineNeeds.{lines-find}
 use Rattle.herm_world.proofs.SoundRun.{states-sound}
 
--- the report of lines that send these strings describes a run
-abbrev AreDescribed : Limits → Text → List Text → List Line → Modules → List Text → Type 0
-AreDescribed limits arg names lines modules strings = Describes modules limits arg names plainly (report_of arg lines strings)
+-- where the modules are accepted, the report of lines that send these strings describes a run
+abbrev AreDescribed : ℕ → Limits → Text → List Text → List Line → Modules → List Text → Type 0
+AreDescribed count limits arg names lines modules strings = AreAccepted (program_of count lines) modules → Describes modules limits arg names plainly (report_of arg lines strings)
 
 module _ (count : ℕ) (limits : Limits) (arg : Text) (names : List Text) (text : IsTrue (is_text arg)) where
   described : (lines : List Line) (nodes : List Node) (label : ℕ → Fact → Bool) → AreSet count nodes label limits arg lines
-      → AreDescribed limits arg names (TheVariants.Receive ∷ lines) (modules_with (code_with count nodes label)) (sent_from (values_of (empty_slots count)) lines)
-  described lines nodes label set =
+      → AreDescribed count limits arg names (TheVariants.Receive ∷ lines) (modules_with (code_with count nodes label)) (sent_from (values_of (empty_slots count)) lines)
+  described lines nodes label set accepted =
       let code : Code = code_with count nodes label in
       let modules : Modules = modules_with code in
       let first : Progress = received count nodes label limits arg in
@@ -44,15 +45,15 @@ module _ (count : ℕ) (limits : Limits) (arg : Text) (names : List Text) (text 
       let last : Run = record { system = final; journal = journal_of arg strings } in
       let events = all_events count nodes label limits arg lines in
       let few : length lines ≤ 1024 = omega (arith, set.few) in
-      let sound = states-sound count nodes label limits arg lines set in
+      let sound = states-sound count nodes label limits arg text lines set (journal_of arg strings) in
       record {
         final = final;
         is_ordered = journal-rising arg strings;
         is_stamped = run-stamped modules limits arg events last ends.is_run;
         is_a_run = (events, ends.is_run);
         is_final = none-steps code limits p ends.names;
-        finds_needs = λ s along. (sound along.3.0 (record { system = s; journal = along.0 }) along.3.1).0;
-        is_sound = λ s along. (sound along.3.0 (record { system = s; journal = along.0 }) along.3.1).1 text;
+        finds_needs = λ s along. lines-find count (TheVariants.Receive ∷ lines) modules limits arg (journal_of arg strings) s accepted along (sound s along);
+        is_sound = sound;
         has_ledger = λ s along. keeps-once modules code limits arg refl s along.0 along.3;
         ends = refl;
         queued = ap (λ (ts : List Text). (0, ts) ∷ (1, []) ∷ []) (strings-texts p.queue strings ends.totals.queue);
@@ -66,5 +67,5 @@ module _ (count : ℕ) (limits : Limits) (arg : Text) (names : List Text) (text 
 pub straight-lines-run : StraightLinesRun
 straight-lines-run count lines arg can = record {
   has_modules = lines-accepted count lines can;
-  is_described = λ limits modules names text enough accepted. by-lines count limits arg (AreDescribed limits arg names) (described count limits arg names text) lines modules can enough accepted;
+  is_described = λ limits modules names text enough accepted. by-lines count limits arg (AreDescribed count limits arg names) (described count limits arg names text) lines modules can enough accepted accepted;
 }

@@ -1,0 +1,5 @@
+use Rattle.herm_source.proofs.RunsReach.{runs-reach}
+use Rattle.herm_source.proofs.needs.runs_reach.Goals as goal
+
+pub returns : goal.returns
+returns c = record { reach = runs-reach }

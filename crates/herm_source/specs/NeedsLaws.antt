@@ -1,0 +1,45 @@
+-- Laws of where processes stand, and of what their statements find there.
+use Rattle.std.specs.Prelude.{◌≡◌, ℕ, Some, List, slice_get}
+use Rattle.herm_model.specs.Lists.{IsIn}
+use Rattle.herm_model.specs.Statements.{Process, IsWellFormedBlock}
+use Rattle.herm_model.specs.Control.{flow_of, IsReached}
+use Rattle.herm_journal.specs.Places.{Limits}
+use Rattle.herm_journal.specs.Entries.{Text, Entry}
+use Rattle.herm_source.specs.Bodies.{Name}
+use Rattle.herm_source.specs.Edges.{Code}
+use Rattle.herm_source.specs.States.{State}
+use Rattle.herm_source.specs.Systems.{Program, Modules, System, opening, Event, Run, run, start, numbered_from_one}
+use Rattle.herm_source.specs.Local.{IsLocallySound}
+use Rattle.herm_source.specs.Sound.{IsSound}
+use Rattle.herm_source.specs.Headline.{AreAccepted, IsAlong, FindsNeeds}
+
+-- the body of each process of the program is well formed
+abbrev pub HasWellFormedBodies : Program → Type 0
+HasWellFormedBodies program = (process : Process) → IsIn process program.processes → IsWellFormedBlock process.body
+
+-- Each process stands where a control path of its module leads. Language reference, "Control paths".
+abbrev pub StandsReached : Program → System → Type 0
+StandsReached program s =
+    (p : ℕ) (state : State Name) (process : Process) → numbered_from_one p s.processes ≡ Some state → slice_get program.processes state.code ≡ Some process
+    → IsReached (flow_of program.types process) state.point
+
+-- each process is sound within itself
+abbrev pub AreLocallySound : Modules → System → Type 0
+AreLocallySound modules s =
+    (p : ℕ) (state : State Name) (c : Code) → numbered_from_one p s.processes ≡ Some state → slice_get modules.codes state.code ≡ Some c → IsLocallySound c state
+
+-- In every state that a run of accepted modules leads to, whatever the schedule, each process stands where a control
+-- path leads. Language reference, "Control paths".
+abbrev pub RunsReach : Type 0
+RunsReach = (program : Program) (modules : Modules) (limits : Limits) (argument : Text) (events : List Event) (r : Run) → AreAccepted program modules → HasWellFormedBodies program
+    → run modules events (start modules limits argument) ≡ Some r → StandsReached program r.system
+
+-- Where the processes of accepted modules stand so and each is sound within itself, every statement finds the facts that
+-- it needs, whatever its form. Language reference, "Sound states".
+abbrev pub SoundStatesFindNeeds : Type 0
+SoundStatesFindNeeds = (program : Program) (modules : Modules) (s : System) → AreAccepted program modules → StandsReached program s → AreLocallySound modules s → FindsNeeds modules s
+
+-- So in every state along a journal of accepted modules that is sound every statement finds the facts that it needs.
+abbrev pub SoundStatesAlongFindNeeds : Type 0
+SoundStatesAlongFindNeeds = (program : Program) (modules : Modules) (limits : Limits) (argument : Text) (journal : List Entry) (s : System) → AreAccepted program modules → HasWellFormedBodies program
+    → IsAlong modules (opening modules limits argument) journal s → IsSound modules s → FindsNeeds modules s

@@ -1,0 +1,34 @@
+-- The body of a straight-line program is well formed, so that each statement of a sound state along a run finds the facts
+-- that it needs.
+use Rattle.std.proofs.Common.{◌≡◌, ℕ, List, [], ◌∷◌, inl, inr, refl, sym, subst}
+use Rattle.herm_model.specs.Statements.{Process, goes_on, branching_of, IsWellFormedBlock}
+use Rattle.herm_journal.specs.Places.{Limits}
+use Rattle.herm_journal.specs.Entries.{Text, Entry}
+use Rattle.herm_source.specs.Systems.{Modules, System, opening}
+use Rattle.herm_source.specs.Sound.{IsSound}
+use Rattle.herm_source.specs.Headline.{AreAccepted, IsAlong, FindsNeeds}
+use Rattle.herm_source.specs.NeedsLaws.{HasWellFormedBodies}
+use Rattle.herm_source.proofs.RunsReach.{along-finds}
+use Rattle.herm_compile.specs.Straight.{form_of, body_of}
+use Rattle.herm_compile.specs.declared.compiled.Line.{Line}
+use Rattle.herm_compile.specs.declared.compiled.Line.TheVariants
+use Rattle.herm_world.specs.StraightRuns.{program_of}
+
+-- a line has no blocks
+form-goes_on : (line : Line) → branching_of (form_of line) ≡ goes_on
+form-goes_on TheVariants.Receive = refl
+form-goes_on (TheVariants.Set n bytes) = refl
+form-goes_on (TheVariants.Send n) = refl
+form-goes_on (TheVariants.Discard n) = refl
+
+lines-formed : (lines : List Line) → IsWellFormedBlock (body_of lines)
+lines-formed [] = tt
+lines-formed (line ∷ lines) = (form-goes_on line, lines-formed lines)
+
+bodies-formed : (count : ℕ) (lines : List Line) → HasWellFormedBodies (program_of count lines)
+bodies-formed count lines process (inl e) = subst (λ (p : Process). IsWellFormedBlock p.body) (sym e) (lines-formed lines)
+bodies-formed count lines process (inr h) = absurd h
+
+pub lines-find : (count : ℕ) (lines : List Line) (modules : Modules) (limits : Limits) (arg : Text) (journal : List Entry) (s : System) → AreAccepted (program_of count lines) modules
+    → IsAlong modules (opening modules limits arg) journal s → IsSound modules s → FindsNeeds modules s
+lines-find count lines modules limits arg journal s accepted along sound = along-finds (program_of count lines) modules limits arg journal s accepted (bodies-formed count lines) along sound
