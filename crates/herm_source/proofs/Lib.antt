@@ -34,3 +34,8 @@ pub mod Contents
 pub mod FoundNeeds
 pub mod LeadsOn
 pub mod RunsReach
+pub mod SuitsReading
+pub mod SuitsMessages
+pub mod SuitsPorts
+pub mod SuitsStates
+pub mod SuitsRuns

@@ -13,7 +13,7 @@ use Rattle.herm_model.proofs.Options.{none-not_some, map-some}
 use Rattle.herm_model.proofs.NothingThere.{none-there}
 use Rattle.herm_model.proofs.FullFacts.{type_of, degree_of, at-fits}
 
-contents-of : (ps : List Parameter) → map (λ (p : Parameter). parameter_content partly p.mode p.content) ps ≡ map (a_value partly) (map (λ (p : Parameter). p.content) ps)
+pub contents-of : (ps : List Parameter) → map (λ (p : Parameter). parameter_content partly p.mode p.content) ps ≡ map (a_value partly) (map (λ (p : Parameter). p.content) ps)
 contents-of [] = refl
 contents-of (p ∷ ps) = ap (a_value partly p.content ∷◌) (contents-of ps)
 

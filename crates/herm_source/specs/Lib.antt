@@ -20,6 +20,7 @@ pub mod Examples
 pub mod Headline
 pub mod Laws
 pub mod DiaryLaws
+pub mod SuitsLaws
 pub mod Kept
 pub mod Forgetting
 pub mod Arrival

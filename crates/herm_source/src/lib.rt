@@ -10,3 +10,4 @@ pub mod forgetting;
 pub mod ledger;
 pub mod needs;
 pub mod runs;
+pub mod suits;

@@ -1,0 +1,5 @@
+use Rattle.herm_source.proofs.SuitsRuns.{sound-diaries-tell}
+use Rattle.herm_source.proofs.suits.sound_diaries_tell.Goals as goal
+
+pub returns : goal.returns
+returns c = record { told = sound-diaries-tell }

@@ -1,0 +1,5 @@
+use Rattle.herm_source.proofs.SuitsRuns.{sound-runs-suit}
+use Rattle.herm_source.proofs.suits.sound_runs_suit.Goals as goal
+
+pub returns : goal.returns
+returns c = record { suits = sound-runs-suit }
