@@ -150,7 +150,7 @@ in-last x [] = inl refl
 in-last x (z ∷ xs) = inr (in-last x xs)
 
 -- how a process stands that is there
-stands-as : (test : Standing → Bool) (modules : Modules) (s : System) (p : ℕ) (x : State Name) (c : Code) → numbered_from_one p s.processes ≡ Some x → slice_get modules.codes x.code ≡ Some c →
+pub stands-as : (test : Standing → Bool) (modules : Modules) (s : System) (p : ℕ) (x : State Name) (c : Code) → numbered_from_one p s.processes ≡ Some x → slice_get modules.codes x.code ≡ Some c →
     stands test modules s p ≡ test (standing own_name c s.book.limits.steps (can s p) x)
 stands-as test modules s p x c is is_code =
     ap (λ o. some_of test (list_of (λ y. y ∷ []) (option_and_then (λ state. option_and_then (λ code. Some (standing own_name code s.book.limits.steps (can s p) state)) (slice_get modules.codes state.code)) o))) is
@@ -331,7 +331,7 @@ module _ (modules : Modules) (limits : Limits) where
         (0, subst (λ es. IsAfter c limits.steps (first_state c z.code q n) es 0 (forget_state z)) (sym none) (after_steps (first_state c z.code q n) (forget_state z) 0 (ap (λ v. Some v) at_q))),
       )
 
-  place-limits : (place : Place) (h : Holding (Cell Name) (CellReply Name)) (a : CellAction Name) (s : System) → holding_at place s ≡ Some h → (set_holding place (after a h) s).book.limits ≡ s.book.limits
+  pub place-limits : (place : Place) (h : Holding (Cell Name) (CellReply Name)) (a : CellAction Name) (s : System) → holding_at place s ≡ Some h → (set_holding place (after a h) s).book.limits ≡ s.book.limits
   place-limits (port n) h a s at = ap (λ (b : Book). b.limits) (other-within (port n) (after a h) s refl)
   place-limits (reply_cell p) h a s at = ap (λ (b : Book). b.limits) (other-within (reply_cell p) (after a h) s refl)
   place-limits book h a s at = subst (λ x. (set_holding book (after a x) s).book.limits ≡ s.book.limits) (some-injective at) (book-limits a s)

@@ -86,7 +86,7 @@ module _ {M N R S : Type 0} (f : M → N) (g : R → S) where
   after-map h a = refl
 
 -- rounds are runs
-abbrev IsRunBetween : Modules → Run → Run → Type 0
+abbrev pub IsRunBetween : Modules → Run → Run → Type 0
 IsRunBetween modules r t = (events : List Event) × (run modules events r ≡ Some t)
 
 -- a run goes on
@@ -96,10 +96,10 @@ run-joined modules (x ∷ before) rest r t e =
     let b = chain-some (run modules before) (run_on modules x r) t e
     in ap (option_and_then (run modules (before ++ rest))) b.1 ∙ run-joined modules before rest b.0 t b.2
 
-both-runs : (modules : Modules) (r s t : Run) → IsRunBetween modules r s → IsRunBetween modules s t → IsRunBetween modules r t
+pub both-runs : (modules : Modules) (r s t : Run) → IsRunBetween modules r s → IsRunBetween modules s t → IsRunBetween modules r t
 both-runs modules r s t a b = (a.0 ++ b.0, run-joined modules a.0 b.0 r s a.1 ∙ b.1)
 
-one-run : (modules : Modules) (e : Event) (r t : Run) → run_on modules e r ≡ Some t → IsRunBetween modules r t
+pub one-run : (modules : Modules) (e : Event) (r t : Run) → run_on modules e r ≡ Some t → IsRunBetween modules r t
 one-run modules e r t p = (e ∷ [], ap (option_and_then (λ x. Some x)) p)
 
 turn-run : (modules : Modules) (e : Option Event) (r t : Round) → after_turn modules e r ≡ Some t → IsRunBetween modules r.run t.run

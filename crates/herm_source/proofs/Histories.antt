@@ -10,6 +10,7 @@ use Rattle.herm_journal.specs.Actions.{make_port, make_process, put, take, close
 use Rattle.herm_journal.specs.Places.{Limits, empty_port, port_with, Holding, a_port, replies, a_book, Fits, after}
 use Rattle.herm_journal.specs.Entries.{Text, Place, port, reply_cell, book, same_place, Entry, map_reply, texts_of, recorded, told}
 use Rattle.herm_journal.specs.Journals.{part_of_place, last_stamp, clock_of_place, clock_of_process, entry_behind, first_told, Replayed, at_start, after_entry, replay, IsLegal}
+use Rattle.herm_journal.proofs.Rising.{same-true}
 use Rattle.herm_source.specs.Bodies.{Name, Body}
 use Rattle.herm_source.specs.Exchanges.{CellReply, CellAction}
 use Rattle.herm_source.specs.States.{State, wanted, local_step, answered}
@@ -35,6 +36,11 @@ place-same (reply_cell m) (port n) e = absurd (true≢false (sym e))
 place-same (reply_cell m) book e = absurd (true≢false (sym e))
 place-same book (port n) e = absurd (true≢false (sym e))
 place-same book (reply_cell n) e = absurd (true≢false (sym e))
+
+pub place-itself : (q : Place) → same_place q q ≡ true
+place-itself (port n) = same-true n
+place-itself (reply_cell n) = same-true n
+place-itself book = refl
 
 -- parts and replays with one entry more
 part-kept : (s : Place) (journal : List Entry) (e : Entry) → same_place e.place s ≡ true → part_of_place s (journal ++ e ∷ []) ≡ part_of_place s journal ++ e ∷ []
@@ -72,7 +78,7 @@ get-set [] i x y e = none-not_some e
 get-set (z ∷ xs) zero x y e = refl
 get-set (z ∷ xs) (suc i) x y e = get-set xs i x y e
 
-get-other : {X : Type 0} (xs : List X) (i j : ℕ) (y : X) → nat_eq i j ≡ false → slice_get (slice_set xs i y) j ≡ slice_get xs j
+pub get-other : {X : Type 0} (xs : List X) (i j : ℕ) (y : X) → nat_eq i j ≡ false → slice_get (slice_set xs i y) j ≡ slice_get xs j
 get-other [] i j y e = refl
 get-other (z ∷ xs) zero zero y e = absurd (true≢false e)
 get-other (z ∷ xs) zero (suc j) y e = refl
@@ -103,7 +109,7 @@ held-there book s h a e =
     let k = book-stays a s.book in
     subst (λ x. holding_at book (set_holding book (after a x) s) ≡ Some (after a x)) (some-injective e) (subst (λ x. holding_at book (set_holding book x s) ≡ Some x) (sym k.1) refl)
 
-held-elsewhere : (place q : Place) (k : Holding (Cell Name) (CellReply Name)) (s : System) → same_place place q ≡ false → holding_at q (set_holding place k s) ≡ holding_at q s
+pub held-elsewhere : (place q : Place) (k : Holding (Cell Name) (CellReply Name)) (s : System) → same_place place q ≡ false → holding_at q (set_holding place k s) ≡ holding_at q s
 held-elsewhere (port n) (port m) (a_port p) s e = ap (option_map a_port) (get-other s.ports n m p e)
 held-elsewhere (reply_cell p) (reply_cell q) (replies rs) s e = ap (option_map replies) (get-other_from_one s.replies p q rs e)
 held-elsewhere book book (a_book b) s e = absurd (true≢false e)
@@ -115,7 +121,7 @@ held-elsewhere book (port m) (a_book b) s e = refl
 held-elsewhere book (reply_cell m) (a_book b) s e = refl
 held-elsewhere place q k s e = refl
 
-held-with_process : (q : Place) (p : ℕ) (y : State Name) (s : System) → holding_at q (set_process p y s) ≡ holding_at q s
+pub held-with_process : (q : Place) (p : ℕ) (y : State Name) (s : System) → holding_at q (set_process p y s) ≡ holding_at q s
 held-with_process (port n) p y s = refl
 held-with_process (reply_cell m) p y s = refl
 held-with_process book p y s = refl

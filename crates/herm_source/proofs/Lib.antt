@@ -31,11 +31,7 @@ pub mod AsBefore
 pub mod NewValues
 pub mod Moves
 pub mod Contents
-pub mod FoundNeeds
-pub mod LeadsOn
-pub mod RunsReach
-pub mod SuitsReading
-pub mod SuitsMessages
-pub mod SuitsPorts
-pub mod SuitsStates
-pub mod SuitsRuns
+pub mod known
+pub mod order
+pub mod incoming
+pub mod reached

@@ -21,7 +21,7 @@ use Rattle.herm_source.proofs.SystemLedger.{cond-some, process-some, processes-s
 use Rattle.herm_source.proofs.Numbers.{local-stays, answer-stays, begin-number}
 
 -- what is found in a list with one element set, and with one more
-set-found : {X : Type 0} (xs : List X) (i j : ℕ) (y z : X) → slice_get (slice_set xs i y) j ≡ Some z → ((i ≡ j) × (y ≡ z)) ⊎ (slice_get xs j ≡ Some z)
+pub set-found : {X : Type 0} (xs : List X) (i j : ℕ) (y z : X) → slice_get (slice_set xs i y) j ≡ Some z → ((i ≡ j) × (y ≡ z)) ⊎ (slice_get xs j ≡ Some z)
 set-found [] i j y z e = inr e
 set-found (x ∷ xs) zero zero y z e = inl (refl, some-injective e)
 set-found (x ∷ xs) zero (suc j) y z e = inr e
@@ -32,7 +32,7 @@ set-found (x ∷ xs) (suc i) (suc j) y z e = next (set-found xs i j y z e)
     next (inl p) = inl (ap suc p.0, p.1)
     next (inr q) = inr q
 
-more-found : {X : Type 0} (xs : List X) (j : ℕ) (y z : X) → slice_get (xs ++ y ∷ []) j ≡ Some z → ((j ≡ length xs) × (y ≡ z)) ⊎ (slice_get xs j ≡ Some z)
+pub more-found : {X : Type 0} (xs : List X) (j : ℕ) (y z : X) → slice_get (xs ++ y ∷ []) j ≡ Some z → ((j ≡ length xs) × (y ≡ z)) ⊎ (slice_get xs j ≡ Some z)
 more-found [] zero y z e = inl (refl, some-injective e)
 more-found [] (suc j) y z e = none-not_some e
 more-found (x ∷ xs) zero y z e = inr e
@@ -249,7 +249,7 @@ pub step-numbered : (modules : Modules) (e : Event) (s : System) (m : Moved) →
 step-numbered modules (steps p) s m e k = local-numbered modules p s m e k
 step-numbered modules (acts p place) s m e k = action-numbered modules p place s m e k
 
-run-numbered : (modules : Modules) (events : List Event) (r t : Run) → run modules events r ≡ Some t → IsNumbered modules r.system → IsNumbered modules t.system
+pub run-numbered : (modules : Modules) (events : List Event) (r t : Run) → run modules events r ≡ Some t → IsNumbered modules r.system → IsNumbered modules t.system
 run-numbered modules [] r t e k = subst (λ (x : Run). IsNumbered modules x.system) (some-injective e) k
 run-numbered modules (e ∷ events) r t is k =
     let b = chain-some (run modules events) (run_on modules e r) t is in
@@ -273,7 +273,7 @@ pub runs-numbered : (modules : Modules) (limits : Limits) (argument : Text) (c :
 runs-numbered modules limits argument c events r is e = run-numbered modules events (start modules limits argument) r e (opening-numbered modules limits argument c is)
 
 -- no name is made twice
-other-number : (m n : ℕ) → nat_eq m n ≡ false → m ≡ n → ⊥
+pub other-number : (m n : ℕ) → nat_eq m n ≡ false → m ≡ n → ⊥
 other-number m n e f = grind (arith, nat_tests)
 
 module _ (m k : ℕ) where

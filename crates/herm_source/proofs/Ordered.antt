@@ -16,7 +16,7 @@ abbrev pub Ascends : (Entry → Bool) → List Entry → Type 0
 Ascends test [] = Unit {0}
 Ascends test (e ∷ es) = Leads test e es × Ascends test es
 
-before-later : (e f : Entry) → e.stamp < f.stamp → is_before e f ≡ true
+pub before-later : (e f : Entry) → e.stamp < f.stamp → is_before e f ≡ true
 before-later e f lt = or_left (nat_lt e.stamp f.stamp) _ (less-true e.stamp f.stamp lt)
   where
     less-true : (m n : ℕ) → m < n → nat_lt m n ≡ true

@@ -18,7 +18,7 @@ use Rattle.herm_source.proofs.SystemLedger.{cond-some, process-some}
 use Rattle.herm_journal.proofs.Rising.{same-true}
 use Rattle.herm_source.proofs.Numbered.{BookMoves, book-moves, process-counts, step-numbered, opening-numbered}
 use Rattle.herm_source.proofs.RoundsEnd.{get-past}
-use Rattle.herm_source.proofs.Histories.{place-same}
+use Rattle.herm_source.proofs.Histories.{place-same, place-itself}
 use Rattle.herm_source.proofs.Diaries.{set-absent_from_one, made-absent, unmoved-absent}
 use Rattle.herm_source.proofs.Ordered.{Ascends, ascends-more, all-differ, last-more, in-more, kept-ordered, rising-ordered}
 
@@ -54,11 +54,6 @@ module _ (modules : Modules) (s t : System) (journal : List Entry) (e : Entry) (
   own-late q c true is = omega arith
   own-late q c false is = absurd (true≢false (sym is))
 
-  place-itself : (q : Place) → same_place q q ≡ true
-  place-itself (Place.port n) = same-true n
-  place-itself (Place.reply_cell n) = same-true n
-  place-itself Place.book = refl
-
   all-process : (f : Entry) → IsIn f (journal ++ e ∷ []) → f.stamp ≤ clock_of_process f.process (journal ++ e ∷ [])
   all-process f i = subst (λ c. f.stamp ≤ c) (sym (last-more (λ x. nat_eq x.process f.process || is_maker_of f.process x.action) 0 journal e)) (by_place (in-more f e journal i))
     where
@@ -92,7 +87,7 @@ module _ (modules : Modules) (s t : System) (journal : List Entry) (e : Entry) (
       is_there f (inr p) none = here (ap (λ (g : Entry). numbered_from_one g.process t.processes) (sym p) ∙ none)
 
 -- a process that an action makes was not there
-maker-absent : (modules : Modules) (s : System) (a : CellAction Name) (c : Book) (q : ℕ) → IsNumbered modules s → BookMoves a s.book c → is_maker_of q (recorded a) ≡ true → numbered_from_one q s.processes ≡ None
+pub maker-absent : (modules : Modules) (s : System) (a : CellAction Name) (c : Book) (q : ℕ) → IsNumbered modules s → BookMoves a s.book c → is_maker_of q (recorded a) ≡ true → numbered_from_one q s.processes ≡ None
 maker-absent modules s (make_process code (Some made)) c q k moves is =
     let counts = process-counts s.book (nat_lt s.book.processes s.book.limits.processes && nat_lt s.book.ports s.book.limits.ports) made moves.0 in
     let next : q ≡ suc (length s.processes) = sym (eqb-true made.0 q is) ∙ counts.0 ∙ ap suc (sym k.book.0) in

@@ -26,3 +26,4 @@ pub mod Forgetting
 pub mod Arrival
 pub mod Exceptions
 pub mod NeedsLaws
+pub mod OrderLaws

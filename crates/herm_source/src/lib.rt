@@ -7,6 +7,7 @@ pub mod arrival;
 pub mod examples;
 pub mod exceptions;
 pub mod forgetting;
+pub mod journals;
 pub mod ledger;
 pub mod needs;
 pub mod runs;

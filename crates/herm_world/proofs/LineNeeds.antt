@@ -8,7 +8,7 @@ use Rattle.herm_source.specs.Systems.{Modules, System, opening}
 use Rattle.herm_source.specs.Sound.{IsSound}
 use Rattle.herm_source.specs.Headline.{AreAccepted, IsAlong, FindsNeeds}
 use Rattle.herm_source.specs.NeedsLaws.{HasWellFormedBodies}
-use Rattle.herm_source.proofs.RunsReach.{along-finds}
+use Rattle.herm_source.proofs.reached.RunsReach.{along-finds}
 use Rattle.herm_compile.specs.Straight.{form_of, body_of}
 use Rattle.herm_compile.specs.declared.compiled.Line.{Line}
 use Rattle.herm_compile.specs.declared.compiled.Line.TheVariants

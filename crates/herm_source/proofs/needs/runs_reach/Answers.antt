@@ -1,4 +1,4 @@
-use Rattle.herm_source.proofs.RunsReach.{runs-reach}
+use Rattle.herm_source.proofs.reached.RunsReach.{runs-reach}
 use Rattle.herm_source.proofs.needs.runs_reach.Goals as goal
 
 pub returns : goal.returns

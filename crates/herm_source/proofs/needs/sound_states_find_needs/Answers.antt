@@ -1,4 +1,4 @@
-use Rattle.herm_source.proofs.FoundNeeds.{sound-finds}
+use Rattle.herm_source.proofs.reached.FoundNeeds.{sound-finds}
 use Rattle.herm_source.proofs.needs.sound_states_find_needs.Goals as goal
 
 pub returns : goal.returns

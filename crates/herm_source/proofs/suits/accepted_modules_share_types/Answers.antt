@@ -1,4 +1,4 @@
-use Rattle.herm_source.proofs.SuitsRuns.{accepted-share-types}
+use Rattle.herm_source.proofs.incoming.SuitsRuns.{accepted-share-types}
 use Rattle.herm_source.proofs.suits.accepted_modules_share_types.Goals as goal
 
 pub returns : goal.returns

@@ -1,4 +1,4 @@
-use Rattle.herm_source.proofs.SuitsRuns.{sound-diaries-tell}
+use Rattle.herm_source.proofs.incoming.SuitsRuns.{sound-diaries-tell}
 use Rattle.herm_source.proofs.suits.sound_diaries_tell.Goals as goal
 
 pub returns : goal.returns

@@ -1,4 +1,4 @@
-use Rattle.herm_source.proofs.SuitsRuns.{sound-runs-suit}
+use Rattle.herm_source.proofs.incoming.SuitsRuns.{sound-runs-suit}
 use Rattle.herm_source.proofs.suits.sound_runs_suit.Goals as goal
 
 pub returns : goal.returns

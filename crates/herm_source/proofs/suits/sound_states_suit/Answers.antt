@@ -1,4 +1,4 @@
-use Rattle.herm_source.proofs.SuitsRuns.{sound-states-suit}
+use Rattle.herm_source.proofs.incoming.SuitsRuns.{sound-states-suit}
 use Rattle.herm_source.proofs.suits.sound_states_suit.Goals as goal
 
 pub returns : goal.returns

@@ -18,7 +18,7 @@ use Rattle.herm_source.specs.DiaryLaws.{EventSuits}
 use Rattle.herm_source.specs.SuitsLaws.{ShareTypes, AcceptedShareTypes, SoundStatesSuit, AreSoundAlong, SoundRunsSuit, SoundDiariesTell, DescribedDiariesTell}
 use Rattle.herm_source.proofs.Events.{run-joined}
 use Rattle.herm_source.proofs.Diaries.{cond-both, diaries-tell}
-use Rattle.herm_source.proofs.SuitsStates.{done-suits}
+use Rattle.herm_source.proofs.incoming.SuitsStates.{done-suits}
 
 -- a process that is there with its code
 with-this : {X : Type 0} (modules : Modules) (s : System) (p : ℕ) (f : Code → State Name → Option X) (state : State Name) (c : Code) → numbered_from_one p s.processes ≡ Some state → slice_get modules.codes state.code ≡ Some c

@@ -20,8 +20,8 @@ use Rattle.herm_source.specs.NeedsLaws.{HasWellFormedBodies, RunsReach, SoundSta
 use Rattle.herm_source.proofs.SystemLedger.{cond-some, process-some, processes-stay}
 use Rattle.herm_source.proofs.Numbers.{local-stays, answer-stays}
 use Rattle.herm_source.proofs.Numbered.{set-found_from_one, more-found_from_one}
-use Rattle.herm_source.proofs.FoundNeeds.{module-of, sound-finds}
-use Rattle.herm_source.proofs.LeadsOn.{LeadsOn, local-leads, answer-leads, leads-reached, entry-reached}
+use Rattle.herm_source.proofs.reached.FoundNeeds.{module-of, sound-finds}
+use Rattle.herm_source.proofs.reached.LeadsOn.{LeadsOn, local-leads, answer-leads, leads-reached, entry-reached}
 
 module _ (program : Program) (modules : Modules) (accepted : AreAccepted program modules) (formed : HasWellFormedBodies program) where
   -- a state of the process of its number stands where a control path leads

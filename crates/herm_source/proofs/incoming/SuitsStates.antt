@@ -23,8 +23,8 @@ use Rattle.herm_source.specs.Along.{Suits}
 use Rattle.herm_source.specs.Statuses.{how_many}
 use Rattle.herm_source.specs.Messages.{IsMessage}
 use Rattle.herm_source.specs.Sound.{each, typed_in, typed_loop, typed_by, typed_process, typed_port, typed_cells, replies_of, one_if, has_open, is_callmessage_of, unfinalised, IsSoundWith}
-use Rattle.herm_source.proofs.SuitsMessages.{message-renamed, reply-renamed}
-use Rattle.herm_source.proofs.SuitsPorts.{is-some_of, port-typed}
+use Rattle.herm_source.proofs.incoming.SuitsMessages.{message-renamed, reply-renamed}
+use Rattle.herm_source.proofs.incoming.SuitsPorts.{is-some_of, port-typed}
 
 -- the first element is in the list
 first-in : {X : Type 0} (x : X) (xs : List X) → first_of xs ≡ Some x → IsIn x xs

@@ -30,7 +30,7 @@ use Rattle.herm_source.specs.Along.{ports_of, looks_at, port_type}
 use Rattle.herm_source.specs.Sound.{each, typed_in}
 use Rattle.herm_source.proofs.RenamedForms.{inport_number-renamed}
 use Rattle.herm_source.proofs.Diaries.{cond-both}
-use Rattle.herm_source.proofs.SuitsReading.{type-read}
+use Rattle.herm_source.proofs.incoming.SuitsReading.{type-read}
 
 -- what is found of a list that has such an element
 pub find-some : {X : Type 0} (test : X → Bool) (x : X) (xs : List X) → IsIn x xs → test x ≡ true → (y : X) × (find test xs ≡ Some y)
