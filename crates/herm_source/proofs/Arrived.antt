@@ -180,7 +180,7 @@ module _ {N : Type 0} (c : Code) (t : Target) (ps : Parts N) (has : Fact → Boo
       let top = top_of here (keeps c t) paths listed (length p) p (omega arith) left in
       absurd (false≢true (sym (ap not top.2) ∙ every-in (λ q. not (is_at_or_below q p)) top.0 lost none (topmost-excess c.types c.variables deep here (keeps c t) top.0 top.1 listed)))
 
-  arrived-exact : HasExactly (clear_all lost ps) (λ f. IsTrue (label_at c.label t f))
+  pub arrived-exact : HasExactly (clear_all lost ps) (λ f. IsTrue (label_at c.label t f))
   arrived-exact = record {
     values = λ p. (
       (λ h.

@@ -29,7 +29,7 @@ use Rattle.herm_source.proofs.RoundsEnd.{get-past, made-book, other-within}
 use Rattle.herm_source.proofs.Histories.{get-set_from_one, get-other_from_one}
 use Rattle.herm_source.proofs.Numbers.{local-stays, answer-stays, begin-number}
 use Rattle.herm_source.proofs.Numbered.{set-found_from_one, more-found_from_one, step-numbered, opening-numbered}
-use Rattle.herm_source.proofs.RenamedSteps.{local_step-renamed, answered-renamed, wanted-renamed, begin-renamed}
+use Rattle.herm_source.proofs.renamed.RenamedSteps.{local_step-renamed, answered-renamed, wanted-renamed, begin-renamed}
 use Rattle.herm_source.proofs.Events.{filter-kept, filter-passed}
 
 -- what is recorded does not depend on names

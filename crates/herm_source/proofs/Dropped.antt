@@ -14,7 +14,7 @@ use Rattle.herm_model.proofs.Beginnings.{below-self, below-trans}
 use Rattle.herm_model.proofs.Places.{cell_below, cell-below, read_below, read-below, part_at-set_other, part_at-change_same, part_at-change_other, set_at-none, inside-change}
 use Rattle.herm_model.proofs.NothingThere.{nothing-there}
 
-same_test : (i k : ℕ) → nat_eq i k ≡ false → i ≢ k
+pub same_test : (i k : ℕ) → nat_eq i k ≡ false → i ≢ k
 same_test i k e s = true≢false (sym (eq-eqb i k s) ∙ e)
 
 abbrev pub is_path_at : Path → Bool
@@ -22,7 +22,7 @@ is_path_at [] = false
 is_path_at (i ∷ q) = true
 
 module _ (N : Type 0) where
-  cleared_part : (i : ℕ) (ps : Parts N) → part_at i (set_part i None ps) ≡ None
+  pub cleared_part : (i : ℕ) (ps : Parts N) → part_at i (set_part i None ps) ≡ None
   cleared_part i no_parts = refl
   cleared_part zero (gap ps) = refl
   cleared_part zero (part c ps) = refl
@@ -40,7 +40,7 @@ module _ (N : Type 0) where
   none_at [] = refl
   none_at (j ∷ r) = nothing-there N (j ∷ r)
 
-  set-other : (i : ℕ) (q : Path) (k : ℕ) (o : Option (Cell N)) (ps : Parts N) → i ≢ k → part_at k (set_at (i ∷ q) o ps) ≡ part_at k ps
+  pub set-other : (i : ℕ) (q : Path) (k : ℕ) (o : Option (Cell N)) (ps : Parts N) → i ≢ k → part_at k (set_at (i ∷ q) o ps) ≡ part_at k ps
   set-other i [] k o ps d = part_at-set_other i k o ps d
   set-other i (j ∷ q) k o ps d = part_at-change_other i k (change_inside (set_at (j ∷ q) o)) ps d
 

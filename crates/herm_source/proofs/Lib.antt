@@ -6,10 +6,6 @@ pub mod KeptActions
 pub mod Counting
 pub mod SystemLedger
 pub mod KeptSteps
-pub mod RenamedBodies
-pub mod RenamedForms
-pub mod RenamedActions
-pub mod RenamedSteps
 pub mod Numbers
 pub mod Numbered
 pub mod Histories
@@ -24,14 +20,10 @@ pub mod Ordered
 pub mod RunsOrdered
 pub mod SetValues
 pub mod OutcomesArrive
-pub mod PlainForms
-pub mod Assignments
-pub mod Messages
 pub mod AsBefore
-pub mod NewValues
-pub mod Moves
-pub mod Contents
 pub mod known
 pub mod order
 pub mod incoming
 pub mod reached
+pub mod forms
+pub mod renamed

@@ -78,7 +78,7 @@ module _ (N : Type 0) (table : TypeTable) where
   typed-set [] i ts t d ps e k h = typed-set_part ts i t d ps h e k
   typed-set (j ∷ r) i ts t d ps e k h = typed-set_by (slice_get ts i) ts i j t r (set_at (j ∷ r) (Some d)) ps refl e (λ types qs e' h'. typed-set r j types t d qs e' k h') h
 
-not-both : (a b : Bool) → not a && b ≡ true → (a ≡ false) × (b ≡ true)
+pub not-both : (a b : Bool) → not a && b ≡ true → (a ≡ false) × (b ≡ true)
 not-both true b e = absurd (false≢true e)
 not-both false b e = (refl, e)
 
@@ -129,7 +129,7 @@ module _ (steps' : List (List ℕ)) (p : Path) where
 
 -- what is at a path that is set
 module _ (i : ℕ) (q : Path) (value : Cell Name) (ps : Parts Name) (place : IsTrue (has_place ps (i ∷ q))) where
-  set-below : (r : Path) → has_value (put_at (i ∷ q) value ps) ((i ∷ q) ++ r) ≡ has_value (part value no_parts) (0 ∷ r)
+  pub set-below : (r : Path) → has_value (put_at (i ∷ q) value ps) ((i ∷ q) ++ r) ≡ has_value (part value no_parts) (0 ∷ r)
   set-below [] = ap (λ p. has_value (put_at (i ∷ q) value ps) (i ∷ p)) (append-nil q) ∙ ap is_some (cell_at-set_same (i ∷ q) (Some value) ps place)
   set-below (j ∷ r) = ap is_some (cell_at-set_below (i ∷ q) j r (Some value) ps place)
 

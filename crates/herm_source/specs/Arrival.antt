@@ -1,22 +1,21 @@
 -- What is claimed of edges: behind an edge there is a value exactly where the facts of its target say so.
-use Rattle.std.specs.Prelude.{◌≡◌, ℕ, List, [], ◌∷◌, ◌++◌, ◌↔◌, Bool, false, not, ◌&&◌, ◌||◌, Some, slice_get, IsTrue}
+use Rattle.std.specs.Prelude.{◌≡◌, ℕ, List, ◌∷◌, Bool, false, not, ◌&&◌, ◌||◌, Some, slice_get, IsTrue}
 use Rattle.herm_model.specs.Lists.{IsIn, some_of}
-use Rattle.herm_model.specs.Paths.{Path, Fact, init, path_of, same_fact, is_at_or_below}
-use Rattle.herm_model.specs.Types.{TypeTable, steps, full_parts, fields, cases, rows, polymorph, inport, outport, type_at, is_within_depth, greatest_depth}
+use Rattle.herm_model.specs.Paths.{Path, Fact, path_of, same_fact, is_at_or_below}
+use Rattle.herm_model.specs.Types.{TypeTable, type_at, is_within_depth, greatest_depth}
 use Rattle.herm_model.specs.Facts.{IsClosed, full_facts}
 use Rattle.herm_model.specs.Expressions.{Expression}
-use Rattle.herm_model.specs.Statements.{Form, Assign, Move, Dissolve, Unwrap, New, Connect, Receive, Send, Discard, If, While, Raise, Leave, Process, IsWellFormedBlock}
+use Rattle.herm_model.specs.Statements.{Form, Send, Discard, If, While, Raise, Leave, Process, IsWellFormedBlock}
 use Rattle.herm_model.specs.Nodes.{Target, node, end, Node, entry_of, process_nodes}
 use Rattle.herm_model.specs.Outcomes.{Outcome}
 use Rattle.herm_model.specs.StatementTable.{makes, kills}
 use Rattle.herm_model.specs.Control.{Point, Edge, flow_of, held_behind, IsReached}
 use Rattle.herm_model.specs.Refusals.{Labels, label_at, AreExact}
-use Rattle.herm_model.specs.Values.{Cell, Parts, Value, HasExactly, kind_of, opens, has_place, put_at, clear_at}
+use Rattle.herm_model.specs.Values.{Cell, Parts, HasExactly, kind_of, opens, has_place, put_at, clear_at}
 use Rattle.herm_model.specs.Typed.{HasType, HaveTypes, IsFull}
-use Rattle.herm_source.specs.Evaluate.{gives, evaluate}
 use Rattle.herm_source.specs.Bodies.{Name, Body, goes}
-use Rattle.herm_journal.specs.Actions.{put, take}
-use Rattle.herm_source.specs.Exchanges.{receive, send}
+use Rattle.herm_journal.specs.Actions.{put}
+use Rattle.herm_source.specs.Exchanges.{send}
 use Rattle.herm_source.specs.Edges.{Code, code_of, arrive, beyond_declared}
 use Rattle.herm_source.specs.States.{State, begin, act, behind}
 
@@ -99,43 +98,9 @@ pub record PlainFormsAreSound (c : Code) : Type 0 where
   pub raise : (e : ℕ) → KeepsSound c (Raise e)
   pub leave : KeepsSound c Leave
 
--- An assignment to a whole variable, of an expression whose value is a full one of the variable's type, does what the
--- statement table says of it. Language reference, "Sound states".
-abbrev pub AssignmentsAreSound : Type 0
-AssignmentsAreSound = (c : Code) (v t : ℕ) (e : Expression) → slice_get c.variables v ≡ Some t → IsTrue (is_within_depth greatest_depth c.types t)
-    → (name : Name → Name) (statement : ℕ) (has : Fact → Bool) (b b' : Body Name) (o : Outcome) → ((value : Value) → evaluate b.variables e ≡ gives value → IsFull c.types t value)
-    → AreSound c has b.variables → act name c statement (Assign (v ∷ []) e) b ≡ goes o b' → AreSound c (held_after c.types c.variables (Assign (v ∷ []) e) o has) b'.variables
-
--- A message that is full is received in a whole variable from a port whose type lists no facts.
--- Language reference, "Sound states".
-abbrev pub ReceivesAreSound : Type 0
-ReceivesAreSound = (c : Code) (v t port : ℕ) (i : Path) → slice_get c.variables v ≡ Some t → IsTrue (is_within_depth greatest_depth c.types t)
-    → type_at c.types c.variables i ≡ Some port → slice_get c.types port ≡ Some (inport t [])
-    → (has : Fact → Bool) (b b' : Body Name) (o : Outcome) (k : ℕ) (message : Cell Name) → IsFull c.types t message
-    → AreSound c has b.variables → receive (v ∷ []) (take k message) b ≡ goes o b' → AreSound c (held_after c.types c.variables (Receive (v ∷ []) i) o has) b'.variables
-
 -- A message that was placed is gone from where it was, with what it held beyond its facts.
 -- Language reference, "Sound states".
 abbrev pub SendsAreSound : Type 0
 SendsAreSound = (c : Code) (x : ℕ) (q : List ℕ) (to : Path) (has : Fact → Bool) (b b' : Body Name) (o : Outcome) (k : ℕ) (message : Cell Name)
     → AreSound c has b.variables → send (beyond_declared c to (x ∷ q) b) (x ∷ q) (put (Some k) message) b ≡ goes o b'
     → AreSound c (held_after c.types c.variables (Send (x ∷ q) to) o has) b'.variables
-
--- A new record, table or outport in a whole variable: its own fact is made. Language reference, "Sound states".
-pub record NewValuesAreSound (c : Code) : Type 0 where
-  pub new : (v t : ℕ) (ts : List ℕ) → slice_get c.variables v ≡ Some t → slice_get c.types t ≡ Some (fields ts) → KeepsSound c (New (v ∷ []))
-  pub new_table : (v t row : ℕ) (key : List ℕ) → slice_get c.variables v ≡ Some t → slice_get c.types t ≡ Some (rows row key) → KeepsSound c (New (v ∷ []))
-  pub connect : (v t port : ℕ) (i : Path) → slice_get c.variables v ≡ Some t → slice_get c.types t ≡ Some (outport port) → KeepsSound c (Connect (v ∷ []) i)
-
--- A value that has exactly its full facts moves to a whole variable of its type. Language reference, "Sound states".
-abbrev pub MovesAreSound : Type 0
-MovesAreSound = (c : Code) (i : ℕ) (q : List ℕ) (v t : ℕ) → slice_get c.variables v ≡ Some t → IsTrue (is_within_depth greatest_depth c.types t) → type_at c.types c.variables (i ∷ q) ≡ Some t
-    → (name : Name → Name) (statement : ℕ) (has : Fact → Bool) (b b' : Body Name) (o : Outcome) → ((r : List ℕ) → IsIn r (steps full_parts c.types t) ↔ IsTrue (has (init ((i ∷ q) ++ r))))
-    → AreSound c has b.variables → act name c statement (Move (i ∷ q) (v ∷ [])) b ≡ goes o b' → AreSound c (held_after c.types c.variables (Move (i ∷ q) (v ∷ [])) o has) b'.variables
-
--- The content of a variant or a polymorph moves to a whole variable of its type. Language reference, "Sound states".
-pub record ContentsAreSound (c : Code) : Type 0 where
-  pub dissolve : (i : ℕ) (q : List ℕ) (k v t u : ℕ) (ts : List ℕ) → slice_get c.variables v ≡ Some t → IsTrue (is_within_depth greatest_depth c.types t) → type_at c.types c.variables (i ∷ q) ≡ Some u
-      → slice_get c.types u ≡ Some (cases ts) → slice_get ts k ≡ Some t → KeepsSound c (Dissolve (i ∷ q) k (v ∷ []))
-  pub unwrap : (i : ℕ) (q : List ℕ) (v t u : ℕ) → slice_get c.variables v ≡ Some t → IsTrue (is_within_depth greatest_depth c.types t) → type_at c.types c.variables (i ∷ q) ≡ Some u
-      → slice_get c.types u ≡ Some polymorph → KeepsSound c (Unwrap (i ∷ q) t (v ∷ []))

@@ -24,6 +24,9 @@ pub mod SuitsLaws
 pub mod Kept
 pub mod Forgetting
 pub mod Arrival
+pub mod FormLaws
+pub mod TargetLaws
 pub mod Exceptions
 pub mod NeedsLaws
 pub mod OrderLaws
+pub mod ComponentLaws

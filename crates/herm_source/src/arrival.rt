@@ -1,7 +1,7 @@
 // Laws of edges and beginnings: what they leave is what the facts of their target say.
 
 ghost use Rattle.herm_source.specs.Edges.{Code};
-ghost use Rattle.herm_source.specs.Arrival.{AssignmentsAreSound, BeginningsAreSound, ClearingIsSound, ContentsAreSound, EdgesAreExact, EdgesArrive, MovesAreSound, NewValuesAreSound, OutcomesArrive, PlainFormsAreSound, ReceivesAreSound, SendsAreSound, SettingIsSound};
+ghost use Rattle.herm_source.specs.Arrival.{BeginningsAreSound, ClearingIsSound, EdgesAreExact, EdgesArrive, OutcomesArrive, PlainFormsAreSound, SendsAreSound, SettingIsSound};
 
 /// Behind an edge there is a value exactly where the facts of its target say so, and each is of its type.
 pub fn edges_leave_what_is_held()
@@ -40,32 +40,7 @@ pub fn plain_forms_are_sound()
     ensures forms { (c : Code) → PlainFormsAreSound c }
 {}
 
-/// So does an assignment to a whole variable, of an expression whose value is a full one of its type.
-pub fn assignments_are_sound()
-    ensures assignments { AssignmentsAreSound }
-{}
-
-/// So does a `receive` of a full message in a whole variable, from a port whose type lists no facts.
-pub fn receives_are_sound()
-    ensures receives { ReceivesAreSound }
-{}
-
 /// So does a `send` whose message was placed: what it held beyond its facts is dropped, and the message is gone.
 pub fn sends_are_sound()
     ensures sends { SendsAreSound }
-{}
-
-/// So do `new` of a record or a table and `connect`, in a whole variable: the value's own fact is made.
-pub fn new_values_are_sound()
-    ensures values { (c : Code) → NewValuesAreSound c }
-{}
-
-/// So does a `move` to a whole variable of a value that has exactly its full facts.
-pub fn moves_are_sound()
-    ensures moves { MovesAreSound }
-{}
-
-/// So do `dissolve` and `unwrap` into a whole variable, also where `unwrap` finds another type.
-pub fn contents_are_sound()
-    ensures contents { (c : Code) → ContentsAreSound c }
 {}

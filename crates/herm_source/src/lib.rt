@@ -4,6 +4,7 @@
 #![tactic(auto)]
 
 pub mod arrival;
+pub mod components;
 pub mod examples;
 pub mod exceptions;
 pub mod forgetting;
@@ -12,3 +13,4 @@ pub mod ledger;
 pub mod needs;
 pub mod runs;
 pub mod suits;
+pub mod targets;

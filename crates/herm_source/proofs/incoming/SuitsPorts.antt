@@ -28,7 +28,7 @@ use Rattle.herm_source.specs.Systems.{own_name}
 use Rattle.herm_source.specs.Renaming.{rename_body, forget_name, forget_state}
 use Rattle.herm_source.specs.Along.{ports_of, looks_at, port_type}
 use Rattle.herm_source.specs.Sound.{each, typed_in}
-use Rattle.herm_source.proofs.RenamedForms.{inport_number-renamed}
+use Rattle.herm_source.proofs.renamed.RenamedForms.{inport_number-renamed}
 use Rattle.herm_source.proofs.Diaries.{cond-both}
 use Rattle.herm_source.proofs.incoming.SuitsReading.{type-read}
 

@@ -1,0 +1,24 @@
+-- Forms do what the statement table says of them: values stay sound, for sources and targets at any paths.
+pub mod PlainForms
+pub mod Assignments
+pub mod Messages
+pub mod NewValues
+pub mod Moves
+pub mod SetTargets
+pub mod ExcessDropped
+pub mod MovesToTargets
+pub mod ToldFacts
+pub mod ReceivesToTargets
+pub mod AnswersToTargets
+pub mod SentMessages
+pub mod MovedContents
+pub mod KnownComponents
+pub mod FullSources
+pub mod HeldContents
+pub mod ReadTypes
+pub mod FoundRows
+pub mod ChangedTables
+pub mod RemovedRows
+pub mod ClearedReads
+pub mod InsertedRows
+pub mod VisitedRows
