@@ -24,3 +24,4 @@ pub mod ExampleTypes
 pub mod TypeLaws
 pub mod ValueLaws
 pub mod TextLaws
+pub mod TypedExpressions

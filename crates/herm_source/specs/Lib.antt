@@ -26,6 +26,7 @@ pub mod Forgetting
 pub mod Arrival
 pub mod FormLaws
 pub mod TargetLaws
+pub mod ExpressionLaws
 pub mod Exceptions
 pub mod NeedsLaws
 pub mod OrderLaws

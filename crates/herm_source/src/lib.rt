@@ -7,6 +7,7 @@ pub mod arrival;
 pub mod components;
 pub mod examples;
 pub mod exceptions;
+pub mod expressions;
 pub mod forgetting;
 pub mod journals;
 pub mod ledger;
