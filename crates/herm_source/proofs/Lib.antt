@@ -27,3 +27,5 @@ pub mod incoming
 pub mod reached
 pub mod forms
 pub mod renamed
+pub mod evaluated
+pub mod called

@@ -1,12 +1,5 @@
 -- Forms do what the statement table says of them: values stay sound, for sources and targets at any paths.
 pub mod PlainForms
-pub mod NumberTexts
-pub mod CopiedValues
-pub mod TypedExpressions
-pub mod ReadValues
-pub mod AssignedExpressions
-pub mod ExampleTyping
-pub mod RaisedExceptions
 pub mod Assignments
 pub mod Messages
 pub mod NewValues

@@ -31,3 +31,4 @@ pub mod Exceptions
 pub mod NeedsLaws
 pub mod OrderLaws
 pub mod ComponentLaws
+pub mod CallLaws

@@ -4,6 +4,7 @@
 #![tactic(auto)]
 
 pub mod arrival;
+pub mod calls;
 pub mod components;
 pub mod examples;
 pub mod exceptions;

@@ -78,7 +78,7 @@ module _ (types : TypeTable) (t : ℕ) where
   said-all (f ∷ fs) of = ap (λ g. g ∷ map (said_at (0 ∷ [])) fs) (said-same f (of f (inl refl))) ∙ ap (f ∷◌) (said-all fs (λ g h. of g (inr h)))
 
   module _ (deep : IsTrue (is_within_depth greatest_depth types t)) (port : ℕ) (declared : List Fact) (shape : slice_get types port ≡ Some (inport t declared)) (facts : (f : Fact) → IsIn f declared → IsFactOf types (t ∷ []) f) where
-    declared-is : declared_facts types port (0 ∷ []) ≡ message_facts types t declared
+    pub declared-is : declared_facts types port (0 ∷ []) ≡ message_facts types t declared
     declared-is =
         declared-said types port (0 ∷ []) ∙ ap (λ o. map (said_at (0 ∷ [])) (travelling_of types o)) shape ∙ said-all (message_facts types t declared) (message-of declared facts)
 

@@ -1,4 +1,4 @@
-use Rattle.herm_source.proofs.forms.RaisedExceptions.{raises-its}
+use Rattle.herm_source.proofs.evaluated.RaisedExceptions.{raises-its}
 use Rattle.herm_source.proofs.expressions.evaluations_raise_their_exceptions.Goals as goal
 
 pub returns : goal.returns

@@ -1,4 +1,4 @@
-use Rattle.herm_source.proofs.forms.ExampleTyping.{example-typing}
+use Rattle.herm_source.proofs.evaluated.ExampleTyping.{example-typing}
 use Rattle.herm_source.proofs.expressions.expressions_are_typed_as_written.Goals as goal
 
 pub returns : goal.returns

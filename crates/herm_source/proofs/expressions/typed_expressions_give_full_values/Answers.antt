@@ -1,4 +1,4 @@
-use Rattle.herm_source.proofs.forms.AssignedExpressions.{typed-full}
+use Rattle.herm_source.proofs.evaluated.AssignedExpressions.{typed-full}
 use Rattle.herm_source.proofs.expressions.typed_expressions_give_full_values.Goals as goal
 
 pub returns : goal.returns

@@ -17,7 +17,7 @@ use Rattle.herm_source.specs.Edges.{Code}
 use Rattle.herm_source.specs.Evaluate.{Evaluated, gives, raises, no_value, scalar_value, gives_scalar, gives_boolean, scalar_then, one_then, two_then, boolean_then, integer_then, text_then, within_bits, by_divisor, within_length, compared, on_booleans, on_integers, on_texts, operate, scalar_of, rows_there}
 use Rattle.herm_source.specs.ExpressionLaws.{ComesTo, Decides}
 use Rattle.herm_source.proofs.forms.ReadTypes.{is-table}
-use Rattle.herm_source.proofs.forms.NumberTexts.{signed-text}
+use Rattle.herm_source.proofs.evaluated.NumberTexts.{signed-text}
 
 -- the scalar is a value of a type of this shape
 abbrev pub FitsShape : Shape → Scalar → Type 0

@@ -19,7 +19,7 @@ use Rattle.herm_model.proofs.Typing.{full-typed}
 use Rattle.herm_source.proofs.TypedReading.{typed-part}
 use Rattle.herm_source.proofs.forms.ReadTypes.{behind-there, variant-component, readable-part}
 use Rattle.herm_source.proofs.forms.ToldFacts.{there-read, read-on}
-use Rattle.herm_source.proofs.forms.CopiedValues.{part-deep, nothing-below, WholePart, PartRead, whole-part, part-read}
+use Rattle.herm_source.proofs.evaluated.CopiedValues.{part-deep, nothing-below, WholePart, PartRead, whole-part, part-read}
 
 -- a parameter of another mode is filled
 first-filled : (m : Mode) (k u : ℕ) (xs : List (ℕ × ℕ)) → is_out_mode m ≡ false → IsIn (k, u) (if_filled m (k, u) xs)

@@ -21,10 +21,10 @@ use Rattle.herm_source.specs.Arrival.{AreSound, AreDeep}
 use Rattle.herm_source.specs.ExpressionLaws.{TypedExpressionsGiveFull, ComesTo, WhereFound, TypedExpressionsHaveValues, TypedAssignmentsKeepSound}
 use Rattle.herm_source.proofs.forms.ReadTypes.{read-typed}
 use Rattle.herm_source.proofs.forms.ToldFacts.{in-closed}
-use Rattle.herm_source.proofs.forms.CopiedValues.{deep-at, copy-full}
+use Rattle.herm_source.proofs.evaluated.CopiedValues.{deep-at, copy-full}
 use Rattle.herm_source.proofs.forms.SetTargets.{assignments-keep}
-use Rattle.herm_source.proofs.forms.ReadValues.{read-there}
-use Rattle.herm_source.proofs.forms.TypedExpressions.{operation-comes, negated-comes, inverted-comes, decimal-comes, length-comes, size-comes, literal-comes, comes-decides}
+use Rattle.herm_source.proofs.evaluated.ReadValues.{read-there}
+use Rattle.herm_source.proofs.evaluated.TypedExpressions.{operation-comes, negated-comes, inverted-comes, decimal-comes, length-comes, size-comes, literal-comes, comes-decides}
 
 module _ (c : Code) (deep : AreDeep c) (has : Fact → Bool) (ps : Parts Name) (sound : AreSound c has ps) where
   -- what is held is told
