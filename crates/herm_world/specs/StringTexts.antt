@@ -1,5 +1,5 @@
 -- The text of a string value, and how the string is read back from it.
--- Language reference, "Texts of values".
+-- Language reference, "Text of a value".
 use Rattle.std.specs.Prelude.{ℕ, List, [], ◌∷◌, ◌++◌, nat_eq, if◌then◌else◌, Bool, true, false}
 
 -- a byte as it stands inside the quotes: a newline, a quote and a backslash are escaped
