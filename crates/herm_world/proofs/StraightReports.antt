@@ -5,7 +5,7 @@ use Rattle.herm_model.specs.Nodes.{Node}
 use Rattle.herm_model.specs.Typed.{is_text}
 use Rattle.herm_model.specs.Values.{Cell}
 use Rattle.herm_journal.specs.Places.{Limits}
-use Rattle.herm_journal.specs.Entries.{Text}
+use Rattle.herm_journal.specs.Entries.{Text, Entry}
 use Rattle.herm_source.specs.Bodies.{Name}
 use Rattle.herm_source.specs.Edges.{Code}
 use Rattle.herm_source.specs.Systems.{Modules, System, Run}
@@ -17,7 +17,7 @@ use Rattle.herm_source.proofs.KeptSteps.{beginnings-keep, local-steps-keep, answ
 use Rattle.herm_compile.specs.declared.compiled.Line.{Line}
 use Rattle.herm_compile.specs.declared.compiled.Line.TheVariants
 use Rattle.herm_world.specs.Lines.{sent_from}
-use Rattle.herm_world.specs.StraightRuns.{program_of, journal_of, report_of, StraightLinesRun}
+use Rattle.herm_world.specs.StraightRuns.{IsOfRun, program_of, journal_of, report_of, StraightLinesRun}
 use Rattle.herm_world.proofs.Slots.{empty_slots, values_of}
 use Rattle.herm_world.proofs.Progress.{Progress, code_with, modules_with}
 use Rattle.herm_world.proofs.StraightRun.{after_lines, received}
@@ -27,14 +27,18 @@ use Rattle.herm_world.proofs.Accepted.{lines-accepted}
 use Rattle.herm_world.proofs.LineNeeds.{lines-find}
 use Rattle.herm_world.proofs.SoundRun.{states-sound}
 
--- where the modules are accepted, the report of lines that send these strings describes a run
+-- the report of lines that send these strings is that of a run
+abbrev AreOfRun : Limits → Text → List Line → Modules → List Text → Type 0
+AreOfRun limits arg lines modules strings = IsOfRun modules limits arg (report_of arg lines strings)
+
+-- where the modules are accepted, it is all that is claimed of a run
 abbrev AreDescribed : ℕ → Limits → Text → List Text → List Line → Modules → List Text → Type 0
 AreDescribed count limits arg names lines modules strings = AreAccepted (program_of count lines) modules → Describes modules limits arg names plainly (report_of arg lines strings)
 
-module _ (count : ℕ) (limits : Limits) (arg : Text) (names : List Text) (text : IsTrue (is_text arg)) where
-  described : (lines : List Line) (nodes : List Node) (label : ℕ → Fact → Bool) → AreSet count nodes label limits arg lines
-      → AreDescribed count limits arg names (TheVariants.Receive ∷ lines) (modules_with (code_with count nodes label)) (sent_from (values_of (empty_slots count)) lines)
-  described lines nodes label set accepted =
+module _ (count : ℕ) (limits : Limits) (arg : Text) where
+  of-run : (lines : List Line) (nodes : List Node) (label : ℕ → Fact → Bool) → AreSet count nodes label limits arg lines
+      → AreOfRun limits arg (TheVariants.Receive ∷ lines) (modules_with (code_with count nodes label)) (sent_from (values_of (empty_slots count)) lines)
+  of-run lines nodes label set =
       let code : Code = code_with count nodes label in
       let modules : Modules = modules_with code in
       let first : Progress = received count nodes label limits arg in
@@ -45,15 +49,12 @@ module _ (count : ℕ) (limits : Limits) (arg : Text) (names : List Text) (text 
       let last : Run = record { system = final; journal = journal_of arg strings } in
       let events = all_events count nodes label limits arg lines in
       let few : length lines ≤ 1024 = omega (arith, set.few) in
-      let sound = states-sound count nodes label limits arg text lines set (journal_of arg strings) in
       record {
         final = final;
         is_ordered = journal-rising arg strings;
         is_stamped = run-stamped modules limits arg events last ends.is_run;
         is_a_run = (events, ends.is_run);
         is_final = none-steps code limits p ends.names;
-        finds_needs = λ s along. lines-find count (TheVariants.Receive ∷ lines) modules limits arg (journal_of arg strings) s accepted along (sound s along);
-        is_sound = sound;
         has_ledger = λ s along. keeps-once modules code limits arg refl s along.0 along.3;
         ends = refl;
         queued = ap (λ (ts : List Text). (0, ts) ∷ (1, []) ∷ []) (strings-texts p.queue strings ends.totals.queue);
@@ -61,11 +62,35 @@ module _ (count : ℕ) (limits : Limits) (arg : Text) (names : List Text) (text 
             (runs-keep beginnings-keep local-steps-keep answers-keep modules limits arg code events last refl ends.is_run)
             ends.totals refl refl refl few ends.fewer;
         status = refl;
-        text = append-nil (flat_map (λ c. line (bytes_of c)) (map (λ (q : ℕ × Cell Name). q.1) p.queue)) ∙ strings-lines p.queue strings ends.totals.queue;
+        text = λ names. append-nil (flat_map (λ c. line (bytes_of c)) (map (λ (q : ℕ × Cell Name). q.1) p.queue)) ∙ strings-lines p.queue strings ends.totals.queue;
+      }
+
+  described : (names : List Text) → IsTrue (is_text arg) → (lines : List Line) (nodes : List Node) (label : ℕ → Fact → Bool) → AreSet count nodes label limits arg lines
+      → AreDescribed count limits arg names (TheVariants.Receive ∷ lines) (modules_with (code_with count nodes label)) (sent_from (values_of (empty_slots count)) lines)
+  described names text lines nodes label set accepted =
+      let modules : Modules = modules_with (code_with count nodes label) in
+      let journal : List Entry = journal_of arg (sent_from (values_of (empty_slots count)) lines) in
+      let r = of-run lines nodes label set in
+      let sound = states-sound count nodes label limits arg text lines set journal in
+      record {
+        final = r.final;
+        is_ordered = r.is_ordered;
+        is_stamped = r.is_stamped;
+        is_a_run = r.is_a_run;
+        is_final = r.is_final;
+        finds_needs = λ s along. lines-find count (TheVariants.Receive ∷ lines) modules limits arg journal s accepted along (sound s along);
+        is_sound = sound;
+        has_ledger = r.has_ledger;
+        ends = r.ends;
+        queued = r.queued;
+        counts = r.counts;
+        status = r.status;
+        text = r.text names;
       }
 
 pub straight-lines-run : StraightLinesRun
 straight-lines-run count lines arg can = record {
   has_modules = lines-accepted count lines can;
+  is_run = λ limits modules enough accepted. by-lines count limits arg (AreOfRun limits arg) (of-run count limits arg) lines modules can enough accepted;
   is_described = λ limits modules names text enough accepted. by-lines count limits arg (AreDescribed count limits arg names) (described count limits arg names text) lines modules can enough accepted accepted;
 }

@@ -8,10 +8,12 @@ use Rattle.herm_model.specs.Texts.{text_of}
 use Rattle.herm_journal.specs.Actions.{put, take, close}
 use Rattle.herm_journal.specs.Entries.{Text, Entry, Place, Record, port}
 use Rattle.herm_source.specs.Evaluate.{scalar_value}
-use Rattle.herm_source.specs.Systems.{Program, Modules, System, first_message, IsFinal, Event, Run, run, start}
+use Rattle.herm_source.specs.Systems.{Program, Modules, System, opening, first_message, IsFinal, Event, Run, run, start}
 use Rattle.herm_journal.specs.Places.{Limits}
-use Rattle.herm_source.specs.Statuses.{Counts, ended_normally, plainly, line}
-use Rattle.herm_source.specs.Headline.{AreAccepted, Report, Describes}
+use Rattle.herm_source.specs.Statuses.{Counts, ended_normally, fates, queues, counts, status_of, text_of_run, plainly, line}
+use Rattle.herm_source.specs.Headline.{AreAccepted, IsRunTo, IsAlong, Report, Describes}
+use Rattle.herm_source.specs.Ledger.{HasLedger, IsMadeOnce}
+use Rattle.herm_journal.specs.Journals.{IsRising, IsStamped}
 use Rattle.herm_compile.specs.Form.{IsBody}
 use Rattle.herm_compile.specs.Straight.{process_of}
 use Rattle.herm_compile.specs.declared.compiled.Line.{Line}
@@ -116,11 +118,27 @@ report_of arg lines strings = record {
   text = flat_map line strings;
 }
 
--- The report is that of a run of these lines, whatever modules are accepted for them, where the argument is a text and the
--- limit of steps is not less than the lines, and nothing more is asked for; and there are such modules.
--- Language reference, "Straight-line programs".
+-- The report is that of a run to a final state, whatever the argument: its journal is ordered, stamped and that run, every
+-- state along it has the ledger, and all else is that of the final state. Language reference, "Reports".
+pub record IsOfRun (modules : Modules) (limits : Limits) (arg : Text) (report : Report) : Type 0 where
+  pub final : System
+  pub is_ordered : IsRising report.journal
+  pub is_stamped : IsStamped report.journal
+  pub is_a_run : IsRunTo modules (opening modules limits arg) report.journal final
+  pub is_final : IsFinal modules final
+  pub has_ledger : (s : System) → IsAlong modules (opening modules limits arg) report.journal s → HasLedger s × IsMadeOnce s
+  pub ends : fates modules final ≡ report.ends
+  pub queued : queues final ≡ report.queued
+  pub counts : counts modules final ≡ report.counts
+  pub status : status_of modules final ≡ report.status
+  pub text : (names : List Text) → text_of_run names plainly modules (record { system = final; journal = report.journal }) ≡ report.text
+
+-- The report is that of a run of these lines, whatever modules are accepted for them, where the limit of steps is not less
+-- than the lines, and nothing more is asked for; where the argument is a text, it is all that is claimed of a run. And there
+-- are such modules. Language reference, "Straight-line programs".
 pub record IsReported (count : ℕ) (lines : List Line) (arg : Text) (report : Report) : Type 0 where
   pub has_modules : (modules : Modules) × AreAccepted (program_of count lines) modules
+  pub is_run : (limits : Limits) (modules : Modules) → length lines ≤ limits.steps → AreAccepted (program_of count lines) modules → IsOfRun modules limits arg report
   pub is_described : (limits : Limits) (modules : Modules) (names : List Text) → IsTrue (is_text arg) → length lines ≤ limits.steps → AreAccepted (program_of count lines) modules
       → Describes modules limits arg names plainly report
 
