@@ -23,6 +23,8 @@ pub mod Places
 pub mod Typing
 pub mod Numerals
 pub mod Spelling
+pub mod UntypedSpelling
+pub mod WellMadeValues
 pub mod FirstNode
 pub mod Excess
 pub mod FullFacts
