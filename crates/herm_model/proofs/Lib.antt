@@ -20,6 +20,7 @@ pub mod DeterminedRefusals
 pub mod DifferentOutcomes
 pub mod Reached
 pub mod Places
+pub mod ChangesThrough
 pub mod Typing
 pub mod Numerals
 pub mod Spelling

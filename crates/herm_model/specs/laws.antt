@@ -1,1 +1,2 @@
 pub mod UntypedTexts
+pub mod ChangesThrough

@@ -2,6 +2,7 @@
 // control paths and refusals. The definitions stand in specs/; the functions here are laws about them.
 #![tactic(auto)]
 
+pub mod changes;
 pub mod examples;
 pub mod flows;
 pub mod table;
