@@ -19,6 +19,7 @@ pub mod NodeExits
 pub mod DeterminedRefusals
 pub mod DifferentOutcomes
 pub mod Reached
+pub mod HeldDecided
 pub mod Places
 pub mod ChangesThrough
 pub mod Typing

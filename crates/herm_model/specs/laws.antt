@@ -1,2 +1,3 @@
 pub mod UntypedTexts
 pub mod ChangesThrough
+pub mod LabelsExist

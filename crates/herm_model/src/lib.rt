@@ -5,6 +5,7 @@
 pub mod changes;
 pub mod examples;
 pub mod flows;
+pub mod refusals;
 pub mod table;
 pub mod texts;
 pub mod types;
