@@ -14,6 +14,7 @@ pub mod ExampleRefusals
 pub mod NodeNumbers
 pub mod NodePlaces
 pub mod ClosedFacts
+pub mod OrderedFacts
 pub mod ExactLabels
 pub mod NodeExits
 pub mod DeterminedRefusals

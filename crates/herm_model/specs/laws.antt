@@ -1,3 +1,4 @@
 pub mod UntypedTexts
 pub mod ChangesThrough
 pub mod LabelsExist
+pub mod OrderedFacts

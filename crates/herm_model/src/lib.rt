@@ -4,6 +4,7 @@
 
 pub mod changes;
 pub mod examples;
+pub mod facts;
 pub mod flows;
 pub mod refusals;
 pub mod table;

@@ -1,0 +1,11 @@
+// Laws of the facts that statements need and make.
+
+ghost use Rattle.herm_model.specs.laws.OrderedFacts.{FactsToAreOrdered, NeedsAreOrdered, MakesAreOrdered};
+
+/// Each fact that a statement needs stands behind the facts before it in the list of its needs; so it is with what a
+/// statement makes, and with the facts to a path.
+pub fn facts_stand_behind_prefixes()
+    ensures paths { FactsToAreOrdered }
+    ensures needs { NeedsAreOrdered }
+    ensures makes { MakesAreOrdered }
+{}
