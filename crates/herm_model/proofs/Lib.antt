@@ -14,7 +14,10 @@ pub mod ExampleRefusals
 pub mod NodeNumbers
 pub mod NodePlaces
 pub mod ClosedFacts
+pub mod TypesBelow
 pub mod OrderedFacts
+pub mod FactsThere
+pub mod FormFacts
 pub mod ExactLabels
 pub mod NodeExits
 pub mod DeterminedRefusals

@@ -1,6 +1,5 @@
 -- Lists of facts in which each stands behind its prefixes.
 use Rattle.std.proofs.Common.{◌≡◌, ◌⊎◌, inl, inr, ℕ, List, [], ◌∷◌, ◌++◌, flat_map, filter, Bool, true, false, cond, not, ◌||◌, Option, slice_get, refl, sym, ap, ap₂, subst, ◌∙◌, true≢false}
-use Rattle.std.proofs.Math.Bool.{or-false, or_assoc}
 use Rattle.herm_model.specs.Lists.{IsIn}
 use Rattle.herm_model.specs.Paths.{Path, Fact, init, case, same_fact, parent}
 use Rattle.herm_model.specs.Types.{TypeTable, part_of, is_variant, type_below, enters_component}
@@ -10,6 +9,7 @@ use Rattle.herm_model.specs.laws.OrderedFacts.{StandBehindPrefixes}
 use Rattle.herm_model.proofs.Lists.{cons-not_nil, cons-head, cons-tail, in-append_cases}
 use Rattle.herm_model.proofs.Equality.{same_fact-is}
 use Rattle.herm_model.proofs.Prefixes.{own, component, split}
+use Rattle.herm_model.proofs.TypesBelow.{type_below-append, enters-more}
 
 -- the fact, or one of the set
 abbrev With : Fact → (Fact → Type 0) → Fact → Type 0
@@ -88,14 +88,6 @@ module _ (table : TypeTable) (variables : List ℕ) where
       same-one g false h e = absurd (true≢false e)
 
   -- the facts to a path: each step adds those that need what was there
-  type-more : (t : Option ℕ) (a : List ℕ) (i : ℕ) → type_below table t (a ++ i ∷ []) ≡ part_of table (type_below table t a) i
-  type-more t [] i = refl
-  type-more t (k ∷ a) i = type-more (part_of table t k) a i
-
-  enters-more : (t : Option ℕ) (a : List ℕ) (i : ℕ) → enters_component table t (a ++ i ∷ []) ≡ (enters_component table t a || is_variant table (type_below table t a))
-  enters-more t [] i = or-false (is_variant table t)
-  enters-more t (k ∷ a) i = ap (is_variant table t ||◌) (enters-more (part_of table t k) a i) ∙ sym (or_assoc (is_variant table t) (enters_component table (part_of table t k) a) (is_variant table (type_below table (part_of table t k) a)))
-
   parent-more : (v : ℕ) (a : List ℕ) (i : ℕ) → parent (v ∷ (a ++ i ∷ [])) ≡ v ∷ a
   parent-more v [] i = refl
   parent-more v (k ∷ a) i = ap (v ∷◌) (parent-more k a i)
@@ -123,8 +115,8 @@ module _ (table : TypeTable) (variables : List ℕ) where
         ordered-append first (middle ++ last) S (own-ordered (v ∷ a) w S b)
         (ordered-append middle last (Among first S) (component-ordered (v ∷ a) (is_variant table t) i (Among first S) b.facts)
         (from-ordered p (a ++ i ∷ []) (part_of table t i) (w || is_variant table t) (Among middle (Among first S))
-        (ap (λ o. part_of table o i) e ∙ sym (type-more root a i))
-        (ap₂ ◌||◌ x (ap (is_variant table) e) ∙ sym (enters-more root a i)) next))
+        (ap (λ o. part_of table o i) e ∙ sym (type_below-append table root a (i ∷ [])))
+        (ap₂ ◌||◌ x (ap (is_variant table) e) ∙ sym (enters-more table root a i)) next))
       where
         first : List Fact
         first = own table (v ∷ a) w

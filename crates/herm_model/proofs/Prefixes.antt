@@ -91,7 +91,7 @@ module _ (table : TypeTable) where
     to-longer [] r f h = absurd h
     to-longer (v ∷ p) r f h = from-longer (v ∷ []) (slice_get variables v) false p r f h
 
-    parent-begins : (p : Path) → Begins (parent p) p
+    pub parent-begins : (p : Path) → Begins (parent p) p
     parent-begins [] = ([], refl)
     parent-begins (i ∷ []) = (i ∷ [], refl)
     parent-begins (i ∷ j ∷ p) = let b = parent-begins (j ∷ p) in (b.0, ap (i ∷◌) b.1)
@@ -150,7 +150,7 @@ module _ (table : TypeTable) where
       by again (inr b) = mid again (in-append_cases f (component at t i) (onward at t w i (p ++ r)) b)
 
   -- steps through full parts pass no component
-  full-open : (o : Option Shape) (i u : ℕ) → IsIn (i, u) (list_of full_parts o) → with_some false (λ s. is_cases s) o ≡ false
+  pub full-open : (o : Option Shape) (i u : ℕ) → IsIn (i, u) (list_of full_parts o) → with_some false (λ s. is_cases s) o ≡ false
   full-open (Some (fields ts)) i u h = refl
   full-open (Some (callmessage ps raises)) i u h = refl
   full-open o i u h = absurd h
