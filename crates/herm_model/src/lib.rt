@@ -7,4 +7,5 @@ pub mod flows;
 pub mod table;
 pub mod texts;
 pub mod types;
+pub mod typed_programs;
 pub mod values;
