@@ -39,3 +39,5 @@ pub mod Declared
 pub mod DistinctSteps
 pub mod HeldClosed
 pub mod OnePass
+pub mod Deciding
+pub mod DecidedTables

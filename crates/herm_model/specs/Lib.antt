@@ -27,3 +27,10 @@ pub mod ValueLaws
 pub mod TextLaws
 pub mod TypedExpressions
 pub mod laws
+pub mod WellFormedTables
+pub mod TypedStatements
+pub mod TypedPrograms
+pub mod TableTests
+pub mod TypingTests
+pub mod TypedExamples
+pub mod TypedLaws

@@ -11,4 +11,5 @@ pub mod table;
 pub mod texts;
 pub mod types;
 pub mod untyped_texts;
+pub mod typed_programs;
 pub mod values;
