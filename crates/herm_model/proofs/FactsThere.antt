@@ -13,7 +13,7 @@ use Rattle.herm_model.proofs.Prefixes.{own, component, full-part, full-open, par
 use Rattle.herm_model.proofs.TypesBelow.{type_below-append, enters-append, enters-more, known-above}
 use Rattle.herm_model.proofs.ClosedFacts.{once-IsIn}
 
-got-below : {X : Type 0} (xs : List X) (i : ℕ) → IsTrue (is_some (slice_get xs i)) → i < length xs
+pub got-below : {X : Type 0} (xs : List X) (i : ℕ) → IsTrue (is_some (slice_get xs i)) → i < length xs
 got-below [] i h = not_true h
 got-below (x ∷ xs) zero h = omega arith
 got-below (x ∷ xs) (suc i) h = omega (arith, got-below xs i h)

@@ -11,12 +11,13 @@ use Rattle.herm_model.specs.Calls.{inport_at, is_given, is_returned, call_parame
 use Rattle.herm_model.specs.StatementTable.{row, at_ok, at_turn, at_component, at_arm, at_exception, at_ok_or_exception, present, full, full_of_each, room_for, received_from, sent_to, received_at, given, set_by_call, kept_by_call, makes}
 use Rattle.herm_model.specs.Nodes.{Target, Node, Exit, caught, paired, exits, process_nodes}
 use Rattle.herm_model.specs.Control.{Edge, Point, edge, point, flow_of, Hop, held_behind, held_at_start, walk, edge_from, Leads}
-use Rattle.herm_model.specs.laws.FormFacts.{AreFacts, IsThere, AreThere, HoldsMessages, ReceivesAt, NamesFacts}
+use Rattle.herm_model.specs.laws.FormFacts.{AreFacts, IsThere, AreThere, HoldsMessages}
 use Rattle.herm_model.proofs.Lists.{in-append_left, in-append_right, in-append_cases, in-map, in-map_from}
 use Rattle.herm_model.proofs.Options.{none-not_some}
 use Rattle.herm_model.proofs.FactTests.{got-IsIn, listed-IsIn}
 use Rattle.herm_model.proofs.Equality.{same_fact-is}
 use Rattle.herm_model.proofs.Walks.{same_held, IsEdgeOf, edge_from-IsEdgeOf}
+use Rattle.herm_model.proofs.NamedFacts.{ReceivesAt, NamesFacts}
 use Rattle.herm_model.proofs.FactsThere.{facts-append, facts-none, facts-one, facts-each, to-facts, parent-facts, closed-facts, full-facts, declared-facts, component-known}
 
 -- a path among arguments of some modes is one of the arguments

@@ -17,6 +17,7 @@ pub mod ClosedFacts
 pub mod TypesBelow
 pub mod OrderedFacts
 pub mod FactsThere
+pub mod NamedFacts
 pub mod FormFacts
 pub mod ExactLabels
 pub mod NodeExits

@@ -9,7 +9,7 @@ pub mod flows;
 pub mod refusals;
 pub mod table;
 pub mod texts;
+pub mod typed_programs;
 pub mod types;
 pub mod untyped_texts;
-pub mod typed_programs;
 pub mod values;
