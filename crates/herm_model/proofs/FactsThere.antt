@@ -5,7 +5,7 @@ use Rattle.herm_model.specs.Paths.{Path, Fact, init, case, parent}
 use Rattle.herm_model.specs.Types.{Shape, cases, inport, TypeTable, part_type, part_of, is_cases, is_variant, type_below, type_at, enters_component, passes_component, full_parts, Leads, steps, greatest_depth}
 use Rattle.herm_model.specs.Facts.{facts_from, facts_to, prefixes, with_prefixes, full_facts, said_at, message_facts, message_of, declared_facts, component_count, IsFactOf}
 use Rattle.herm_model.specs.StatementTable.{closed}
-use Rattle.herm_model.specs.laws.FormFacts.{AreFacts, IsThere, IsOpen}
+use Rattle.herm_model.specs.laws.FormFacts.{AreFacts, IsOpen}
 use Rattle.herm_model.proofs.Lists.{not_true, in-append_cases, in-map_from, in-flat_map_from}
 use Rattle.herm_model.proofs.Options.{none-not_some}
 use Rattle.herm_model.proofs.Steps.{steps-lead}
@@ -51,6 +51,10 @@ module _ (table : TypeTable) where
       )
 
   module _ (variables : List ℕ) where
+    -- the path has a type
+    abbrev pub HasSomeType : Path → Type 0
+    HasSomeType p = IsTrue (is_some (type_at table variables p))
+
     pub facts-append : (xs ys : List Fact) → AreFacts table variables xs → AreFacts table variables ys → AreFacts table variables (xs ++ ys)
     facts-append xs ys a b f h = by (in-append_cases f xs ys h)
       where
@@ -68,7 +72,7 @@ module _ (table : TypeTable) where
     pub facts-each : {X : Type 0} (each : X → List Fact) (xs : List X) → ((x : X) → IsIn x xs → AreFacts table variables (each x)) → AreFacts table variables (flat_map each xs)
     facts-each each xs a f h = let r = in-flat_map_from each f xs h in a r.0 r.1 f r.2
 
-    own-facts : (v : ℕ) (a : List ℕ) (w : Bool) → w ≡ passes_component table variables (v ∷ a) → IsThere table variables (v ∷ a) → AreFacts table variables (own table (v ∷ a) w)
+    own-facts : (v : ℕ) (a : List ℕ) (w : Bool) → w ≡ passes_component table variables (v ∷ a) → HasSomeType (v ∷ a) → AreFacts table variables (own table (v ∷ a) w)
     own-facts v a true e h = facts-none
     own-facts v a false e h = facts-one (init (v ∷ a)) (h, sym e)
 
@@ -89,17 +93,17 @@ module _ (table : TypeTable) where
         (ap₂ ◌||◌ x (ap (is_variant table) e) ∙ sym (enters-more table (slice_get variables v) a i)) h))
 
     -- the facts to a path that has a type
-    pub to-facts : (p : Path) → IsThere table variables p → AreFacts table variables (facts_to table variables p)
+    pub to-facts : (p : Path) → HasSomeType p → AreFacts table variables (facts_to table variables p)
     to-facts [] h = not_true h
     to-facts (v ∷ p) h = from-facts v p [] (slice_get variables v) false refl refl h
 
     -- the facts to a beginning of such a path
-    begun-facts : (q r : List ℕ) → IsThere table variables (q ++ r) → AreFacts table variables (facts_to table variables q)
+    begun-facts : (q r : List ℕ) → HasSomeType (q ++ r) → AreFacts table variables (facts_to table variables q)
     begun-facts [] r h = facts-none
     begun-facts (v ∷ a) r h = to-facts (v ∷ a) (known-above table (type_at table variables (v ∷ a)) r (subst (λ o. IsTrue (is_some o)) (type_below-append table (slice_get variables v) a r) h))
 
-    pub parent-facts : (p : Path) → IsThere table variables p → AreFacts table variables (facts_to table variables (parent p))
-    parent-facts p h = let b = parent-begins table variables p in begun-facts (parent p) b.0 (subst (IsThere table variables) b.1 h)
+    pub parent-facts : (p : Path) → HasSomeType p → AreFacts table variables (facts_to table variables (parent p))
+    parent-facts p h = let b = parent-begins table variables p in begun-facts (parent p) b.0 (subst (HasSomeType) b.1 h)
 
     -- what comes before a fact that there is, and lists that are closed
     pub prefixes-facts : (f : Fact) → IsFactOf table variables f → AreFacts table variables (prefixes table variables f)

@@ -11,14 +11,14 @@ use Rattle.herm_model.specs.Calls.{inport_at, is_given, is_returned, call_parame
 use Rattle.herm_model.specs.StatementTable.{row, at_ok, at_turn, at_component, at_arm, at_exception, at_ok_or_exception, present, full, full_of_each, room_for, received_from, sent_to, received_at, given, set_by_call, kept_by_call, makes}
 use Rattle.herm_model.specs.Nodes.{Target, Node, Exit, caught, paired, exits, process_nodes}
 use Rattle.herm_model.specs.Control.{Edge, Point, edge, point, flow_of, Hop, held_behind, held_at_start, walk, edge_from, Leads}
-use Rattle.herm_model.specs.laws.FormFacts.{AreFacts, IsThere, AreThere, HoldsMessages}
+use Rattle.herm_model.specs.laws.FormFacts.{AreFacts, HoldsMessages}
 use Rattle.herm_model.proofs.Lists.{in-append_left, in-append_right, in-append_cases, in-map, in-map_from}
 use Rattle.herm_model.proofs.Options.{none-not_some}
 use Rattle.herm_model.proofs.FactTests.{got-IsIn, listed-IsIn}
 use Rattle.herm_model.proofs.Equality.{same_fact-is}
 use Rattle.herm_model.proofs.Walks.{same_held, IsEdgeOf, edge_from-IsEdgeOf}
-use Rattle.herm_model.proofs.NamedFacts.{ReceivesAt, NamesFacts}
-use Rattle.herm_model.proofs.FactsThere.{facts-append, facts-none, facts-one, facts-each, to-facts, parent-facts, closed-facts, full-facts, declared-facts, component-known}
+use Rattle.herm_model.proofs.NamedFacts.{HaveSomeType, ReceivesAt, NamesFacts}
+use Rattle.herm_model.proofs.FactsThere.{HasSomeType, facts-append, facts-none, facts-one, facts-each, to-facts, parent-facts, closed-facts, full-facts, declared-facts, component-known}
 
 -- a path among arguments of some modes is one of the arguments
 by-among : (test : Mode → Bool) (ps : List Parameter) (atoms : List Atom) (q : Path) → IsIn q (arguments_by test ps atoms) → IsIn q (paths_among atoms)
@@ -69,13 +69,13 @@ module _ (table : TypeTable) (variables : List ℕ) where
   both : (xs ys : List Fact) → Facts xs → Facts ys → Facts (xs ++ ys)
   both xs ys a b = facts-append table variables xs ys a b
 
-  present-facts : (p : Path) → IsThere table variables p → Facts (present table variables p)
+  present-facts : (p : Path) → HasSomeType table variables p → Facts (present table variables p)
   present-facts p h = to-facts table variables p h
 
-  room-facts : (p : Path) → IsThere table variables p → Facts (room_for table variables p)
+  room-facts : (p : Path) → HasSomeType table variables p → Facts (room_for table variables p)
   room-facts p h = parent-facts table variables p h
 
-  full-of : (p : Path) → IsThere table variables p → Facts (full table variables p)
+  full-of : (p : Path) → HasSomeType table variables p → Facts (full table variables p)
   full-of p h = both (present table variables p) (more (passes_component table variables p) (type_at table variables p)) (present-facts p h) (by (passes_component table variables p) (type_at table variables p) refl refl)
     where
       more : Bool → Option ℕ → List Fact
@@ -86,7 +86,7 @@ module _ (table : TypeTable) (variables : List ℕ) where
       by false None e k = facts-none table variables
       by false (Some t) e k = full-facts table variables p t (k, e)
 
-  each-full : (ps : List Path) → AreThere table variables ps → Facts (full_of_each table variables ps)
+  each-full : (ps : List Path) → HaveSomeType table variables ps → Facts (full_of_each table variables ps)
   each-full ps h = facts-each table variables (full table variables) ps (λ p i. full-of p (h p i))
 
   messages-facts : (o : Option ℕ) (x : Path) → ((t : ℕ) → o ≡ Some t → HoldsMessages table variables t x) → Facts (list_of (λ t. declared_facts table t x) o)
@@ -96,10 +96,10 @@ module _ (table : TypeTable) (variables : List ℕ) where
   received-facts : (x i : Path) → ReceivesAt table variables x i → Facts (received_from table variables i x)
   received-facts x i h = messages-facts (type_at table variables i) x h.2
 
-  init-there : (x : Path) → IsFactOf table variables (init x) → IsThere table variables x
+  init-there : (x : Path) → IsFactOf table variables (init x) → HasSomeType table variables x
   init-there x h = h.0
 
-  case-there : (v : Path) (c : ℕ) → IsFactOf table variables (case v c) → IsThere table variables v
+  case-there : (v : Path) (c : ℕ) → IsFactOf table variables (case v c) → HasSomeType table variables v
   case-there v c h = component-known table (type_at table variables v) c h
 
   init-facts : (x : Path) → IsFactOf table variables (init x) → Facts (init x ∷ [])
@@ -114,10 +114,10 @@ module _ (table : TypeTable) (variables : List ℕ) where
       (facts-each table variables (λ (a : Arm). room_for table variables a.target) arms (λ a i. room-facts a.target (h a i).0))
       (facts-each table variables (λ (a : Arm). present table variables a.port) arms (λ a i. present-facts a.port (h a i).1))
 
-  among-there : (test : Mode → Bool) (ps : List Parameter) (atoms : List Atom) → AreThere table variables (paths_among atoms) → AreThere table variables (arguments_by test ps atoms)
+  among-there : (test : Mode → Bool) (ps : List Parameter) (atoms : List Atom) → HaveSomeType table variables (paths_among atoms) → HaveSomeType table variables (arguments_by test ps atoms)
   among-there test ps atoms h q i = h q (by-among test ps atoms q i)
 
-  found-facts : (r t : Path) (keys : List Atom) → IsThere table variables r → IsThere table variables t → AreThere table variables (paths_among keys) → Facts (room_for table variables r ++ present table variables t ++ full_of_each table variables (paths_among keys))
+  found-facts : (r t : Path) (keys : List Atom) → HasSomeType table variables r → HasSomeType table variables t → HaveSomeType table variables (paths_among keys) → Facts (room_for table variables r ++ present table variables t ++ full_of_each table variables (paths_among keys))
   found-facts r t keys h g k =
       both (room_for table variables r ++ present table variables t) (full_of_each table variables (paths_among keys))
       (both (room_for table variables r) (present table variables t) (room-facts r h) (present-facts t g)) (each-full (paths_among keys) k)
@@ -181,11 +181,11 @@ module _ (table : TypeTable) (variables : List ℕ) where
   ok_or_exception-facts : (fs : List Fact) (f : ℕ → List Fact) (o : Outcome) → Facts fs → ((e : ℕ) → Facts (f e)) → Facts (at_ok_or_exception fs f o)
   ok_or_exception-facts fs f o h k = both (at_ok fs o) (at_exception f o) (ok-facts fs o h) (exception-facts f o k)
 
-  kept-there : (atoms : List Atom) (places : List ℕ) → AreThere table variables (paths_among atoms) → AreThere table variables (flat_map (λ i. argument_path (slice_get atoms i)) places)
+  kept-there : (atoms : List Atom) (places : List ℕ) → HaveSomeType table variables (paths_among atoms) → HaveSomeType table variables (flat_map (λ i. argument_path (slice_get atoms i)) places)
   kept-there atoms [] h q i = absurd i
   kept-there atoms (n ∷ places) h q i = by (kept-there atoms places h q) (in-append_cases q (argument_path (slice_get atoms n)) (flat_map (λ i. argument_path (slice_get atoms i)) places) i)
     where
-      by : (IsIn q (flat_map (λ i. argument_path (slice_get atoms i)) places) → IsThere table variables q) → IsIn q (argument_path (slice_get atoms n)) ⊎ IsIn q (flat_map (λ i. argument_path (slice_get atoms i)) places) → IsThere table variables q
+      by : (IsIn q (flat_map (λ i. argument_path (slice_get atoms i)) places) → HasSomeType table variables q) → IsIn q (argument_path (slice_get atoms n)) ⊎ IsIn q (flat_map (λ i. argument_path (slice_get atoms i)) places) → HasSomeType table variables q
       by again (inl k) = h q (argument-among atoms n q k)
       by again (inr k) = again k
 
@@ -261,5 +261,5 @@ module _ (table : TypeTable) (p : Process) (names : (n : Node) → IsIn n (proce
       by None is later leads = none-not_some leads
       by (Some e) is later leads = later e.target (held_behind e f held) (λ h. behind-fact e f held h (edge-facts here e (edge_from-IsEdgeOf (flow_of table p) here hop e is) f) before) leads
 
-  pub held-facts : IsThere table p.variables (0 ∷ []) → (hops : List Hop) (there : Target) (f : Fact) → Leads (flow_of table p) f hops there true → IsFactOf table p.variables f
+  pub held-facts : HasSomeType table p.variables (0 ∷ []) → (hops : List Hop) (there : Target) (f : Fact) → Leads (flow_of table p) f hops there true → IsFactOf table p.variables f
   held-facts port hops there f leads = walk-facts f hops (flow_of table p).entry there (held_at_start f) (λ h. subst (IsFactOf table p.variables) (sym (same_fact-is f (init (0 ∷ [])) h)) (port, refl)) leads

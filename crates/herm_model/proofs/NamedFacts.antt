@@ -12,42 +12,46 @@ use Rattle.herm_model.specs.StatementTable.{parameters_at, returned, returned_by
 use Rattle.herm_model.specs.TypedExpressions.{HasShape, IsPathOf, IsTyped}
 use Rattle.herm_model.specs.WellFormedTables.{field_type, field_below, IsFieldPath, IsOfField, IsOfFullField, IsWellFormedTable}
 use Rattle.herm_model.specs.TypedStatements.{IsComponent, IsTarget, IsArgument, AreArguments, AreKeysOf, GoesTo, IsReceived, IsTypedForm}
-use Rattle.herm_model.specs.laws.FormFacts.{IsThere, AreThere, IsOpen, DeclaresFacts, HoldsMessages}
+use Rattle.herm_model.specs.laws.FormFacts.{IsOpen, DeclaresFacts, HoldsMessages}
 use Rattle.herm_model.proofs.Lists.{in-append_cases, in-map_from}
 use Rattle.herm_model.proofs.Options.{none-not_some, some-injective, is_some-map}
 use Rattle.herm_model.proofs.TypesBelow.{type_below-append}
-use Rattle.herm_model.proofs.FactsThere.{got-below, full-facts}
+use Rattle.herm_model.proofs.FactsThere.{HasSomeType, got-below, full-facts}
 
 module _ (table : TypeTable) (variables : List ℕ) where
+  -- each of the paths has a type
+  abbrev pub HaveSomeType : List Path → Type 0
+  HaveSomeType ps = (p : Path) → IsIn p ps → HasSomeType table variables p
+
   abbrev pub ReceivesAt : (target port : Path) → Type 0
-  ReceivesAt x i = IsThere table variables x × IsThere table variables i × ((t : ℕ) → type_at table variables i ≡ Some t → HoldsMessages table variables t x)
+  ReceivesAt x i = HasSomeType table variables x × HasSomeType table variables i × ((t : ℕ) → type_at table variables i ≡ Some t → HoldsMessages table variables t x)
 
   -- the paths that a form names have types, and there are the facts that it names
   abbrev pub NamesFacts : Form → Type 0
-  NamesFacts (Assign x e) = IsThere table variables x × AreThere table variables (paths_read e)
-  NamesFacts (Move y x) = IsThere table variables y × IsThere table variables x
+  NamesFacts (Assign x e) = HasSomeType table variables x × HaveSomeType (paths_read e)
+  NamesFacts (Move y x) = HasSomeType table variables y × HasSomeType table variables x
   NamesFacts (New x) = IsFactOf table variables (init x)
-  NamesFacts (Discard x) = IsThere table variables x
-  NamesFacts (Unite v c y) = IsFactOf table variables (init v) × IsFactOf table variables (case v c) × IsThere table variables y
-  NamesFacts (Dissolve v c y) = IsFactOf table variables (case v c) × IsThere table variables y
+  NamesFacts (Discard x) = HasSomeType table variables x
+  NamesFacts (Unite v c y) = IsFactOf table variables (init v) × IsFactOf table variables (case v c) × HasSomeType table variables y
+  NamesFacts (Dissolve v c y) = IsFactOf table variables (case v c) × HasSomeType table variables y
   NamesFacts (Reveal v c) = IsFactOf table variables (case v c)
-  NamesFacts (Case v cs) = IsThere table variables v × ((c : ℕ) → IsIn c cs → IsFactOf table variables (case v c))
-  NamesFacts (Wrap y p) = IsThere table variables y × IsFactOf table variables (init p)
-  NamesFacts (Unwrap p t y) = IsThere table variables p × IsThere table variables y
-  NamesFacts (Insert r t) = IsThere table variables r × IsThere table variables t
-  NamesFacts (Remove r t keys) = IsThere table variables r × IsThere table variables t × AreThere table variables (paths_among keys)
-  NamesFacts (Get r t keys) = IsThere table variables r × IsThere table variables t × AreThere table variables (paths_among keys)
-  NamesFacts (For r t) = IsThere table variables r × IsThere table variables t
-  NamesFacts (Connect o i) = IsFactOf table variables (init o) × IsThere table variables i
-  NamesFacts (Send x o) = IsThere table variables o × ((t : ℕ) → inport_at table variables o ≡ Some t → HoldsMessages table variables t x)
+  NamesFacts (Case v cs) = HasSomeType table variables v × ((c : ℕ) → IsIn c cs → IsFactOf table variables (case v c))
+  NamesFacts (Wrap y p) = HasSomeType table variables y × IsFactOf table variables (init p)
+  NamesFacts (Unwrap p t y) = HasSomeType table variables p × HasSomeType table variables y
+  NamesFacts (Insert r t) = HasSomeType table variables r × HasSomeType table variables t
+  NamesFacts (Remove r t keys) = HasSomeType table variables r × HasSomeType table variables t × HaveSomeType (paths_among keys)
+  NamesFacts (Get r t keys) = HasSomeType table variables r × HasSomeType table variables t × HaveSomeType (paths_among keys)
+  NamesFacts (For r t) = HasSomeType table variables r × HasSomeType table variables t
+  NamesFacts (Connect o i) = IsFactOf table variables (init o) × HasSomeType table variables i
+  NamesFacts (Send x o) = HasSomeType table variables o × ((t : ℕ) → inport_at table variables o ≡ Some t → HoldsMessages table variables t x)
   NamesFacts (Receive x i) = ReceivesAt x i
   NamesFacts (Select arms) = (a : Arm) → IsIn a arms → ReceivesAt a.target a.port
-  NamesFacts (Call o arguments) = IsThere table variables o × AreThere table variables (paths_among arguments)
-  NamesFacts (Return m) = IsThere table variables m × AreThere table variables (returned table variables m)
-  NamesFacts (ReturnBy m e) = IsThere table variables m × AreThere table variables (returned_by table variables m e)
+  NamesFacts (Call o arguments) = HasSomeType table variables o × HaveSomeType (paths_among arguments)
+  NamesFacts (Return m) = HasSomeType table variables m × HaveSomeType (returned table variables m)
+  NamesFacts (ReturnBy m e) = HasSomeType table variables m × HaveSomeType (returned_by table variables m e)
   NamesFacts (Create o n) = IsFactOf table variables (init o)
-  NamesFacts (If e) = AreThere table variables (paths_read e)
-  NamesFacts (While e) = AreThere table variables (paths_read e)
+  NamesFacts (If e) = HaveSomeType (paths_read e)
+  NamesFacts (While e) = HaveSomeType (paths_read e)
   NamesFacts (Raise e) = ⊤
   NamesFacts Leave = ⊤
 
@@ -118,10 +122,10 @@ kept-by (r ∷ raises) e i h = by (nat_eq r.exception e) (kept-by raises e i) h
     by false again k = let q = again k in (q.0, inr q.1, q.2)
 
 module _ (table : TypeTable) (variables : List ℕ) where
-  there : (p : Path) (t : ℕ) → IsPathOf table variables p t → IsThere table variables p
+  there : (p : Path) (t : ℕ) → IsPathOf table variables p t → HasSomeType table variables p
   there p t h = ap is_some h.0
 
-  target-there : (p : Path) (t : ℕ) → IsTarget table variables p t → IsThere table variables p
+  target-there : (p : Path) (t : ℕ) → IsTarget table variables p t → HasSomeType table variables p
   target-there p t h = there p t h.0
 
   target-open : (p : Path) (t : ℕ) → IsTarget table variables p t → IsOpen table variables p t
@@ -137,18 +141,18 @@ module _ (table : TypeTable) (variables : List ℕ) where
   named-component : (v : Path) (c t u : ℕ) → IsPathOf table variables v t → IsComponent table t c u → IsFactOf table variables (case v c)
   named-component v c t u h k = component-fact v c t k.0 h k.1 (got-below k.0 c (ap is_some k.2))
 
-  both-there : (ps qs : List Path) → AreThere table variables ps → AreThere table variables qs → AreThere table variables (ps ++ qs)
+  both-there : (ps qs : List Path) → HaveSomeType table variables ps → HaveSomeType table variables qs → HaveSomeType table variables (ps ++ qs)
   both-there ps qs a b p h = by (in-append_cases p ps qs h)
     where
-      by : IsIn p ps ⊎ IsIn p qs → IsThere table variables p
+      by : IsIn p ps ⊎ IsIn p qs → HasSomeType table variables p
       by (inl k) = a p k
       by (inr k) = b p k
 
-  one-there : (p : Path) → IsThere table variables p → AreThere table variables (p ∷ [])
-  one-there p h q (inl e) = subst (IsThere table variables) (sym e) h
+  one-there : (p : Path) → HasSomeType table variables p → HaveSomeType table variables (p ∷ [])
+  one-there p h q (inl e) = subst (HasSomeType table variables) (sym e) h
   one-there p h q (inr k) = absurd k
 
-  reads-there : (e : Expression) (t : ℕ) → IsTyped table variables e t → AreThere table variables (paths_read e)
+  reads-there : (e : Expression) (t : ℕ) → IsTyped table variables e t → HaveSomeType table variables (paths_read e)
   reads-there (literal l) t h p i = absurd i
   reads-there (copy x) t h p i = one-there x (there x t h.0) p i
   reads-there (negated e) t h p i = reads-there e h.1 h.3 p i
@@ -158,29 +162,29 @@ module _ (table : TypeTable) (variables : List ℕ) where
   reads-there (decimal e) t h p i = reads-there e h.1 h.3 p i
   reads-there (length_of e) t h p i = reads-there e h.1 h.3 p i
 
-  more-there : (p : Path) (ps : List Path) → IsThere table variables p → AreThere table variables ps → AreThere table variables (p ∷ ps)
+  more-there : (p : Path) (ps : List Path) → HasSomeType table variables p → HaveSomeType table variables ps → HaveSomeType table variables (p ∷ ps)
   more-there p ps h k = both-there (p ∷ []) ps (one-there p h) k
 
-  keys-there : (ts key : List ℕ) (atoms : List Atom) → AreKeysOf table variables ts key atoms → AreThere table variables (paths_among atoms)
+  keys-there : (ts key : List ℕ) (atoms : List Atom) → AreKeysOf table variables ts key atoms → HaveSomeType table variables (paths_among atoms)
   keys-there ts [] [] h q i = absurd i
   keys-there ts [] (a ∷ atoms) h q i = absurd h
   keys-there ts (k ∷ key) [] h q i = absurd h
   keys-there ts (k ∷ key) (Atom.literal l ∷ atoms) h q i = keys-there ts key atoms h.1 q i
   keys-there ts (k ∷ key) (path p ∷ atoms) h q i = more-there p (paths_among atoms) (there p h.0.0 h.0.2.0) (keys-there ts key atoms h.1) q i
 
-  argument-there : (m : Mode) (p : Path) (t : ℕ) → IsArgument table variables m (path p) t → IsThere table variables p
+  argument-there : (m : Mode) (p : Path) (t : ℕ) → IsArgument table variables m (path p) t → HasSomeType table variables p
   argument-there by_in p t h = there p t h.0
   argument-there by_inout p t h = target-there p t h
   argument-there by_out p t h = target-there p t h
 
-  arguments-there : (ps : List Parameter) (atoms : List Atom) → AreArguments table variables ps atoms → AreThere table variables (paths_among atoms)
+  arguments-there : (ps : List Parameter) (atoms : List Atom) → AreArguments table variables ps atoms → HaveSomeType table variables (paths_among atoms)
   arguments-there [] [] h q i = absurd i
   arguments-there [] (a ∷ atoms) h q i = absurd h
   arguments-there (p ∷ ps) [] h q i = absurd h
   arguments-there (p ∷ ps) (Atom.literal l ∷ atoms) h q i = arguments-there ps atoms h.1 q i
   arguments-there (p ∷ ps) (path x ∷ atoms) h q i = more-there x (paths_among atoms) (argument-there p.mode x p.content h.0) (arguments-there ps atoms h.1) q i
 
-  parameter-there : (m : Path) (t : ℕ) (ps : List Parameter) (raises : List Raised) (i : ℕ) → IsPathOf table variables m t → HasShape table t (callmessage ps raises) → IsTrue (is_some (slice_get ps i)) → IsThere table variables (m ++ i ∷ [])
+  parameter-there : (m : Path) (t : ℕ) (ps : List Parameter) (raises : List Raised) (i : ℕ) → IsPathOf table variables m t → HasShape table t (callmessage ps raises) → IsTrue (is_some (slice_get ps i)) → HasSomeType table variables (m ++ i ∷ [])
   parameter-there [] t ps raises i h s k = none-not_some h.0
   parameter-there (v ∷ a) t ps raises i h s k =
       let known : type_below table (slice_get variables v) a ≡ Some t = h.0 in
@@ -210,21 +214,21 @@ module _ (table : TypeTable) (variables : List ℕ) where
         let led : inport_at table variables o ≡ Some g.1 = ap (option_and_then led_to) (shape-is o g.0 (outport g.1) g.3 g.4) in
         subst (λ u. HoldsMessages table variables u x) (some-injective (sym led ∙ e)) (messages-held g.1 message g.2 x g.5 h)
 
-    returned-there : (m : Path) (t : ℕ) (ps : List Parameter) (raises : List Raised) → IsPathOf table variables m t → HasShape table t (callmessage ps raises) → AreThere table variables (returned table variables m)
+    returned-there : (m : Path) (t : ℕ) (ps : List Parameter) (raises : List Raised) → IsPathOf table variables m t → HasShape table t (callmessage ps raises) → HaveSomeType table variables (returned table variables m)
     returned-there m t ps raises h s q i =
         let listed : IsIn q (parameters_at table variables m (returned_places 0 ps)) = subst (λ o. IsIn q (parameters_at table variables m (returned_places 0 (list_of parameters_of o)))) (shape-is m t (callmessage ps raises) h s) i in
         let r = in-map_from (λ i. m ++ i ∷ []) q (returned_places 0 ps) listed in
         let p = returned-parameter 0 ps r.0 r.1 in
         let same : p.0 ≡ r.0 = omega (arith, p.1) in
-        subst (IsThere table variables) (sym r.2) (parameter-there m t ps raises r.0 h s (subst (λ j. IsTrue (is_some (slice_get ps j))) same p.2))
+        subst (HasSomeType table variables) (sym r.2) (parameter-there m t ps raises r.0 h s (subst (λ j. IsTrue (is_some (slice_get ps j))) same p.2))
 
-    returned_by-there : (m : Path) (e t : ℕ) (ps : List Parameter) (raises : List Raised) → IsPathOf table variables m t → HasShape table t (callmessage ps raises) → AreThere table variables (returned_by table variables m e)
+    returned_by-there : (m : Path) (e t : ℕ) (ps : List Parameter) (raises : List Raised) → IsPathOf table variables m t → HasShape table t (callmessage ps raises) → HaveSomeType table variables (returned_by table variables m e)
     returned_by-there m e t ps raises h s q i =
         let listed : IsIn q (parameters_at table variables m (kept_for raises e)) = subst (λ o. IsIn q (parameters_at table variables m (kept_for (list_of raises_of o) e))) (shape-is m t (callmessage ps raises) h s) i in
         let r = in-map_from (λ i. m ++ i ∷ []) q (kept_for raises e) listed in
         let k = kept-by raises e r.0 r.1 in
         let p = wf.kept_returned t (callmessage ps raises) s k.0 k.1 r.0 k.2 in
-        subst (IsThere table variables) (sym r.2) (parameter-there m t ps raises r.0 h s (some-there (slice_get ps r.0) p.0 p.1))
+        subst (HasSomeType table variables) (sym r.2) (parameter-there m t ps raises r.0 h s (some-there (slice_get ps r.0) p.0 p.1))
 
     module _ (processes : List Process) where
       pub typed-names : (form : Form) → IsTypedForm table variables exceptions processes form → NamesFacts table variables form

@@ -1,5 +1,5 @@
 -- What is proved of the facts that forms need, make and hold: they are facts that there are.
-use Rattle.std.specs.Prelude.{◌≡◌, ℕ, List, [], ◌∷◌, true, Some, slice_get, is_some, IsTrue, IsFalse}
+use Rattle.std.specs.Prelude.{◌≡◌, ℕ, List, [], ◌∷◌, true, Some, slice_get, IsFalse}
 use Rattle.herm_model.specs.Lists.{IsIn}
 use Rattle.herm_model.specs.Paths.{Path, Fact}
 use Rattle.herm_model.specs.Types.{TypeTable, inport, type_at, passes_component}
@@ -17,13 +17,6 @@ module _ (table : TypeTable) (variables : List ℕ) where
   -- there are these facts
   abbrev pub AreFacts : List Fact → Type 0
   AreFacts fs = (f : Fact) → IsIn f fs → IsFactOf table variables f
-
-  -- the path has a type; each of the paths has one
-  abbrev pub IsThere : Path → Type 0
-  IsThere p = IsTrue (is_some (type_at table variables p))
-
-  abbrev pub AreThere : List Path → Type 0
-  AreThere ps = (p : Path) → IsIn p ps → IsThere p
 
   -- the path has this type and passes no component
   abbrev pub IsOpen : Path → ℕ → Type 0
