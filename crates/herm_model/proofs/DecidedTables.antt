@@ -282,7 +282,7 @@ pub tests-tables : TestsDecideTables
 tests-tables exceptions defined h rule = table-decides exceptions defined ((shallow-decides exceptions defined).0 h) rule
 
 -- each rule is among them, so that where none is broken all are kept
-none-broken : {R : Type 0} (kept : R → Bool) (rules : List R) → filter (λ rule. not (kept rule)) rules ≡ [] → (rule : R) → IsIn rule rules → IsTrue (kept rule)
+pub none-broken : {R : Type 0} (kept : R → Bool) (rules : List R) → filter (λ rule. not (kept rule)) rules ≡ [] → (rule : R) → IsIn rule rules → IsTrue (kept rule)
 none-broken kept [] e rule i = absurd i
 none-broken {R} kept (r ∷ rules) e rule i = by (kept r) refl e i (none-broken kept rules)
   where

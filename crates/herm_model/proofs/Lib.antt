@@ -42,3 +42,5 @@ pub mod HeldClosed
 pub mod OnePass
 pub mod Deciding
 pub mod DecidedTables
+pub mod DecidedForms
+pub mod DecidedPrograms

@@ -2,14 +2,14 @@
 use Rattle.std.specs.Prelude.{ℕ, suc, List, [], ◌∷◌, ◌++◌, map, filter, length, Bool, true, false, not, cond, ◌&&◌, ◌||◌, nat_eq, nat_lt, nat_le, Option, Some, None, is_some, slice_get, option_and_then}
 use Rattle.herm_model.specs.Lists.{with_some, every, some_of, numbered, range, list_of}
 use Rattle.herm_model.specs.Paths.{Path, Fact, same_path, are_apart}
-use Rattle.herm_model.specs.Types.{Mode, by_in, by_inout, by_out, Parameter, Raised, Shape, boolean, integer, text, polymorph, names, inport, TypeTable, greatest_depth, all_parts, variable_paths, type_at, passes_component, is_copyable_within}
+use Rattle.herm_model.specs.Types.{Mode, by_in, by_inout, by_out, Parameter, Raised, Shape, boolean, integer, text, polymorph, names, inport, TypeTable, predefined, greatest_depth, all_parts, variable_paths, type_at, passes_component, is_copyable_within}
 use Rattle.herm_model.specs.Expressions.{Literal, Operator, Expression, literal, copy, negated, inverted, operation, size_of, decimal, length_of, Atom, path}
 use Rattle.herm_model.specs.Typed.{is_integer, is_text}
 use Rattle.herm_model.specs.Statements.{Form, Assign, Move, New, Discard, Unite, Dissolve, Reveal, Case, Wrap, Unwrap, Insert, Remove, Get, For, Connect, Send, Receive, Select, Call, Return, ReturnBy, Create, If, While, Raise, Leave, Arm, Statement, simple, choosing, repeating, leaving, trying, Block, no_statements, statement, Blocks, no_blocks, block, Handlers, no_handlers, handler, Process, Branching, goes_on, repeats, leaves, chooses, branching_of, count_blocks, numbers_of_block}
 use Rattle.herm_model.specs.Nodes.{Target, node, end, end_by, Node, process_nodes, entry_of, Exit, exits}
 use Rattle.herm_model.specs.StatementTable.{set_by_call}
 use Rattle.herm_model.specs.TypedExpressions.{takes, shape_given, passes_out}
-use Rattle.herm_model.specs.TableTests.{are_different, on_fields, on_cases, on_rows, on_inport, on_outport, on_callmessage}
+use Rattle.herm_model.specs.TableTests.{broken_table_rules, are_different, on_fields, on_cases, on_rows, on_inport, on_outport, on_callmessage}
 use Rattle.herm_model.specs.TypedStatements.{can_be_new, port_type}
 use Rattle.herm_model.specs.TypedPrograms.{greatest_statements, greatest_variable_paths, main_start, Placed, placed_in, handled, is_some_block, is_some_handler}
 
@@ -257,3 +257,15 @@ keeps_process_rule exceptions table processes p reached = every (is_marked table
 -- the rules that are broken
 abbrev pub broken_process_rules : (exceptions : ℕ) → TypeTable → List Process → Process → List ProcessRule
 broken_process_rules exceptions table processes p = filter (λ rule. not (keeps_process_rule exceptions table processes p rule)) process_rules
+
+abbrev pub is_none : {X : Type 0} → List X → Bool
+is_none [] = true
+is_none (x ∷ xs) = false
+
+-- whether a program is typed, and whether that can be judged so
+abbrev pub is_typed_program : (exceptions : ℕ) → (defined : TypeTable) → List Process → (main : ℕ) → Bool
+is_typed_program exceptions defined processes main =
+    is_none (broken_table_rules exceptions defined) && (every (λ p. is_none (broken_process_rules exceptions (predefined ++ defined) processes p)) processes && is_number (port_type processes main) main_start)
+
+abbrev pub is_judged : (defined : TypeTable) → List Process → Bool
+is_judged defined processes = every (are_settled (predefined ++ defined)) processes

@@ -1,15 +1,16 @@
-// Laws of typed programs.
+// Laws of well-formed tables and typed programs.
 
-ghost use Rattle.std.specs.Prelude.{◌≡◌, [], ◌∷◌, ◌++◌, map, filter, true, false};
-ghost use Rattle.herm_model.specs.Types.{predefined};
-ghost use Rattle.herm_model.specs.TableTests.{broken_table_rules};
-ghost use Rattle.herm_model.specs.TypingTests.{broken_process_rules, are_settled};
-ghost use Rattle.herm_model.specs.TypedExamples.{ring_types, ring_node, ring_main};
+ghost use Rattle.herm_model.specs.TypedLaws.{TestsDecideTables, NoneBrokenIsWellFormed, TestsDecideProcesses, NoneBrokenIsTyped, TestDecidesPrograms};
 
-/// The ring is a typed program.
-pub fn the_ring_is_typed()
-    ensures types { broken_table_rules 7 ring_types ≡ [] }
-    ensures node { broken_process_rules 7 (predefined ++ ring_types) (ring_node ∷ ring_main ∷ []) ring_node ≡ [] }
-    ensures main { broken_process_rules 7 (predefined ++ ring_types) (ring_node ∷ ring_main ∷ []) ring_main ≡ [] }
-    ensures settled { map (are_settled (predefined ++ ring_types)) (ring_node ∷ ring_main ∷ []) ≡ true ∷ true ∷ [] }
+/// Which tables are well formed is decided by tests: one for each rule, and all of them together.
+pub fn tests_decide_tables()
+    ensures rules { TestsDecideTables }
+    ensures table { NoneBrokenIsWellFormed }
+{}
+
+/// Which processes and programs are typed is decided by tests: one for each rule, and all of them together.
+pub fn tests_decide_programs()
+    ensures rules { TestsDecideProcesses }
+    ensures process { NoneBrokenIsTyped }
+    ensures program { TestDecidesPrograms }
 {}
