@@ -9,7 +9,7 @@ use Rattle.herm_model.proofs.Lists.{not_true, total-append}
 use Rattle.herm_model.proofs.Renaming.{map-append}
 use Rattle.herm_model.proofs.NothingThere.{none-read}
 
-apart-cases : (i j : ℕ) (p q : Path) → IsTrue (not (nat_eq i j) || are_apart p q) → (i ≢ j) ⊎ ((i ≡ j) × IsTrue (are_apart p q))
+pub apart-cases : (i j : ℕ) (p q : Path) → IsTrue (not (nat_eq i j) || are_apart p q) → (i ≢ j) ⊎ ((i ≡ j) × IsTrue (are_apart p q))
 apart-cases i j p q h = by (nat_eq i j) refl h
   where
     by : (b : Bool) → nat_eq i j ≡ b → IsTrue (not b || are_apart p q) → (i ≢ j) ⊎ ((i ≡ j) × IsTrue (are_apart p q))
@@ -237,7 +237,7 @@ module _ {N : Type 0} where
 
 -- a change through components
 module _ {N : Type 0} where
-  change_behind_same : (i j : ℕ) (g : Cell N → Cell N) (ps : Parts N) → part_at j (behind_gaps i (change_behind i j g ps)) ≡ option_map g (part_at j (behind_gaps i ps))
+  pub change_behind_same : (i j : ℕ) (g : Cell N → Cell N) (ps : Parts N) → part_at j (behind_gaps i (change_behind i j g ps)) ≡ option_map g (part_at j (behind_gaps i ps))
   change_behind_same zero j g ps = part_at-change_same j g ps
   change_behind_same (suc i) zero g ps = refl
   change_behind_same (suc i) (suc j) g ps = change_behind_same i j g ps

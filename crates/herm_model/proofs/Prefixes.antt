@@ -40,10 +40,10 @@ full-part (Some (callmessage ps raises)) i u h = let r = filled-get i u 0 ps h i
 full-part o i u h = absurd h
 
 module _ (table : TypeTable) where
-  abbrev own : Path → Bool → List Fact
+  abbrev pub own : Path → Bool → List Fact
   own at w = cond w [] (init at ∷ [])
 
-  abbrev component : Path → Option ℕ → ℕ → List Fact
+  abbrev pub component : Path → Option ℕ → ℕ → List Fact
   component at t i = cond (is_variant table t) (case at i ∷ []) []
 
   abbrev onward : Path → Option ℕ → Bool → ℕ → List ℕ → List Fact
@@ -91,7 +91,7 @@ module _ (table : TypeTable) where
     to-longer [] r f h = absurd h
     to-longer (v ∷ p) r f h = from-longer (v ∷ []) (slice_get variables v) false p r f h
 
-    parent-begins : (p : Path) → Begins (parent p) p
+    pub parent-begins : (p : Path) → Begins (parent p) p
     parent-begins [] = ([], refl)
     parent-begins (i ∷ []) = (i ∷ [], refl)
     parent-begins (i ∷ j ∷ p) = let b = parent-begins (j ∷ p) in (b.0, ap (i ∷◌) b.1)
@@ -124,7 +124,7 @@ module _ (table : TypeTable) where
         by (inr (inr b)) = absurd b
 
   -- the facts of a longer path are those of a shorter one and those from its end on
-  split : (at : Path) (t : Option ℕ) (w : Bool) (p r : List ℕ) (f : Fact) → IsIn f (facts_from table at t w (p ++ r)) → IsIn f (facts_from table at t w p) ⊎ IsIn f (facts_from table (at ++ p) (type_below table t p) (w || enters_component table t p) r)
+  pub split : (at : Path) (t : Option ℕ) (w : Bool) (p r : List ℕ) (f : Fact) → IsIn f (facts_from table at t w (p ++ r)) → IsIn f (facts_from table at t w p) ⊎ IsIn f (facts_from table (at ++ p) (type_below table t p) (w || enters_component table t p) r)
   split at t w [] r f h = inr (subst₂ (λ a v. IsIn f (facts_from table a t v r)) (sym (append-nil at)) (sym (or-false w)) h)
   split at t w (i ∷ p) r f h = by (split (at ++ i ∷ []) (part_of table t i) (w || is_variant table t) p r f) (in-append_cases f (own at w) (component at t i ++ onward at t w i (p ++ r)) h)
     where
@@ -150,7 +150,7 @@ module _ (table : TypeTable) where
       by again (inr b) = mid again (in-append_cases f (component at t i) (onward at t w i (p ++ r)) b)
 
   -- steps through full parts pass no component
-  full-open : (o : Option Shape) (i u : ℕ) → IsIn (i, u) (list_of full_parts o) → with_some false (λ s. is_cases s) o ≡ false
+  pub full-open : (o : Option Shape) (i u : ℕ) → IsIn (i, u) (list_of full_parts o) → with_some false (λ s. is_cases s) o ≡ false
   full-open (Some (fields ts)) i u h = refl
   full-open (Some (callmessage ps raises)) i u h = refl
   full-open o i u h = absurd h

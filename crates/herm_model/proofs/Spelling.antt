@@ -10,12 +10,12 @@ use Rattle.herm_model.proofs.Lists.{not_true, and-both, cons-head, cons-tail}
 use Rattle.herm_model.proofs.Numerals.{numeral-split, signed-split, string-split, numeral-starts}
 use Rattle.herm_model.proofs.Typing.{layout_of}
 
-append-cancel : {X : Type 0} (xs ys zs : List X) → xs ++ ys ≡ xs ++ zs → ys ≡ zs
+pub append-cancel : {X : Type 0} (xs ys zs : List X) → xs ++ ys ≡ xs ++ zs → ys ≡ zs
 append-cancel [] ys zs e = e
 append-cancel (x ∷ xs) ys zs e = append-cancel xs ys zs (cons-tail e)
 
 -- a number for each kind of cell, by which the kinds of one shape are alike
-abbrev family : Kind → ℕ
+abbrev pub family : Kind → ℕ
 family (a_scalar (a_boolean b)) = 0
 family (a_scalar (an_integer z)) = 1
 family (a_scalar (a_text s)) = 2
@@ -43,7 +43,7 @@ family_of (Some (inport m d)) = 9
 family_of (Some (outport q)) = 10
 
 -- the opening's last byte may be a digit, and then the cell has no parts
-abbrev ends_in_digit : Kind → Bool
+abbrev pub ends_in_digit : Kind → Bool
 ends_in_digit (a_scalar (an_integer z)) = true
 ends_in_digit (a_scalar (a_tag i)) = true
 ends_in_digit (an_inport p) = true
@@ -83,23 +83,23 @@ module _ {N : Type 0} (table : TypeTable) (d : Degree) where
   no-parts o k ps h x = not_true x
 
 -- how a cell's text begins and ends
-abbrev NoDigit : List ℕ → Type 0
+abbrev pub NoDigit : List ℕ → Type 0
 NoDigit bytes = IsFalse (begins_with_digit bytes)
 
-boolean-split : (a b : Bool) (X Y : List ℕ) → scalar_text (a_boolean a) ++ X ≡ scalar_text (a_boolean b) ++ Y → (a ≡ b) × (X ≡ Y)
+pub boolean-split : (a b : Bool) (X Y : List ℕ) → scalar_text (a_boolean a) ++ X ≡ scalar_text (a_boolean b) ++ Y → (a ≡ b) × (X ≡ Y)
 boolean-split true true X Y e = (refl, append-cancel (codes "true") X Y e)
 boolean-split true false X Y e = absurd (omega (arith, cons-head e))
 boolean-split false true X Y e = absurd (omega (arith, cons-head e))
 boolean-split false false X Y e = (refl, append-cancel (codes "false") X Y e)
 
 -- a number and the byte behind it
-number-split : (m n b : ℕ) (X Y : List ℕ) → IsFalse (is_digit b) → (numeral m ++ b ∷ []) ++ X ≡ (numeral n ++ b ∷ []) ++ Y → (m ≡ n) × (X ≡ Y)
+pub number-split : (m n b : ℕ) (X Y : List ℕ) → IsFalse (is_digit b) → (numeral m ++ b ∷ []) ++ X ≡ (numeral n ++ b ∷ []) ++ Y → (m ≡ n) × (X ≡ Y)
 number-split m n b X Y h e = let t = numeral-split m n (b ∷ X) (b ∷ Y) h h (sym (append_assoc (numeral m) (b ∷ []) X) ∙ e ∙ append_assoc (numeral n) (b ∷ []) Y) in (t.0, cons-tail t.1)
 
-abbrev Apart : Kind → List ℕ → Type 0
+abbrev pub Apart : Kind → List ℕ → Type 0
 Apart k X = IsTrue (ends_in_digit k) → NoDigit X
 
-scalar-split : (a b : Scalar) → family (a_scalar a) ≡ family (a_scalar b) → (X Y : List ℕ) → Apart (a_scalar a) X → Apart (a_scalar b) Y → scalar_text a ++ X ≡ scalar_text b ++ Y → (a ≡ b) × (X ≡ Y)
+pub scalar-split : (a b : Scalar) → family (a_scalar a) ≡ family (a_scalar b) → (X Y : List ℕ) → Apart (a_scalar a) X → Apart (a_scalar b) Y → scalar_text a ++ X ≡ scalar_text b ++ Y → (a ≡ b) × (X ≡ Y)
 scalar-split (a_boolean a) (a_boolean b) f X Y x y e = let t = boolean-split a b X Y e in (ap a_boolean t.0, t.1)
 scalar-split (an_integer a) (an_integer b) f X Y x y e = let t = signed-split a b X Y (x refl) (y refl) e in (ap an_integer t.0, t.1)
 scalar-split (a_text s) (a_text u) f X Y x y e = let t = string-split s u X Y (sym (append_assoc (flat_map escaped s) (34 ∷ []) X) ∙ cons-tail e ∙ append_assoc (flat_map escaped u) (34 ∷ []) Y) in (ap a_text t.0, t.1)
@@ -112,7 +112,7 @@ scalar-family (an_integer z) = omega arith
 scalar-family (a_text s) = omega arith
 scalar-family (a_tag i) = omega arith
 
-opening-split : (k l : Kind) → family k ≡ family l → (X Y : List ℕ) → Apart k X → Apart l Y → opening k ++ X ≡ opening l ++ Y → (k ≡ l) × (X ≡ Y)
+pub opening-split : (k l : Kind) → family k ≡ family l → (X Y : List ℕ) → Apart k X → Apart l Y → opening k ++ X ≡ opening l ++ Y → (k ≡ l) × (X ≡ Y)
 opening-split (a_scalar a) (a_scalar b) f X Y x y e = let t = scalar-split a b f X Y x y e in (ap a_scalar t.0, t.1)
 opening-split (a_scalar a) l f X Y x y e = absurd (omega (arith, f, scalar-family a))
 opening-split k (a_scalar b) f X Y x y e = absurd (omega (arith, f, scalar-family b))
@@ -127,28 +127,30 @@ opening-split (an_inport p) (an_inport q) f X Y x y e = let t = numeral-split p 
 opening-split (an_outport p) (an_outport q) f X Y x y e = let t = numeral-split p q X Y (x refl) (y refl) (cons-tail e) in (ap an_outport t.0, t.1)
 opening-split k l f X Y x y e = absurd (omega (arith, f))
 
--- a text begins with no comma, no closing bracket and no low line
+-- a text begins with no comma, no closing bracket, brace or parenthesis and no low line
 pub record IsStart (b : ℕ) : Type 0 where
   pub comma : b ≢ 44
   pub bracket : b ≢ 93
   pub line : b ≢ 95
+  pub brace : b ≢ 125
+  pub parenthesis : b ≢ 41
 
-digit-start : (b : ℕ) → IsTrue (is_digit b) → IsStart b
-digit-start b d = record { comma = λ e. true≢false (sym d ∙ ap is_digit e); bracket = λ e. true≢false (sym d ∙ ap is_digit e); line = λ e. true≢false (sym d ∙ ap is_digit e) }
+pub digit-start : (b : ℕ) → IsTrue (is_digit b) → IsStart b
+digit-start b d = record { comma = λ e. true≢false (sym d ∙ ap is_digit e); bracket = λ e. true≢false (sym d ∙ ap is_digit e); line = λ e. true≢false (sym d ∙ ap is_digit e); brace = λ e. true≢false (sym d ∙ ap is_digit e); parenthesis = λ e. true≢false (sym d ∙ ap is_digit e) }
 
-abbrev Starts : List ℕ → Type 0
+abbrev pub Starts : List ℕ → Type 0
 Starts bytes = (b : ℕ) × (rest : List ℕ) × (bytes ≡ b ∷ rest) × IsStart b
 
 not-same : (i j : ℕ) → IsTrue (not (nat_eq i j)) → i ≢ j
 not-same i j h e = true≢false (sym (sym (ap not (eq-eqb i j e)) ∙ h))
 
-starts-with : (b : ℕ) (rest : List ℕ) → IsTrue (not (nat_eq b 44) && (not (nat_eq b 93) && not (nat_eq b 95))) → Starts (b ∷ rest)
-starts-with b rest h = let p = and-both (not (nat_eq b 44)) _ h in let q = and-both (not (nat_eq b 93)) _ p.1 in (b, rest, refl, record { comma = not-same b 44 p.0; bracket = not-same b 93 q.0; line = not-same b 95 q.1 })
+pub starts-with : (b : ℕ) (rest : List ℕ) → IsTrue (not (nat_eq b 44) && (not (nat_eq b 93) && (not (nat_eq b 95) && (not (nat_eq b 125) && not (nat_eq b 41))))) → Starts (b ∷ rest)
+starts-with b rest h = let p = and-both (not (nat_eq b 44)) _ h in let q = and-both (not (nat_eq b 93)) _ p.1 in let u = and-both (not (nat_eq b 95)) _ q.1 in let v = and-both (not (nat_eq b 125)) _ u.1 in (b, rest, refl, record { comma = not-same b 44 p.0; bracket = not-same b 93 q.0; line = not-same b 95 u.0; brace = not-same b 125 v.0; parenthesis = not-same b 41 v.1 })
 
 numeral-start : (n : ℕ) (more : List ℕ) → Starts (numeral n ++ more)
 numeral-start n more = let t = numeral-starts n in (t.0, t.1 ++ more, ap (◌++ more) t.2, digit-start t.0 t.3)
 
-opening-starts : (k : Kind) (more : List ℕ) → Starts (opening k ++ more)
+pub opening-starts : (k : Kind) (more : List ℕ) → Starts (opening k ++ more)
 opening-starts (a_scalar (a_boolean true)) more = starts-with 116 _ refl
 opening-starts (a_scalar (a_boolean false)) more = starts-with 102 _ refl
 opening-starts (a_scalar (an_integer (pos n))) more = numeral-start n more
@@ -163,11 +165,11 @@ opening-starts (a_callmessage i m) more = starts-with 40 _ refl
 opening-starts (an_inport p) more = starts-with 64 _ refl
 opening-starts (an_outport p) more = starts-with 62 _ refl
 
-cell-starts : (c : Value) (more : List ℕ) → Starts (text_of c ++ more)
+pub cell-starts : (c : Value) (more : List ℕ) → Starts (text_of c ++ more)
 cell-starts (cell n k ps) more = subst Starts (sym (append_assoc (opening k) (parts_text ps [] ++ closing k) more)) (opening-starts k ((parts_text ps [] ++ closing k) ++ more))
 
 -- what stands before a part
-abbrev separator : Bool → List ℕ
+abbrev pub separator : Bool → List ℕ
 separator true = []
 separator false = 44 ∷ []
 
@@ -199,29 +201,29 @@ closing-closes d (Some (inport m f)) (an_inport p) r = tt
 closing-closes d (Some (outport q)) (an_outport p) r = tt
 closing-closes d o k r = tt
 
-closing-no_digit : (k : Kind) (r : List ℕ) → NoDigit r → NoDigit (closing k ++ r)
+pub closing-no_digit : (k : Kind) (r : List ℕ) → NoDigit r → NoDigit (closing k ++ r)
 closing-no_digit a_record r h = refl
 closing-no_digit a_table r h = refl
 closing-no_digit (a_polymorph t) r h = refl
 closing-no_digit (a_callmessage i m) r h = refl
 closing-no_digit k r h = h
 
-parts-no_digit : (ps : Parts ⊤) (X : List ℕ) → NoDigit X → NoDigit (parts_text ps (44 ∷ []) ++ X)
+pub parts-no_digit : (ps : Parts ⊤) (X : List ℕ) → NoDigit X → NoDigit (parts_text ps (44 ∷ []) ++ X)
 parts-no_digit no_parts X h = h
 parts-no_digit (gap ps) X h = refl
 parts-no_digit (part c ps) X h = refl
 
 -- one step of two texts of parts
-gap-step : (before P Q X Y : List ℕ) → (before ++ (95 ∷ P)) ++ X ≡ (before ++ (95 ∷ Q)) ++ Y → P ++ X ≡ Q ++ Y
+pub gap-step : (before P Q X Y : List ℕ) → (before ++ (95 ∷ P)) ++ X ≡ (before ++ (95 ∷ Q)) ++ Y → P ++ X ≡ Q ++ Y
 gap-step before P Q X Y e = cons-tail (append-cancel before (95 ∷ (P ++ X)) (95 ∷ (Q ++ Y)) (sym (append_assoc before (95 ∷ P) X) ∙ e ∙ append_assoc before (95 ∷ Q) Y))
 
-regroup : (before A P X : List ℕ) → (before ++ (A ++ P)) ++ X ≡ before ++ (A ++ (P ++ X))
+pub regroup : (before A P X : List ℕ) → (before ++ (A ++ P)) ++ X ≡ before ++ (A ++ (P ++ X))
 regroup before A P X = append_assoc before (A ++ P) X ∙ ap (before ++◌) (append_assoc A P X)
 
-part-step : (before A B P Q X Y : List ℕ) → (before ++ (A ++ P)) ++ X ≡ (before ++ (B ++ Q)) ++ Y → A ++ (P ++ X) ≡ B ++ (Q ++ Y)
+pub part-step : (before A B P Q X Y : List ℕ) → (before ++ (A ++ P)) ++ X ≡ (before ++ (B ++ Q)) ++ Y → A ++ (P ++ X) ≡ B ++ (Q ++ Y)
 part-step before A B P Q X Y e = append-cancel before (A ++ (P ++ X)) (B ++ (Q ++ Y)) (sym (regroup before A P X) ∙ e ∙ regroup before B Q Y)
 
-gap-not_part : {R : Type 0} (before P Q X Y : List ℕ) (c : Value) → (before ++ (95 ∷ P)) ++ X ≡ (before ++ (text_of c ++ Q)) ++ Y → R
+pub gap-not_part : {R : Type 0} (before P Q X Y : List ℕ) (c : Value) → (before ++ (95 ∷ P)) ++ X ≡ (before ++ (text_of c ++ Q)) ++ Y → R
 gap-not_part before P Q X Y c e =
     let s = cell-starts c (Q ++ Y) in
     let f = append-cancel before (95 ∷ (P ++ X)) (text_of c ++ (Q ++ Y)) (sym (append_assoc before (95 ∷ P) X) ∙ e ∙ regroup before (text_of c) Q Y) in
@@ -231,10 +233,10 @@ end-not_part : {R : Type 0} (first : Bool) (Q X Y Z : List ℕ) (c : Value) → 
 end-not_part true Q X Y Z c z e = let s = cell-starts c (Q ++ Y) in absurd (s.3.bracket (sym (cons-head (sym z ∙ e ∙ append_assoc (text_of c) Q Y ∙ s.2))))
 end-not_part false Q X Y Z c z e = absurd (omega (arith, cons-head (sym z ∙ e)))
 
-abbrev behind : Kind → Parts ⊤ → List ℕ → List ℕ
+abbrev pub behind : Kind → Parts ⊤ → List ℕ → List ℕ
 behind k ps r = parts_text ps [] ++ (closing k ++ r)
 
-cell-regroup : (n : ⊤) (k : Kind) (ps : Parts ⊤) (r : List ℕ) → text_of (cell n k ps) ++ r ≡ opening k ++ behind k ps r
+pub cell-regroup : (n : ⊤) (k : Kind) (ps : Parts ⊤) (r : List ℕ) → text_of (cell n k ps) ++ r ≡ opening k ++ behind k ps r
 cell-regroup n k ps r = append_assoc (opening k) (parts_text ps [] ++ closing k) r ∙ ap (opening k ++◌) (append_assoc (parts_text ps []) (closing k) r)
 
 module _ (table : TypeTable) where

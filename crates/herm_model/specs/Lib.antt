@@ -7,6 +7,7 @@ pub mod Tables
 pub mod Typed
 pub mod Finalising
 pub mod Texts
+pub mod WellMade
 pub mod Expressions
 pub mod Statements
 pub mod Calls
@@ -25,3 +26,11 @@ pub mod TypeLaws
 pub mod ValueLaws
 pub mod TextLaws
 pub mod TypedExpressions
+pub mod laws
+pub mod WellFormedTables
+pub mod TypedStatements
+pub mod TypedPrograms
+pub mod TableTests
+pub mod TypingTests
+pub mod TypedExamples
+pub mod TypedLaws

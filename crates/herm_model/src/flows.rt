@@ -52,8 +52,8 @@ pub fn flowing_labels_hold()
     ensures { FlowingLabelsHold }
 {}
 
-/// Where each statement's label has exactly the facts that hold there, the refusals are exactly the needs that are not
-/// in the labels, in order.
+/// Where control reaches each statement and its label has exactly the facts that hold there, the refusals are exactly the
+/// needs that are not in the labels, in order.
 pub fn exact_labels_refuse()
     ensures { ExactLabelsRefuse }
 {}

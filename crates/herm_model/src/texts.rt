@@ -12,7 +12,7 @@ pub fn a_text_tells_its_value()
     ensures values { TellsValues }
 {}
 
-/// Numbers are written as std writes them.
+/// Numbers of at most 64 digits, and integers of 64 bits, are written as std writes them.
 pub fn numbers_are_written_in_decimal()
     ensures unsigned { WritesDecimals }
     ensures signed { WritesIntegers }

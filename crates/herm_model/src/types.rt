@@ -7,15 +7,16 @@ ghost use Rattle.herm_model.specs.Facts.{facts_to, prefixes, full_facts, declare
 ghost use Rattle.herm_model.specs.ExampleTypes.{example_types};
 ghost use Rattle.herm_model.specs.TypeLaws.{ListsWhatLeads, IsSameWithin, ListsNoneTwice, GreaterDepthHolds, TestsCopyable, PrefixesAreClosed, FactsToAreClosed, FullFactsAreClosed, MessageFactsAreClosed, MeetsAreClosed, TestsEquality};
 
-/// The paths of a type that full asks for, those that hold values of their own, and all of them are the ones that
-/// lead through such parts, whatever bound on the depth of the type they are listed with.
+/// The listed paths of a type that full asks for, those that hold values of their own, and all of them are the ones that
+/// lead through such parts, where they are listed with a bound on the type's depth.
 pub fn paths_are_those_that_lead()
     ensures full { ListsWhatLeads full_parts }
     ensures held { ListsWhatLeads held_parts }
     ensures all { ListsWhatLeads all_parts }
 {}
 
-/// The bound on depth with which paths are listed changes neither the paths nor their order.
+/// Which bound on the type's depth paths are listed with changes neither the paths nor their order. A greater number
+/// than a bound is one.
 pub fn depth_bound_is_free()
     ensures full { IsSameWithin full_parts }
     ensures held { IsSameWithin held_parts }
@@ -30,14 +31,15 @@ pub fn no_path_is_listed_twice()
     ensures all { ListsNoneTwice all_parts }
 {}
 
-/// Copyable is the smallest set with the scalars and the outports that has a record, variant or table type where it
-/// has all its parts.
+/// With a bound on the type's depth, the test of copyable types holds exactly of the smallest set with the scalars and
+/// the outports that has a record, variant or table type where it has all its parts.
 pub fn copyable_is_the_smallest_set()
     ensures test { TestsCopyable }
 {}
 
-/// The facts before a fact, those to a path, those of a full value, those of messages and the meet of two closed sets
-/// are closed.
+/// Closed are: a fact with the facts before it, the facts to a path, the meet of two closed sets, and, where the type is
+/// within the limit of depth, the facts of a message, and those of a full value with those to its path, where that passes
+/// no component.
 pub fn sets_of_facts_are_closed()
     ensures prefixes { PrefixesAreClosed }
     ensures paths { FactsToAreClosed }

@@ -11,20 +11,23 @@ ghost use Rattle.herm_model.specs.ExampleTypes.{example_types, leaf, one, two, p
 ghost use Rattle.herm_model.specs.TypeLaws.{TestsEquality};
 ghost use Rattle.herm_model.specs.ValueLaws.{IsChangedAt, IsChangedThrough, KeepsCellsAbove, WeighsTheChange, WeighsTheFinalised, IsCopy, IsKeyed, ForgetsInParts, ForgetsInCell, FullIsTyped, FullHasFullFacts, FullFactsAreFull, ExcessIsTopmost};
 
-/// A change at a path sets what is there and its parts, and leaves the rest.
+/// A change at a path leaves what is apart from it, and above it the cells that were there, with the change inside. Where
+/// there is a place at the path, it sets what stands there and its parts. A change through components changes what is read
+/// at the path.
 pub fn a_change_is_local()
     ensures at { (p : Path) (o : Option (Cell Name)) (ps : Parts Name) → IsChangedAt p o ps }
     ensures above { KeepsCellsAbove }
     ensures through { (j : ℕ) (p : Path) (f : Cell Name → Cell Name) (ps : Parts Name) → IsChangedThrough j p f ps }
 {}
 
-/// No name is made or lost by a change at a path beyond what is set and what was there, nor by finalising.
+/// No name is made or lost by a change at a path, where there is a place, beyond what is set and what was there, nor by
+/// finalising.
 pub fn names_are_kept()
     ensures change { WeighsTheChange }
     ensures finalised { WeighsTheFinalised }
 {}
 
-/// The excess has exactly the topmost paths that are left over.
+/// With a bound on the type's depth, the excess has exactly the topmost paths that are left over.
 pub fn the_excess_is_topmost()
     ensures topmost { ExcessIsTopmost }
 {}
@@ -34,20 +37,23 @@ pub fn a_copy_has_fresh_names()
     ensures copy { (name : ℕ → Name) (s : ℕ) (c : Cell Name) → IsCopy name s c }
 {}
 
-/// Each operation on the cells of the ledger is the one on values, once the names are forgotten.
+/// Reading and changing parts, finding and removing rows, finalising, copying, and what is asked of a cell without its
+/// name, are on the cells of the ledger what they are on values, once the names are forgotten.
 pub fn names_can_be_forgotten()
     ensures parts { (ps : Parts Name) → ForgetsInParts ps }
     ensures cells { (c : Cell Name) → ForgetsInCell c }
 {}
 
-/// A full value of a type is a value of the type, with values at exactly the paths that full asks for.
+/// A full value of a type is a value of the type. Where the type is within the limit of depth, a value of the type is full
+/// exactly where it has values at the paths that full asks for and at no other.
 pub fn full_values_are_typed()
     ensures full { FullIsTyped }
     ensures facts { FullHasFullFacts }
     ensures only { FullFactsAreFull }
 {}
 
-/// Rows are found by their keys, and inserting a new key and removing a row keep the keys different.
+/// A key finds a row that has it, exactly where there is one. A row behind the others keeps the keys different exactly
+/// where its key is new, and a row less keeps them different.
 pub fn rows_have_keys()
     ensures rows { (key : List ℕ) (rows : Parts Name) → IsKeyed key rows }
 {}

@@ -1,0 +1,282 @@
+-- The tests of bodies, processes and programs decide which are typed.
+use Rattle.std.proofs.Common.{◌≡◌, ◌↔◌, ℕ, zero, suc, ◌+◌, ◌<◌, ◌≤◌, List, [], ◌∷◌, ◌++◌, map, filter, length, Bool, true, false, not, cond, ◌&&◌, ◌||◌, ◌⊎◌, inl, inr, nat_eq, nat_lt, nat_le, Option, Some, None, is_some, option_map, slice_get, IsTrue, refl, sym, ap, subst, ◌∙◌, arith, true≢false}
+use Rattle.herm_model.specs.Lists.{IsIn, every, some_of, numbered, with_some, range}
+use Rattle.herm_model.specs.Paths.{Fact}
+use Rattle.herm_model.specs.Types.{inport, TypeTable, predefined, all_parts, variable_paths}
+use Rattle.herm_model.specs.Statements.{Form, Assign, Move, New, Discard, Unite, Dissolve, Reveal, Case, Wrap, Unwrap, Insert, Remove, Get, For, Connect, Send, Receive, Select, Call, Return, ReturnBy, Create, If, While, Raise, Leave, Statement, simple, choosing, repeating, leaving, trying, Block, no_statements, statement, Blocks, no_blocks, block, Handlers, no_handlers, handler, Process, Branching, goes_on, repeats, leaves, chooses, branching_of, count_blocks, numbers_of_block, HasDifferentArms, IsWellFormed, IsWellFormedBlock, AreWellFormed, AreWellFormedHandlers}
+use Rattle.herm_model.specs.Nodes.{Target, node, end, end_by, Node, process_nodes, entry_of, Exit, exits}
+use Rattle.herm_model.specs.Control.{Edge, edge, Point, point, flow_of, IsReached}
+use Rattle.herm_model.specs.FlowLaws.{EdgesDiffer, IsLedTo, begins, goes_on}
+use Rattle.herm_model.specs.FlowLaws
+use Rattle.herm_model.specs.TypedExpressions.{HasShape}
+use Rattle.herm_model.specs.WellFormedTables.{IsType, IsWellFormedTable}
+use Rattle.herm_model.specs.TypedStatements.{port_type, IsTypedForm}
+use Rattle.herm_model.specs.TypedPrograms.{greatest_statements, greatest_variable_paths, main_start, Placed, placed_in, handled, is_some_block, is_some_handler, HasArms, HasHandlers, HasDifferentHandlers, HandlesKnown, LeavesLoop, OfEachStatement, IsTypedProcess, IsTypedProgram}
+use Rattle.herm_model.specs.TableTests.{are_different, on_inport, broken_table_rules}
+use Rattle.herm_model.specs.TypingTests.{is_number, is_typed_form, same_branching, has_different_arms, is_well_formed, is_well_formed_block, are_well_formed, are_well_formed_handlers, has_arms, has_handlers, has_different_handlers, handles_known, leaves_loop, of_each_statement, places_of, places_behind, sweep, marked_places, is_marked, are_settled, ProcessRule, port, variables_known, few_paths, few_statements, blocks, arms, handlers, handlers_differ, handlers_known, leaves_in_loops, typed, reached, process_rules, keeps_process_rule, broken_process_rules, is_none, is_typed_program, is_judged}
+use Rattle.herm_model.specs.TypedLaws.{ProcessKeeps, TestsDecideProcesses, NoneBrokenIsTyped, TestDecidesPrograms}
+use Rattle.herm_model.proofs.Lists.{not_true, and-both, both-and, in-every, in-append_cases, in-map, in-map_from, slice_get-map, every-in, or-either}
+use Rattle.herm_model.proofs.Options.{some-injective, none-not_some, map-some}
+use Rattle.herm_model.proofs.FactTests.{at-numbered}
+use Rattle.herm_model.proofs.Reached.{reached-led}
+use Rattle.herm_model.proofs.DifferentOutcomes.{process-EdgesDiffer}
+use Rattle.herm_model.proofs.Deciding.{Decides, through, both-decide, true-decides, false-decides, not-decides, numbers-decide, below-decides, at_most-decides, all-decide, chosen-decides, member-decides, different-decides, range-decides}
+use Rattle.herm_model.proofs.DecidedTables.{inport-decides, none-broken, all-kept, none-well_formed}
+use Rattle.herm_model.proofs.DecidedForms.{IsRegular, well_formed-regular, number-is, form-decides}
+
+branching-decides : (a b : Branching) → Decides (same_branching a b) (a ≡ b)
+branching-decides goes_on goes_on = true-decides refl
+branching-decides repeats repeats = true-decides refl
+branching-decides leaves leaves = true-decides refl
+branching-decides (chooses m) (chooses n) = through _ (λ e. ap chooses e) (λ e. cc e) (numbers-decide m n)
+branching-decides a b = false-decides (λ e. cc e)
+
+arms-differ : (form : Form) → Decides (has_different_arms form) (HasDifferentArms form)
+arms-differ (Case v cs) = different-decides nat_eq numbers-decide cs
+arms-differ form = true-decides tt
+
+mutual
+  statement-decides : (s : Statement) → Decides (is_well_formed s) (IsWellFormed s)
+  statement-decides (simple form) = branching-decides (branching_of form) goes_on
+  statement-decides (choosing form bs) =
+      through _ (λ h. (h.0, h.1.0, h.1.1)) (λ h. (h.0, (h.1, h.2)))
+      (both-decide (same_branching (branching_of form) (chooses (count_blocks bs))) _ (branching-decides (branching_of form) (chooses (count_blocks bs))) (both-decide (has_different_arms form) _ (arms-differ form) (blocks-decide bs)))
+  statement-decides (repeating form body) = both-decide (same_branching (branching_of form) repeats) _ (branching-decides (branching_of form) repeats) (block-decides body)
+  statement-decides leaving = true-decides tt
+  statement-decides (trying body hs) = both-decide (is_well_formed_block body) _ (block-decides body) (handlers-decide hs)
+
+  block-decides : (b : Block) → Decides (is_well_formed_block b) (IsWellFormedBlock b)
+  block-decides no_statements = true-decides tt
+  block-decides (statement s rest) = both-decide (is_well_formed s) _ (statement-decides s) (block-decides rest)
+
+  blocks-decide : (bs : Blocks) → Decides (are_well_formed bs) (AreWellFormed bs)
+  blocks-decide no_blocks = true-decides tt
+  blocks-decide (block b rest) = both-decide (is_well_formed_block b) _ (block-decides b) (blocks-decide rest)
+
+  handlers-decide : (hs : Handlers) → Decides (are_well_formed_handlers hs) (AreWellFormedHandlers hs)
+  handlers-decide no_handlers = true-decides tt
+  handlers-decide (handler e b rest) = both-decide (is_well_formed_block b) _ (block-decides b) (handlers-decide rest)
+
+itself : (b : Bool) → Decides b (IsTrue b)
+itself b = ((λ h. h), λ h. h)
+
+arms-decide : (l : Bool) (s : Statement) → Decides (has_arms l s) (HasArms s)
+arms-decide l (choosing form bs) = itself (is_some_block bs)
+arms-decide l s = true-decides tt
+
+some-decide : (l : Bool) (s : Statement) → Decides (has_handlers l s) (HasHandlers s)
+some-decide l (trying body hs) = itself (is_some_handler hs)
+some-decide l s = true-decides tt
+
+others-decide : (l : Bool) (s : Statement) → Decides (has_different_handlers l s) (HasDifferentHandlers s)
+others-decide l (trying body hs) = different-decides nat_eq numbers-decide (handled hs)
+others-decide l s = true-decides tt
+
+known-decide : (exceptions : ℕ) (l : Bool) (s : Statement) → Decides (handles_known exceptions l s) (HandlesKnown exceptions s)
+known-decide exceptions l (trying body hs) = all-decide (λ e. nat_lt e exceptions) (λ e. e < exceptions) (λ e. below-decides e exceptions) (handled hs)
+known-decide exceptions l s = true-decides tt
+
+leaves-decide : (l : Bool) (s : Statement) → Decides (leaves_loop l s) (LeavesLoop l s)
+leaves-decide l leaving = itself l
+leaves-decide l s = true-decides tt
+
+each-decides : (p : Process) (test : Bool → Statement → Bool) (P : Bool → Statement → Type 0) → ((l : Bool) (s : Statement) → Decides (test l s) (P l s)) → Decides (of_each_statement p test) (OfEachStatement p P)
+each-decides p test P each = all-decide (λ (s : Placed). test s.in_loop s.statement) (λ (s : Placed). P s.in_loop s.statement) (λ s. each s.in_loop s.statement) (placed_in false p.body)
+
+-- places among targets
+place-target : (j : ℕ) (ts : List Target) → IsIn j (places_of ts) → IsIn (node j) ts
+place-target j [] h = absurd h
+place-target j (node i ∷ ts) (inl e) = inl (ap node e)
+place-target j (node i ∷ ts) (inr h) = inr (place-target j ts h)
+place-target j (end ∷ ts) h = inr (place-target j ts h)
+place-target j (end_by e ∷ ts) h = inr (place-target j ts h)
+
+target-place : (j : ℕ) (ts : List Target) → IsIn (node j) ts → IsIn j (places_of ts)
+target-place j [] h = absurd h
+target-place j (node i ∷ ts) (inl e) = inl (cc e)
+target-place j (node i ∷ ts) (inr h) = inr (target-place j ts h)
+target-place j (end ∷ ts) (inl e) = let k : ⊥ = cc e in absurd k
+target-place j (end ∷ ts) (inr h) = target-place j ts h
+target-place j (end_by f ∷ ts) (inl e) = let k : ⊥ = cc e in absurd k
+target-place j (end_by f ∷ ts) (inr h) = target-place j ts h
+
+numbered-got : {X : Type 0} (k i : ℕ) (x : X) (xs : List X) → IsIn (i, x) (numbered k xs) → (j : ℕ) × (i ≡ k + j) × (slice_get xs j ≡ Some x)
+numbered-got k i x [] h = absurd h
+numbered-got {X} k i x (y ∷ ys) (inl e) = (0, ap (λ (z : ℕ × X). z.0) e ∙ omega arith, ap (λ (z : ℕ × X). Some z.1) (sym e))
+numbered-got k i x (y ∷ ys) (inr h) = let r = numbered-got (suc k) i x ys h in (suc r.0, omega (arith, r.1), r.2)
+
+got-numbered : {X : Type 0} (i : ℕ) (x : X) (xs : List X) → IsIn (i, x) (numbered 0 xs) → slice_get xs i ≡ Some x
+got-numbered i x xs h = let r = numbered-got 0 i x xs h in let e : i ≡ r.0 = omega (arith, r.1) in subst (λ j. slice_get xs j ≡ Some x) (sym e) r.2
+
+module _ (table : TypeTable) (p : Process) where
+  abbrev IsAt : ℕ × Node → Type 0
+  IsAt n = slice_get (process_nodes p) n.0 ≡ Some n.1
+
+  abbrev Led : ℕ → Type 0
+  Led i = IsLedTo (flow_of table p) (node i)
+
+  behind-led : (i j : ℕ) (n : Node) → IsAt (i, n) → Led i → IsIn j (places_behind table p n) → Led j
+  behind-led i j n at led h =
+      let r = in-map_from (λ (e : Exit). e.target) (node j) (exits table p.variables n) (place-target j _ h) in
+      let from : slice_get (flow_of table p).points i ≡ Some (point table p.variables n) = slice_get-map (point table p.variables) (process_nodes p) i ∙ ap (option_map (point table p.variables)) at in
+      subst (IsLedTo (flow_of table p)) (sym r.2) (FlowLaws.IsLedTo.goes_on i (point table p.variables n) (edge table p.variables n.form r.0) led from (in-map (edge table p.variables n.form) r.0 (exits table p.variables n) r.1))
+
+  sweep-led : (ns : List (ℕ × Node)) (marked : List ℕ) → ((n : ℕ × Node) → IsIn n ns → IsAt n) → ((i : ℕ) → IsIn i marked → Led i) → (i : ℕ) → IsIn i (sweep table p ns marked) → Led i
+  sweep-led [] marked at led i h = led i h
+  sweep-led (n ∷ ns) marked at led i h = by (some_of (nat_eq n.0) marked) refl (λ next next_led k. sweep-led ns next (λ m k. at m (inr k)) next_led i k) h
+    where
+      by : (b : Bool) → some_of (nat_eq n.0) marked ≡ b → ((next : List ℕ) → ((j : ℕ) → IsIn j next → Led j) → IsIn i (sweep table p ns next) → Led i) → IsIn i (sweep table p ns (cond b (places_behind table p n.1 ++ marked) marked)) → Led i
+      by false e again k = again marked led k
+      by true e again k = again (places_behind table p n.1 ++ marked) more k
+        where
+          more : (j : ℕ) → IsIn j (places_behind table p n.1 ++ marked) → Led j
+          more j m = split (in-append_cases j (places_behind table p n.1) marked m)
+            where
+              split : IsIn j (places_behind table p n.1) ⊎ IsIn j marked → Led j
+              split (inl a) = behind-led n.0 j n.1 (at n (inl refl)) (led n.0 ((member-decides nat_eq numbers-decide n.0 marked).0 e)) a
+              split (inr b) = led j b
+
+  entry-led : (i : ℕ) → IsIn i (places_of (entry_of p ∷ [])) → Led i
+  entry-led i h = by (place-target i (entry_of p ∷ []) h)
+    where
+      by : IsIn (node i) (entry_of p ∷ []) → Led i
+      by (inl e) = subst (IsLedTo (flow_of table p)) (sym e) FlowLaws.IsLedTo.begins
+      by (inr h) = absurd h
+
+  marked-led : (i : ℕ) → IsTrue (is_marked table p i) → Led i
+  marked-led i h =
+      sweep-led (numbered 0 (process_nodes p)) (places_of (entry_of p ∷ [])) (λ n k. got-numbered n.0 n.1 (process_nodes p) k) entry-led i
+      ((member-decides nat_eq numbers-decide i (marked_places table p)).0 h)
+
+  module _ (settled : IsTrue (are_settled table p)) where
+    entry-marked : (i : ℕ) → IsIn i (places_of (entry_of p ∷ [])) → IsTrue (is_marked table p i)
+    entry-marked i h = every-in (is_marked table p) i (places_of (entry_of p ∷ [])) (and-both _ _ settled).0 h
+
+    behind-marked : (i j : ℕ) (n : Node) → IsAt (i, n) → IsTrue (is_marked table p i) → IsIn j (places_behind table p n) → IsTrue (is_marked table p j)
+    behind-marked i j n at m h =
+        let t = every-in (λ (n : ℕ × Node). not (is_marked table p n.0) || every (is_marked table p) (places_behind table p n.1)) (i, n) (numbered 0 (process_nodes p)) (and-both _ _ settled).1 (at-numbered (process_nodes p) i n at) in
+        by (is_marked table p i) m (or-either (not (is_marked table p i)) _ t)
+      where
+        by : (b : Bool) → IsTrue b → IsTrue (not b) ⊎ IsTrue (every (is_marked table p) (places_behind table p n)) → IsTrue (is_marked table p j)
+        by true m (inl z) = not_true z
+        by false m x = not_true m
+        by true m (inr z) = every-in (is_marked table p) j (places_behind table p n) z h
+
+    led-marked : (t : Target) → IsLedTo (flow_of table p) t → (i : ℕ) → t ≡ node i → IsTrue (is_marked table p i)
+    led-marked t FlowLaws.IsLedTo.begins i e = entry-marked i (target-place i (entry_of p ∷ []) (inl (sym e)))
+    led-marked t (FlowLaws.IsLedTo.goes_on k q x led at of) i e =
+        let n = map-some (point table p.variables) (slice_get (process_nodes p) k) q (sym (slice_get-map (point table p.variables) (process_nodes p) k) ∙ at) in
+        let r = in-map_from (edge table p.variables (n.0).form) x (exits table p.variables n.0) (subst (λ (z : Point). IsIn x z.edges) (sym n.2) of) in
+        let target : node i ≡ (r.0).target = sym e ∙ ap (λ (z : Edge). z.target) r.2 in
+        behind-marked k i n.0 n.1 (led-marked (node k) led k refl) (target-place i _ (subst (λ z. IsIn z (map (λ (e : Exit). e.target) (exits table p.variables n.0))) (sym target) (in-map (λ (e : Exit). e.target) r.0 (exits table p.variables n.0) r.1)))
+
+    reached-decides : IsWellFormedBlock p.body → (i : ℕ) → Decides (is_marked table p i) (IsReached (flow_of table p) (node i))
+    reached-decides formed i =
+        let k = reached-led (flow_of table p) (process-EdgesDiffer table p formed) (node i) in
+        ((λ m. k.1 (marked-led i m)), λ r. led-marked (node i) (k.0 r) i refl)
+
+module _ (exceptions : ℕ) (table : TypeTable) (processes : List Process) (p : Process) (regular : IsRegular table) (settled : IsTrue (are_settled table p)) where
+  process-decides : IsWellFormedBlock p.body → (rule : ProcessRule) → Decides (keeps_process_rule exceptions table processes p rule) (ProcessKeeps exceptions table processes p rule)
+  process-decides formed port =
+      through _ (λ h. (h.0, h.2.0, h.2.1, h.1, h.2.2)) (λ h. (h.0, h.3, (h.1, h.2, h.4, tt)))
+      (chosen-decides (λ t. on_inport (λ message declared. true) (slice_get table t)) (λ t. (message : ℕ) × (declared : List Fact) × HasShape table t (inport message declared) × Unit {0}) (λ t. inport-decides (λ message declared. true) (λ message declared. Unit {0}) (λ message declared. true-decides tt) (slice_get table t)) (slice_get p.variables 0))
+  process-decides formed variables_known = all-decide (λ t. is_some (slice_get table t)) (IsType table) (λ t. itself (is_some (slice_get table t))) p.variables
+  process-decides formed few_paths = at_most-decides (length (variable_paths all_parts table p.variables)) greatest_variable_paths
+  process-decides formed few_statements = at_most-decides (numbers_of_block p.body) greatest_statements
+  process-decides formed blocks = block-decides p.body
+  process-decides formed arms = each-decides p has_arms (λ l s. HasArms s) arms-decide
+  process-decides formed handlers = each-decides p has_handlers (λ l s. HasHandlers s) some-decide
+  process-decides formed handlers_differ = each-decides p has_different_handlers (λ l s. HasDifferentHandlers s) others-decide
+  process-decides formed handlers_known = each-decides p (handles_known exceptions) (λ l s. HandlesKnown exceptions s) (known-decide exceptions)
+  process-decides formed leaves_in_loops = each-decides p leaves_loop LeavesLoop leaves-decide
+  process-decides formed typed = all-decide (λ (n : Node). is_typed_form table p.variables exceptions processes n.form) (λ (n : Node). IsTypedForm table p.variables exceptions processes n.form) (λ (n : Node). form-decides table regular p.variables exceptions processes n.form) (process_nodes p)
+  process-decides formed reached = range-decides (is_marked table p) (λ i. IsReached (flow_of table p) (node i)) (reached-decides table p settled formed) (length (process_nodes p))
+
+  process_rule-listed : (rule : ProcessRule) → IsIn rule process_rules
+  process_rule-listed port = inl refl
+  process_rule-listed variables_known = inr (inl refl)
+  process_rule-listed few_paths = inr (inr (inl refl))
+  process_rule-listed few_statements = inr (inr (inr (inl refl)))
+  process_rule-listed blocks = inr (inr (inr (inr (inl refl))))
+  process_rule-listed arms = inr (inr (inr (inr (inr (inl refl)))))
+  process_rule-listed handlers = inr (inr (inr (inr (inr (inr (inl refl))))))
+  process_rule-listed handlers_differ = inr (inr (inr (inr (inr (inr (inr (inl refl)))))))
+  process_rule-listed handlers_known = inr (inr (inr (inr (inr (inr (inr (inr (inl refl))))))))
+  process_rule-listed leaves_in_loops = inr (inr (inr (inr (inr (inr (inr (inr (inr (inl refl)))))))))
+  process_rule-listed typed = inr (inr (inr (inr (inr (inr (inr (inr (inr (inr (inl refl))))))))))
+  process_rule-listed reached = inr (inr (inr (inr (inr (inr (inr (inr (inr (inr (inr (inl refl)))))))))))
+
+  none-typed : (broken_process_rules exceptions table processes p ≡ []) ↔ IsTypedProcess exceptions table processes p
+  none-typed = (to, from)
+    where
+      kept : broken_process_rules exceptions table processes p ≡ [] → (rule : ProcessRule) → IsTrue (keeps_process_rule exceptions table processes p rule)
+      kept e rule = none-broken (keeps_process_rule exceptions table processes p) process_rules e rule (process_rule-listed rule)
+
+      to : broken_process_rules exceptions table processes p ≡ [] → IsTypedProcess exceptions table processes p
+      to e =
+          let keeps : (rule : ProcessRule) → ProcessKeeps exceptions table processes p rule = λ rule. (process-decides ((block-decides p.body).0 (kept e blocks)) rule).0 (kept e rule) in
+          record {
+            port = keeps port;
+            variables_known = keeps variables_known;
+            few_paths = keeps few_paths;
+            few_statements = keeps few_statements;
+            blocks = keeps blocks;
+            arms = keeps arms;
+            handlers = keeps handlers;
+            handlers_differ = keeps handlers_differ;
+            handlers_known = keeps handlers_known;
+            leaves = keeps leaves_in_loops;
+            typed = keeps typed;
+            reached = keeps reached;
+          }
+
+      holds : IsTypedProcess exceptions table processes p → (rule : ProcessRule) → ProcessKeeps exceptions table processes p rule
+      holds w port = w.port
+      holds w variables_known = w.variables_known
+      holds w few_paths = w.few_paths
+      holds w few_statements = w.few_statements
+      holds w blocks = w.blocks
+      holds w arms = w.arms
+      holds w handlers = w.handlers
+      holds w handlers_differ = w.handlers_differ
+      holds w handlers_known = w.handlers_known
+      holds w leaves_in_loops = w.leaves
+      holds w typed = w.typed
+      holds w reached = w.reached
+
+      from : IsTypedProcess exceptions table processes p → broken_process_rules exceptions table processes p ≡ []
+      from w = all-kept (keeps_process_rule exceptions table processes p) process_rules (λ rule i. (process-decides w.blocks rule).1 (holds w rule))
+
+pub tests-processes : TestsDecideProcesses
+tests-processes exceptions table processes p w settled formed rule = process-decides exceptions table processes p (well_formed-regular exceptions table w) settled ((block-decides p.body).0 formed) rule
+
+pub none-process : NoneBrokenIsTyped
+none-process exceptions table processes p w settled = none-typed exceptions table processes p (well_formed-regular exceptions table w) settled
+
+empty-decides : {X : Type 0} (xs : List X) → Decides (is_none xs) (xs ≡ [])
+empty-decides [] = true-decides refl
+empty-decides (x ∷ xs) = false-decides (λ e. absurd (true≢false (sym (ap is_none e))))
+
+pub test-programs : TestDecidesPrograms
+test-programs exceptions defined processes main judged = (to, from)
+  where
+    all_settled : (p : Process) → IsIn p processes → IsTrue (are_settled (predefined ++ defined) p)
+    all_settled p i = every-in (are_settled (predefined ++ defined)) p processes judged i
+
+    to : IsTrue (is_typed_program exceptions defined processes main) → IsTypedProgram exceptions (predefined ++ defined) processes main
+    to h =
+        let a = and-both (is_none (broken_table_rules exceptions defined)) _ h in
+        let b = and-both (every (λ p. is_none (broken_process_rules exceptions (predefined ++ defined) processes p)) processes) _ a.1 in
+        let w = (none-well_formed exceptions defined).0 ((empty-decides _).0 a.0) in
+        record {
+          types = w;
+          modules = λ p i. (none-process exceptions (predefined ++ defined) processes p w (all_settled p i)).0 ((empty-decides _).0 (every-in (λ p. is_none (broken_process_rules exceptions (predefined ++ defined) processes p)) p processes b.0 i));
+          begins = (number-is (port_type processes main) main_start).0 b.1;
+        }
+
+    from : IsTypedProgram exceptions (predefined ++ defined) processes main → IsTrue (is_typed_program exceptions defined processes main)
+    from w =
+        both-and (is_none (broken_table_rules exceptions defined)) _ ((empty-decides _).1 ((none-well_formed exceptions defined).1 w.types))
+        (both-and (every (λ p. is_none (broken_process_rules exceptions (predefined ++ defined) processes p)) processes) _
+        (in-every (λ p. is_none (broken_process_rules exceptions (predefined ++ defined) processes p)) processes (λ p i. (empty-decides _).1 ((none-process exceptions (predefined ++ defined) processes p w.types (all_settled p i)).1 (w.modules p i))))
+        ((number-is (port_type processes main) main_start).1 w.begins))

@@ -1,0 +1,271 @@
+-- Tests of expressions, forms, bodies and processes, rule by rule. A law says that they decide which are typed.
+use Rattle.std.specs.Prelude.{ℕ, suc, List, [], ◌∷◌, ◌++◌, map, filter, length, Bool, true, false, not, cond, ◌&&◌, ◌||◌, nat_eq, nat_lt, nat_le, Option, Some, None, is_some, slice_get, option_and_then}
+use Rattle.herm_model.specs.Lists.{with_some, every, some_of, numbered, range, list_of}
+use Rattle.herm_model.specs.Paths.{Path, Fact, same_path, are_apart}
+use Rattle.herm_model.specs.Types.{Mode, by_in, by_inout, by_out, Parameter, Raised, Shape, boolean, integer, text, polymorph, names, inport, TypeTable, predefined, greatest_depth, all_parts, variable_paths, type_at, passes_component, is_copyable_within}
+use Rattle.herm_model.specs.Expressions.{Literal, Operator, Expression, literal, copy, negated, inverted, operation, size_of, decimal, length_of, Atom, path}
+use Rattle.herm_model.specs.Typed.{is_integer, is_text}
+use Rattle.herm_model.specs.Statements.{Form, Assign, Move, New, Discard, Unite, Dissolve, Reveal, Case, Wrap, Unwrap, Insert, Remove, Get, For, Connect, Send, Receive, Select, Call, Return, ReturnBy, Create, If, While, Raise, Leave, Arm, Statement, simple, choosing, repeating, leaving, trying, Block, no_statements, statement, Blocks, no_blocks, block, Handlers, no_handlers, handler, Process, Branching, goes_on, repeats, leaves, chooses, branching_of, count_blocks, numbers_of_block}
+use Rattle.herm_model.specs.Nodes.{Target, node, end, end_by, Node, process_nodes, entry_of, Exit, exits}
+use Rattle.herm_model.specs.StatementTable.{set_by_call}
+use Rattle.herm_model.specs.TypedExpressions.{takes, shape_given, passes_out}
+use Rattle.herm_model.specs.TableTests.{broken_table_rules, are_different, on_fields, on_cases, on_rows, on_inport, on_outport, on_callmessage}
+use Rattle.herm_model.specs.TypedStatements.{can_be_new, port_type}
+use Rattle.herm_model.specs.TypedPrograms.{greatest_statements, greatest_variable_paths, main_start, Placed, placed_in, handled, is_some_block, is_some_handler}
+
+-- the number of the predefined type of a shape that an operation gives
+abbrev pub number_of_shape : Shape → ℕ
+number_of_shape boolean = 0
+number_of_shape integer = 1
+number_of_shape s = 2
+
+-- a type, where the given one is as wanted
+abbrev pub given_if : (wanted type : ℕ) → Option ℕ → Option ℕ
+given_if wanted type None = None
+given_if wanted type (Some t) = cond (nat_eq t wanted) (Some type) None
+
+abbrev pub is_number : Option ℕ → ℕ → Bool
+is_number None t = false
+is_number (Some u) t = nat_eq u t
+
+abbrev pub on_names : (ℕ → Bool) → Option Shape → Bool
+on_names test (Some (names count)) = test count
+on_names test o = false
+
+abbrev pub is_polymorph : Option Shape → Bool
+is_polymorph (Some polymorph) = true
+is_polymorph o = false
+
+-- none is at or below another
+abbrev pub are_all_apart : List Path → Bool
+are_all_apart [] = true
+are_all_apart (x ∷ xs) = every (are_apart x) xs && are_all_apart xs
+
+module _ (table : TypeTable) where
+  abbrev pub literal_type : Literal → Option ℕ
+  literal_type (Literal.boolean b) = Some 0
+  literal_type (Literal.integer z) = cond (is_integer z) (Some 1) None
+  literal_type (Literal.text bytes) = cond (is_text bytes) (Some 2) None
+  literal_type (Literal.tag type place) = cond (on_names (nat_lt place) (slice_get table type)) (Some type) None
+
+  module _ (variables : List ℕ) where
+    -- the type of a path that is looked at, and of one that is set or whose value leaves
+    abbrev pub seen_type : Path → Option ℕ
+    seen_type p = cond (passes_out table variables p) None (type_at table variables p)
+
+    abbrev pub own_type : Path → Option ℕ
+    own_type p = cond (passes_component table variables p) None (seen_type p)
+
+    abbrev pub copied_type : Path → Option ℕ
+    copied_type p = option_and_then (λ t. cond (is_copyable_within greatest_depth table t) (Some t) None) (seen_type p)
+
+    abbrev pub is_table : Path → Bool
+    is_table p = with_some false (λ t. on_rows (λ row key. true) (slice_get table t)) (seen_type p)
+
+    abbrev pub expression_type : Expression → Option ℕ
+    expression_type (literal l) = literal_type l
+    expression_type (copy p) = copied_type p
+    expression_type (negated e) = given_if 1 1 (expression_type e)
+    expression_type (inverted e) = given_if 0 0 (expression_type e)
+    expression_type (operation o left right) =
+        option_and_then (λ t. cond (with_some false (takes o) (slice_get table t) && is_number (expression_type right) t) (Some (number_of_shape (shape_given o))) None) (expression_type left)
+    expression_type (size_of p) = cond (is_table p) (Some 1) None
+    expression_type (decimal e) = given_if 1 2 (expression_type e)
+    expression_type (length_of e) = given_if 2 1 (expression_type e)
+
+    abbrev pub atom_type : Atom → Option ℕ
+    atom_type (Atom.literal l) = literal_type l
+    atom_type (path p) = copied_type p
+
+    abbrev pub is_argument : Mode → Atom → ℕ → Bool
+    is_argument by_in a t = is_number (atom_type a) t
+    is_argument by_inout (Atom.literal l) t = false
+    is_argument by_inout (path p) t = is_number (own_type p) t
+    is_argument by_out (Atom.literal l) t = false
+    is_argument by_out (path p) t = is_number (own_type p) t
+
+    abbrev pub are_arguments : List Parameter → List Atom → Bool
+    are_arguments [] [] = true
+    are_arguments [] (a ∷ atoms) = false
+    are_arguments (p ∷ parameters) [] = false
+    are_arguments (p ∷ parameters) (a ∷ atoms) = is_argument p.mode a p.content && are_arguments parameters atoms
+
+    abbrev pub are_keys : List ℕ → List ℕ → List Atom → Bool
+    are_keys ts [] [] = true
+    are_keys ts [] (a ∷ atoms) = false
+    are_keys ts (i ∷ key) [] = false
+    are_keys ts (i ∷ key) (a ∷ atoms) = with_some false (is_number (atom_type a)) (slice_get ts i) && are_keys ts key atoms
+
+    -- a test of the rows and the key of the table at a path, and of the messages of the port at a path
+    abbrev pub at_table : Path → (ℕ → List ℕ → Bool) → Bool
+    at_table p test = with_some false (λ t. on_rows test (slice_get table t)) (seen_type p)
+
+    abbrev pub at_outport : Path → (ℕ → Bool) → Bool
+    at_outport o test = with_some false (λ t. on_outport (λ port. on_inport (λ message declared. test message) (slice_get table port)) (slice_get table t)) (seen_type o)
+
+    abbrev pub at_inport : Path → (ℕ → Bool) → Bool
+    at_inport i test = with_some false (λ t. on_inport (λ message declared. test message) (slice_get table t)) (seen_type i)
+
+    -- a test of a component's type
+    abbrev pub at_component : ℕ → ℕ → (ℕ → Bool) → Bool
+    at_component t c test = on_cases (λ ts. with_some false test (slice_get ts c)) (slice_get table t)
+
+    abbrev pub is_found : Path → Path → List Atom → (ℕ → Bool) → Bool
+    is_found r t keys test = at_table t (λ row key. is_number (own_type r) row && test row && on_fields (λ ts. are_keys ts key keys) (slice_get table row))
+
+    abbrev pub is_received : Path → Path → Bool
+    is_received x i = at_inport i (is_number (own_type x))
+
+    abbrev pub at_returned : Path → (List Raised → Bool) → Bool
+    at_returned m test = with_some false (λ t. on_callmessage (λ parameters raises. test raises) (slice_get table t)) (own_type m)
+
+    abbrev pub is_test : Expression → Bool
+    is_test e = is_number (expression_type e) 0
+
+    module _ (exceptions : ℕ) (processes : List Process) where
+      abbrev pub is_typed_form : Form → Bool
+      is_typed_form (Assign x e) = with_some false (is_number (expression_type e)) (own_type x)
+      is_typed_form (Move y x) = with_some false (is_number (own_type x)) (own_type y) && are_apart y x
+      is_typed_form (New x) = with_some false (λ t. with_some false can_be_new (slice_get table t)) (own_type x)
+      is_typed_form (Discard x) = is_some (own_type x)
+      is_typed_form (Unite v c y) = with_some false (λ t. at_component t c (is_number (own_type y))) (own_type v) && are_apart y v
+      is_typed_form (Dissolve v c y) = with_some false (λ t. at_component t c (is_number (own_type y))) (own_type v) && are_apart v y
+      is_typed_form (Reveal v c) = with_some false (λ t. at_component t c (λ u. true)) (seen_type v)
+      is_typed_form (Case v cs) = with_some false (λ t. on_cases (λ ts. are_different nat_eq cs && (every (λ c. nat_lt c (length ts)) cs && every (λ c. some_of (nat_eq c) cs) (range 0 (length ts)))) (slice_get table t)) (seen_type v)
+      is_typed_form (Wrap y p) = (is_some (own_type y) && with_some false (λ t. is_polymorph (slice_get table t)) (own_type p)) && are_apart y p
+      is_typed_form (Unwrap p t y) = (is_number (own_type y) t && with_some false (λ u. is_polymorph (slice_get table u)) (own_type p)) && are_apart p y
+      is_typed_form (Insert r t) = at_table t (λ row key. is_number (own_type r) row)
+      is_typed_form (Remove r t keys) = is_found r t keys (λ row. true)
+      is_typed_form (Get r t keys) = is_found r t keys (is_copyable_within greatest_depth table)
+      is_typed_form (For r t) = at_table t (λ row key. is_number (own_type r) row && is_copyable_within greatest_depth table row)
+      is_typed_form (Connect o i) = with_some false (λ t. on_outport (is_number (seen_type i)) (slice_get table t)) (own_type o)
+      is_typed_form (Send x o) = at_outport o (is_number (own_type x))
+      is_typed_form (Receive x i) = is_received x i
+      is_typed_form (Select arms) = are_different same_path (map (λ (a : Arm). a.port) arms) && every (λ (a : Arm). is_received a.target a.port) arms
+      is_typed_form (Call o arguments) = at_outport o (λ message. on_callmessage (λ parameters raises. are_arguments parameters arguments) (slice_get table message)) && are_all_apart (set_by_call table variables o arguments)
+      is_typed_form (Return m) = at_returned m (λ raises. true)
+      is_typed_form (ReturnBy m e) = at_returned m (λ raises. some_of (nat_eq e) (map (λ (r : Raised). r.exception) raises))
+      is_typed_form (Create o n) = with_some false (λ t. on_outport (is_number (port_type processes n)) (slice_get table t)) (own_type o)
+      is_typed_form (If e) = is_test e
+      is_typed_form (While e) = is_test e
+      is_typed_form (Raise e) = nat_lt e exceptions
+      is_typed_form Leave = true
+
+abbrev pub same_branching : Branching → Branching → Bool
+same_branching goes_on goes_on = true
+same_branching repeats repeats = true
+same_branching leaves leaves = true
+same_branching (chooses m) (chooses n) = nat_eq m n
+same_branching _ _ = false
+
+abbrev pub has_different_arms : Form → Bool
+has_different_arms (Case v components) = are_different nat_eq components
+has_different_arms _ = true
+
+abbrev mutual
+  pub is_well_formed : Statement → Bool
+  is_well_formed (simple form) = same_branching (branching_of form) goes_on
+  is_well_formed (choosing form blocks) = same_branching (branching_of form) (chooses (count_blocks blocks)) && (has_different_arms form && are_well_formed blocks)
+  is_well_formed (repeating form body) = same_branching (branching_of form) repeats && is_well_formed_block body
+  is_well_formed leaving = true
+  is_well_formed (trying body handlers) = is_well_formed_block body && are_well_formed_handlers handlers
+
+  pub is_well_formed_block : Block → Bool
+  is_well_formed_block no_statements = true
+  is_well_formed_block (statement s rest) = is_well_formed s && is_well_formed_block rest
+
+  pub are_well_formed : Blocks → Bool
+  are_well_formed no_blocks = true
+  are_well_formed (block b rest) = is_well_formed_block b && are_well_formed rest
+
+  pub are_well_formed_handlers : Handlers → Bool
+  are_well_formed_handlers no_handlers = true
+  are_well_formed_handlers (handler e b rest) = is_well_formed_block b && are_well_formed_handlers rest
+
+abbrev pub has_arms : Bool → Statement → Bool
+has_arms l (choosing form blocks) = is_some_block blocks
+has_arms l _ = true
+
+abbrev pub has_handlers : Bool → Statement → Bool
+has_handlers l (trying body handlers) = is_some_handler handlers
+has_handlers l _ = true
+
+abbrev pub has_different_handlers : Bool → Statement → Bool
+has_different_handlers l (trying body handlers) = are_different nat_eq (handled handlers)
+has_different_handlers l _ = true
+
+abbrev pub handles_known : ℕ → Bool → Statement → Bool
+handles_known exceptions l (trying body handlers) = every (λ e. nat_lt e exceptions) (handled handlers)
+handles_known exceptions l _ = true
+
+abbrev pub leaves_loop : Bool → Statement → Bool
+leaves_loop l leaving = l
+leaves_loop l _ = true
+
+abbrev pub of_each_statement : Process → (Bool → Statement → Bool) → Bool
+of_each_statement p test = every (λ (s : Placed). test s.in_loop s.statement) (placed_in false p.body)
+
+-- the places to which targets lead
+abbrev pub places_of : List Target → List ℕ
+places_of [] = []
+places_of (node i ∷ targets) = i ∷ places_of targets
+places_of (end ∷ targets) = places_of targets
+places_of (end_by e ∷ targets) = places_of targets
+
+module _ (table : TypeTable) (p : Process) where
+  abbrev pub places_behind : Node → List ℕ
+  places_behind n = places_of (map (λ (e : Exit). e.target) (exits table p.variables n))
+
+  -- One sweep over the nodes in order marks what is behind what is marked. That is all that control reaches, since it goes
+  -- back only to loops; where the marks are not settled, nothing is judged.
+  abbrev pub sweep : List (ℕ × Node) → List ℕ → List ℕ
+  sweep [] marked = marked
+  sweep (n ∷ ns) marked = sweep ns (cond (some_of (nat_eq n.0) marked) (places_behind n.1 ++ marked) marked)
+
+  abbrev pub marked_places : List ℕ
+  marked_places = sweep (numbered 0 (process_nodes p)) (places_of (entry_of p ∷ []))
+
+  abbrev pub is_marked : ℕ → Bool
+  is_marked i = some_of (nat_eq i) marked_places
+
+  abbrev pub are_settled : Bool
+  are_settled = every is_marked (places_of (entry_of p ∷ [])) && every (λ n. not (is_marked n.0) || every is_marked (places_behind n.1)) (numbered 0 (process_nodes p))
+
+-- The rules of processes, by the names of the parts of a typed process.
+pub data ProcessRule : Type 0 where
+  port variables_known few_paths few_statements : ProcessRule
+  blocks arms handlers handlers_differ handlers_known leaves_in_loops typed reached : ProcessRule
+
+abbrev pub process_rules : List ProcessRule
+process_rules = port ∷ variables_known ∷ few_paths ∷ few_statements ∷ blocks ∷ arms ∷ handlers ∷ handlers_differ ∷ handlers_known ∷ leaves_in_loops ∷ typed ∷ reached ∷ []
+
+-- whether a process keeps a rule
+abbrev pub keeps_process_rule : (exceptions : ℕ) → TypeTable → List Process → Process → ProcessRule → Bool
+keeps_process_rule exceptions table processes p port = with_some false (λ t. on_inport (λ message declared. true) (slice_get table t)) (slice_get p.variables 0)
+keeps_process_rule exceptions table processes p variables_known = every (λ t. is_some (slice_get table t)) p.variables
+keeps_process_rule exceptions table processes p few_paths = nat_le (length (variable_paths all_parts table p.variables)) greatest_variable_paths
+keeps_process_rule exceptions table processes p few_statements = nat_le (numbers_of_block p.body) greatest_statements
+keeps_process_rule exceptions table processes p blocks = is_well_formed_block p.body
+keeps_process_rule exceptions table processes p arms = of_each_statement p has_arms
+keeps_process_rule exceptions table processes p handlers = of_each_statement p has_handlers
+keeps_process_rule exceptions table processes p handlers_differ = of_each_statement p has_different_handlers
+keeps_process_rule exceptions table processes p handlers_known = of_each_statement p (handles_known exceptions)
+keeps_process_rule exceptions table processes p leaves_in_loops = of_each_statement p leaves_loop
+keeps_process_rule exceptions table processes p typed = every (λ (n : Node). is_typed_form table p.variables exceptions processes n.form) (process_nodes p)
+keeps_process_rule exceptions table processes p reached = every (is_marked table p) (range 0 (length (process_nodes p)))
+
+-- the rules that are broken
+abbrev pub broken_process_rules : (exceptions : ℕ) → TypeTable → List Process → Process → List ProcessRule
+broken_process_rules exceptions table processes p = filter (λ rule. not (keeps_process_rule exceptions table processes p rule)) process_rules
+
+abbrev pub is_none : {X : Type 0} → List X → Bool
+is_none [] = true
+is_none (x ∷ xs) = false
+
+-- whether a program is typed, and whether that can be judged so
+abbrev pub is_typed_program : (exceptions : ℕ) → (defined : TypeTable) → List Process → (main : ℕ) → Bool
+is_typed_program exceptions defined processes main =
+    is_none (broken_table_rules exceptions defined) && (every (λ p. is_none (broken_process_rules exceptions (predefined ++ defined) processes p)) processes && is_number (port_type processes main) main_start)
+
+abbrev pub is_judged : (defined : TypeTable) → List Process → Bool
+is_judged defined processes = every (are_settled (predefined ++ defined)) processes

@@ -1,0 +1,5 @@
+pub mod UntypedTexts
+pub mod ChangesThrough
+pub mod LabelsExist
+pub mod OrderedFacts
+pub mod FormFacts
