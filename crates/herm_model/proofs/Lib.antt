@@ -35,3 +35,7 @@ pub mod Deciding
 pub mod DecidedTables
 pub mod DecidedForms
 pub mod DecidedPrograms
+pub mod TypedPaths
+pub mod TypedFacts
+pub mod TypedCalls
+pub mod TypedRows
