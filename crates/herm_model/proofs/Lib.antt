@@ -39,3 +39,4 @@ pub mod TypedPaths
 pub mod TypedFacts
 pub mod TypedCalls
 pub mod TypedRows
+pub mod ExcessOrder

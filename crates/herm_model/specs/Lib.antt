@@ -32,3 +32,4 @@ pub mod TableTests
 pub mod TypingTests
 pub mod TypedExamples
 pub mod TypedLaws
+pub mod ExcessLaws
