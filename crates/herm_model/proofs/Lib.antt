@@ -40,3 +40,6 @@ pub mod TypedFacts
 pub mod TypedCalls
 pub mod TypedRows
 pub mod ExcessOrder
+pub mod BoundedPaths
+pub mod ThereFacts
+pub mod InRange

@@ -89,7 +89,7 @@ module _ (exceptions : ℕ) (table : TypeTable) (well : IsWellFormedTable except
   set-each : (ps : List Path) → Each IsSet ps → Are (full_of_each table variables ps)
   set-each ps h = whole-each ps (λ p i. ((h p i).0, ((h p i).1.0).0))
 
-  known-case : (v : Path) (t c u : ℕ) → IsLookedAt table variables v t → IsComponent table t c u → IsFactOf table variables (case v c)
+  pub known-case : (v : Path) (t c u : ℕ) → IsLookedAt table variables v t → IsComponent table t c u → IsFactOf table variables (case v c)
   known-case v t c u l h = subst (λ o. c < with_some 0 (λ t. with_some 0 component_count (slice_get table t)) o) (sym l.0) (subst (λ o. c < with_some 0 component_count o) (sym h.1) (below (h.0) c h.2))
     where
       below : (ts : List ℕ) (c : ℕ) → slice_get ts c ≡ Some u → c < length ts
@@ -114,7 +114,7 @@ module _ (exceptions : ℕ) (table : TypeTable) (well : IsWellFormedTable except
   sent x o message h target = subst (λ p. Are (list_of (λ t. declared_facts table t x) p)) (sym (inport-is table variables o message h)) (declared-at h.1 message h.2 x h.5 target)
 
   -- the paths that a typed expression reads, and those among typed atoms
-  read-typed : (e : Expression) (t : ℕ) → IsTyped table variables e t → (p : Path) → IsIn p (paths_read e) → (u : ℕ) × (type_at table variables p ≡ Some u)
+  pub read-typed : (e : Expression) (t : ℕ) → IsTyped table variables e t → (p : Path) → IsIn p (paths_read e) → (u : ℕ) × (type_at table variables p ≡ Some u)
   read-typed (literal l) t h p i = absurd i
   read-typed (copy q) t h p (inl e) = (t, ap (type_at table variables) e ∙ (h.0).0)
   read-typed (copy q) t h p (inr i) = absurd i
@@ -130,7 +130,7 @@ module _ (exceptions : ℕ) (table : TypeTable) (well : IsWellFormedTable except
   read-typed (decimal e) t h p i = read-typed e h.1 h.3 p i
   read-typed (length_of e) t h p i = read-typed e h.1 h.3 p i
 
-  keys-typed : (ts key : List ℕ) (atoms : List Atom) → AreKeysOf table variables ts key atoms → (p : Path) → IsIn p (paths_among atoms) → (u : ℕ) × (type_at table variables p ≡ Some u)
+  pub keys-typed : (ts key : List ℕ) (atoms : List Atom) → AreKeysOf table variables ts key atoms → (p : Path) → IsIn p (paths_among atoms) → (u : ℕ) × (type_at table variables p ≡ Some u)
   keys-typed ts [] [] h p i = absurd i
   keys-typed ts [] (a ∷ atoms) h p i = absurd h
   keys-typed ts (k ∷ key) [] h p i = absurd i

@@ -33,3 +33,4 @@ pub mod TypingTests
 pub mod TypedExamples
 pub mod TypedLaws
 pub mod ExcessLaws
+pub mod TypedFactLaws
