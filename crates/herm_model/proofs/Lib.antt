@@ -43,3 +43,4 @@ pub mod ExcessOrder
 pub mod BoundedPaths
 pub mod ThereFacts
 pub mod InRange
+pub mod JudgedExamples

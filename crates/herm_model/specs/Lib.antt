@@ -34,3 +34,9 @@ pub mod TypedExamples
 pub mod TypedLaws
 pub mod ExcessLaws
 pub mod TypedFactLaws
+pub mod StatementTypes
+pub mod TypedStatementExamples
+pub mod UntypedStatementExamples
+pub mod BodyExamples
+pub mod TableRuleExamples
+pub mod TypedExampleLaws

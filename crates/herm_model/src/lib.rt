@@ -7,5 +7,6 @@ pub mod flows;
 pub mod table;
 pub mod texts;
 pub mod types;
+pub mod typed_examples;
 pub mod typed_programs;
 pub mod values;
