@@ -1,12 +1,10 @@
 -- Paths of typed processes are bounded.
-use Rattle.std.proofs.Common.{◌≡◌, ℕ, zero, suc, ◌+◌, ◌<◌, ◌≤◌, List, [], ◌∷◌, ◌++◌, map, flat_map, length, length-append, Bool, true, false, Option, Some, None, is_some, option_map, slice_get, IsTrue, refl, sym, ap, subst, ◌∙◌, arith, inl, inr}
-use Rattle.herm_model.specs.Lists.{IsIn, every, with_some, list_of, numbered}
+use Rattle.std.proofs.Common.{◌≡◌, ℕ, zero, suc, ◌<◌, ◌≤◌, List, [], ◌∷◌, ◌++◌, map, flat_map, length, length-append, false, Option, Some, None, is_some, slice_get, IsTrue, refl, subst, arith}
+use Rattle.herm_model.specs.Lists.{IsIn, every, with_some, numbered}
 use Rattle.herm_model.specs.Paths.{Path}
 use Rattle.herm_model.specs.Types.{Mode, by_in, by_inout, by_out, Parameter, Shape, fields, cases, callmessage, TypeTable, named_types, part_type, part_of, type_below, type_at, is_within_depth, greatest_depth, filled, if_filled, full_parts, held_parts, all_parts, steps_within, steps, variable_paths}
-use Rattle.herm_model.specs.Statements.{Process}
 use Rattle.herm_model.specs.WellFormedTables.{IsType, IsWellFormedTable}
-use Rattle.herm_model.specs.TypedPrograms.{IsTypedProcess}
-use Rattle.herm_model.specs.TypedFactLaws.{PathsAreBounded, TypedPathsAreBounded}
+use Rattle.herm_model.specs.TypedFactLaws.{TypedPathsAreBounded}
 use Rattle.herm_model.proofs.Lists.{not_true, in-map, every-in, length-map}
 use Rattle.herm_model.proofs.Options.{none-not_some, map-some}
 use Rattle.herm_model.proofs.FactTests.{got-IsIn}

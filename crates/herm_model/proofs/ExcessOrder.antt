@@ -1,20 +1,19 @@
 -- The excess of a set of facts apart from types is the list that goes down by the types.
-use Rattle.std.proofs.Common.{◌≡◌, ◌↔◌, ℕ, zero, suc, ◌+◌, ◌<◌, ◌≤◌, List, [], ◌∷◌, ◌++◌, map, flat_map, Bool, true, false, cond, not, ◌&&◌, ◌||◌, ◌⊎◌, inl, inr, nat_eq, nat_lt, Option, Some, None, is_some, option_map, slice_get, IsTrue, IsFalse, refl, sym, ap, ap₂, subst, ◌∙◌, arith, append_assoc, append-nil, true≢false}
+use Rattle.std.proofs.Common.{◌≡◌, ◌↔◌, ℕ, zero, suc, ◌<◌, ◌≤◌, List, [], ◌∷◌, ◌++◌, map, flat_map, Bool, true, false, cond, ◌&&◌, ◌||◌, ◌⊎◌, inl, inr, nat_eq, nat_lt, Option, Some, None, is_some, option_map, slice_get, IsTrue, IsFalse, refl, sym, ap, ap₂, subst, ◌∙◌, arith, append_assoc, append-nil, true≢false}
 use Rattle.std.proofs.lemmas.Bool.{eq-eqb, eqb-true, lt-ltb, ltb-true}
 use Rattle.std.proofs.Math.Path.{fun_ext}
 use Rattle.herm_model.specs.Lists.{IsIn, every, with_some, list_of, numbered}
 use Rattle.herm_model.specs.Paths.{Path, Fact, init}
-use Rattle.herm_model.specs.Types.{Parameter, Shape, fields, cases, callmessage, TypeTable, named_types, part_type, part_of, is_cases, is_variant, type_below, enters_component, is_within_depth, greatest_depth, held_parts, Leads}
+use Rattle.herm_model.specs.Types.{Parameter, Shape, fields, cases, callmessage, TypeTable, named_types, part_type, is_cases, type_below, enters_component, is_within_depth, greatest_depth, held_parts, Leads}
 use Rattle.herm_model.specs.Facts.{IsFactOf}
-use Rattle.herm_model.specs.Values.{Name, Parts, has_value, HasExactly}
+use Rattle.herm_model.specs.Values.{has_value}
 use Rattle.herm_model.specs.Finalising.{excess_from, excess_at, excess}
 use Rattle.herm_model.specs.ExcessLaws.{comes_before, AreInOrder, is_beyond, IsExcess, FactsHaveTheirExcess, ValuesHaveTheirExcess}
-use Rattle.herm_model.proofs.Lists.{not_true, or-either, or-left, or-right, and-both, both-and, in-append_cases, in-flat_map, in-flat_map_from, cons-not_nil, cons-head, cons-tail, numbered-in, every-in, slice_get-map}
-use Rattle.herm_model.proofs.Options.{none-not_some, some-injective}
+use Rattle.herm_model.proofs.Lists.{not_true, or-either, or-left, or-right, and-both, both-and, in-append_cases, in-flat_map, in-flat_map_from, cons-head, cons-tail, numbered-in, every-in, slice_get-map}
 use Rattle.herm_model.proofs.FactTests.{at-numbered, got-IsIn}
 use Rattle.herm_model.proofs.Steps.{within-known}
-use Rattle.herm_model.proofs.Excess.{Top, excess-top, top-excess}
-use Rattle.herm_model.proofs.TypedPaths.{or-falses, typed-before}
+use Rattle.herm_model.proofs.Excess.{excess-top, top-excess}
+use Rattle.herm_model.proofs.TypedPaths.{typed-before}
 
 -- the order of paths
 before-irreflexive : (p : Path) → IsTrue (comes_before p p) → ⊥

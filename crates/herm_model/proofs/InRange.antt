@@ -1,14 +1,14 @@
 -- What a typed form names by numbers is in range.
-use Rattle.std.proofs.Common.{◌≡◌, ℕ, zero, suc, ◌<◌, List, [], ◌∷◌, ◌++◌, map, length, ◌⊎◌, inl, inr, Option, Some, None, is_some, slice_get, option_and_then, IsTrue, refl, sym, ap, subst, ◌∙◌, arith}
+use Rattle.std.proofs.Common.{◌≡◌, ℕ, zero, suc, ◌<◌, List, [], ◌∷◌, map, length, ◌⊎◌, inl, inr, Some, slice_get, option_and_then, refl, sym, ap, subst, ◌∙◌, arith}
 use Rattle.herm_model.specs.Lists.{IsIn, with_some}
-use Rattle.herm_model.specs.Paths.{Path, Fact, init, case}
-use Rattle.herm_model.specs.Types.{Mode, by_in, by_inout, by_out, Parameter, Raised, Shape, callmessage, TypeTable, type_at}
+use Rattle.herm_model.specs.Paths.{Path, Fact, case}
+use Rattle.herm_model.specs.Types.{Mode, by_in, by_inout, by_out, Parameter, Raised, callmessage, TypeTable, type_at}
 use Rattle.herm_model.specs.Facts.{component_count, IsFactOf}
 use Rattle.herm_model.specs.Expressions.{Literal, Expression, literal, copy, negated, inverted, operation, size_of, decimal, length_of, Atom, path, paths_read, paths_among}
 use Rattle.herm_model.specs.Statements.{Form, Assign, Move, New, Discard, Unite, Dissolve, Reveal, Case, Wrap, Unwrap, Insert, Remove, Get, For, Connect, Send, Receive, Select, Call, Return, ReturnBy, Create, If, While, Raise, Leave, Arm, Process}
-use Rattle.herm_model.specs.TypedExpressions.{HasShape, IsLiteralOf, IsTyped}
+use Rattle.herm_model.specs.TypedExpressions.{IsLiteralOf, IsTyped}
 use Rattle.herm_model.specs.WellFormedTables.{IsType, IsWellFormedTable}
-use Rattle.herm_model.specs.TypedStatements.{port_type, IsComponent, IsLookedAt, IsTarget, IsArgument, AreArguments, AreKeysOf, IsFound, IsReceived, IsReturned, IsTypedForm}
+use Rattle.herm_model.specs.TypedStatements.{port_type, IsComponent, IsLookedAt, IsArgument, AreArguments, AreKeysOf, IsFound, IsReceived, IsTypedForm}
 use Rattle.herm_model.specs.TypedFactLaws.{literals_in, literals_among, arm_paths, Named, named, IsInRange, TypedFormsAreInRange}
 use Rattle.herm_model.proofs.Lists.{in-append_cases, in-map_from}
 use Rattle.herm_model.proofs.Options.{none-not_some}

@@ -1,11 +1,10 @@
 -- The examples are judged by the tests.
-use Rattle.std.proofs.Common.{◌≡◌, ◌↔◌, ℕ, List, [], ◌∷◌, ◌++◌, map, Bool, true, false, ◌&&◌, IsTrue, inl, inr, refl, sym, ap, subst, ◌∙◌}
+use Rattle.std.proofs.Common.{◌≡◌, ◌↔◌, List, [], ◌∷◌, map, IsTrue, inl, inr, refl, sym, subst, ◌∙◌}
 use Rattle.herm_model.specs.Lists.{IsIn, every}
-use Rattle.herm_model.specs.Types.{predefined}
-use Rattle.herm_model.specs.Statements.{Statement, Process}
+use Rattle.herm_model.specs.Statements.{Statement}
 use Rattle.herm_model.specs.WellFormedTables.{IsWellFormedTable}
-use Rattle.herm_model.specs.TableTests.{TableRule, broken_table_rules}
-use Rattle.herm_model.specs.TypingTests.{ProcessRule, typed, broken_process_rules, are_settled}
+use Rattle.herm_model.specs.TableTests.{broken_table_rules}
+use Rattle.herm_model.specs.TypingTests.{ProcessRule, typed, are_settled}
 use Rattle.herm_model.specs.StatementTypes.{statement_types, helper, main_of}
 use Rattle.herm_model.specs.TableRuleExamples.{TableExample}
 use Rattle.herm_model.specs.TypedExampleLaws.{example_exceptions, example_table, broken_by, IsTypedBody, AreTyped, BreakTheirFormAlone, BreakTheseRules, BreakTheseTableRules}

@@ -1,23 +1,19 @@
 -- The facts of typed statements, of messages and of control paths are facts that there are; calls and what they declare.
-use Rattle.std.proofs.Common.{◌≡◌, ℕ, zero, suc, ◌<◌, List, [], ◌∷◌, ◌++◌, map, Bool, true, false, cond, ◌⊎◌, inl, inr, nat_eq, Option, Some, None, is_some, slice_get, option_and_then, IsTrue, IsFalse, refl, sym, ap, subst, ◌∙◌, arith, true≢false}
+use Rattle.std.proofs.Common.{◌≡◌, ℕ, List, [], ◌∷◌, map, Bool, true, false, cond, ◌⊎◌, inl, inr, nat_eq, Option, Some, None, is_some, option_and_then, refl, sym, ap, subst, ◌∙◌, true≢false}
 use Rattle.std.proofs.lemmas.Bool.{eqb-true}
 use Rattle.herm_model.specs.Lists.{IsIn, some_of, with_some, list_of}
 use Rattle.herm_model.specs.Paths.{Path, Fact, init, case, path_of, same_fact, is_at_or_below}
-use Rattle.herm_model.specs.Types.{Parameter, Raised, Shape, inport, callmessage, TypeTable, type_at, passes_component}
-use Rattle.herm_model.specs.Facts.{full_facts, said_at, message_facts, message_of, declared_facts, IsFactOf}
-use Rattle.herm_model.specs.Expressions.{Atom}
-use Rattle.herm_model.specs.Statements.{Form, Call, Process, Differ}
-use Rattle.herm_model.specs.Outcomes.{Outcome, disconnected, outcomes}
-use Rattle.herm_model.specs.Nodes.{Target, node, Node, Exit, exits, process_nodes}
+use Rattle.herm_model.specs.Types.{Raised, inport, callmessage, TypeTable}
+use Rattle.herm_model.specs.Facts.{said_at, message_facts, message_of, IsFactOf}
+use Rattle.herm_model.specs.Statements.{Process, Differ}
+use Rattle.herm_model.specs.Outcomes.{disconnected, outcomes}
+use Rattle.herm_model.specs.Nodes.{Target, Node, Exit, exits, process_nodes}
 use Rattle.herm_model.specs.Calls.{call_raises, kept_for}
-use Rattle.herm_model.specs.StatementTable.{row, needs, makes, kills}
-use Rattle.herm_model.specs.Control.{Edge, edge, Point, point, Flow, flow_of, Hop, held_behind, held_at_start, walk, edge_from, Leads}
-use Rattle.herm_model.specs.TypedExpressions.{HasShape}
+use Rattle.herm_model.specs.Control.{Edge, edge, Point, point, flow_of, Hop, held_behind, held_at_start, walk, edge_from, Leads}
 use Rattle.herm_model.specs.WellFormedTables.{IsFieldPath, IsOfField, IsOfFullField, field_type, field_below, IsWellFormedTable}
-use Rattle.herm_model.specs.TypedStatements.{IsTarget, IsTypedForm}
 use Rattle.herm_model.specs.TypedPrograms.{IsTypedProcess}
-use Rattle.herm_model.specs.TypedFactLaws.{FullFactsAreThere, DeclaredFactsAreThere, ListedFactsAreThere, HasItsFacts, TypedFormsHaveTheirFacts, HeldFactsAreThere, CallsDeclare, TypedCallsDeclare, CallmessagesTravelFull}
-use Rattle.herm_model.proofs.Lists.{not_true, in-map, in-map_from}
+use Rattle.herm_model.specs.TypedFactLaws.{FullFactsAreThere, DeclaredFactsAreThere, ListedFactsAreThere, TypedFormsHaveTheirFacts, HeldFactsAreThere, TypedCallsDeclare, CallmessagesTravelFull}
+use Rattle.herm_model.proofs.Lists.{in-map, in-map_from}
 use Rattle.herm_model.proofs.Options.{none-not_some}
 use Rattle.herm_model.proofs.Equality.{same_fact-is}
 use Rattle.herm_model.proofs.FactTests.{listed-IsIn, got-IsIn}
@@ -26,7 +22,7 @@ use Rattle.herm_model.proofs.Reached.{standing_at}
 use Rattle.herm_model.proofs.NodeExits.{exits-outcomes}
 use Rattle.herm_model.proofs.TypedFacts.{full-facts, all-closed, said-fact, declared-facts, message-facts}
 use Rattle.herm_model.proofs.TypedCalls.{raises-are}
-use Rattle.herm_model.proofs.TypedRows.{RowIsThere, row-there, call-kept}
+use Rattle.herm_model.proofs.TypedRows.{row-there, call-kept}
 
 pub full-there : FullFactsAreThere
 full-there table variables p t e n f i = full-facts table variables p t e n f i

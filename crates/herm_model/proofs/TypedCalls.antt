@@ -1,18 +1,14 @@
 -- What typed calls and returns say of their arguments and parameters.
-use Rattle.std.proofs.Common.{◌≡◌, ℕ, zero, suc, ◌+◌, List, [], ◌∷◌, ◌++◌, map, flat_map, Bool, true, false, cond, ◌⊎◌, inl, inr, nat_eq, Option, Some, None, is_some, option_map, slice_get, option_and_then, IsTrue, IsFalse, refl, sym, ap, subst, ◌∙◌, arith, true≢false}
-use Rattle.std.proofs.lemmas.Bool.{eq-eqb, eqb-true}
+use Rattle.std.proofs.Common.{◌≡◌, ℕ, zero, suc, ◌+◌, List, [], ◌∷◌, ◌++◌, Bool, true, false, cond, inl, inr, nat_eq, Some, None, option_map, slice_get, option_and_then, IsTrue, IsFalse, refl, sym, ap, subst, ◌∙◌, arith}
 use Rattle.herm_model.specs.Lists.{IsIn, with_some, list_of}
-use Rattle.herm_model.specs.Paths.{Path, Fact}
-use Rattle.herm_model.specs.Types.{Mode, by_in, by_inout, by_out, Parameter, Raised, Shape, inport, outport, callmessage, TypeTable, part_type, part_of, type_at, passes_component, is_variant, is_cases}
+use Rattle.herm_model.specs.Paths.{Path}
+use Rattle.herm_model.specs.Types.{Mode, by_in, by_inout, by_out, Parameter, Raised, Shape, outport, callmessage, TypeTable, part_type, part_of, type_at, passes_component, is_variant, is_cases}
 use Rattle.herm_model.specs.Expressions.{Atom, literal, path}
 use Rattle.herm_model.specs.Calls.{shape_at, led_to, message_type, parameters_of, raises_of, inport_at, message_shape, call_parameters, call_raises, kept_for, is_given, is_returned, returned_places, arguments_by, argument_path}
-use Rattle.herm_model.specs.StatementTable.{parameters_at, returned, returned_by, given, set_by_call, kept_by_call}
 use Rattle.herm_model.specs.TypedExpressions.{HasShape}
-use Rattle.herm_model.specs.WellFormedTables.{KeepsReturned}
-use Rattle.herm_model.specs.TypedStatements.{IsTarget, IsSource, IsLookedAt, IsTypedAtom, IsArgument, AreArguments, GoesTo}
-use Rattle.herm_model.proofs.Lists.{not_true, in-map_from, in-flat_map_from}
+use Rattle.herm_model.specs.TypedStatements.{IsTarget, IsSource, IsArgument, AreArguments, GoesTo}
 use Rattle.herm_model.proofs.Options.{none-not_some}
-use Rattle.herm_model.proofs.TypedPaths.{some-of, at-append, passes-append, falses-or}
+use Rattle.herm_model.proofs.TypedPaths.{at-append, passes-append, falses-or}
 
 -- the shape of the type at a path
 pub shape-is : (table : TypeTable) (variables : List ℕ) (p : Path) (t : ℕ) (s : Shape) → type_at table variables p ≡ Some t → HasShape table t s → shape_at table variables p ≡ Some s

@@ -1,18 +1,16 @@
 -- Facts of full values and of messages are facts that there are.
-use Rattle.std.proofs.Common.{◌≡◌, ℕ, zero, suc, ◌<◌, List, [], ◌∷◌, ◌++◌, map, flat_map, length, Bool, true, false, cond, ◌||◌, ◌⊎◌, inl, inr, Option, Some, None, is_some, slice_get, option_and_then, IsTrue, IsFalse, refl, sym, ap, subst, ◌∙◌, arith, true≢false}
-use Rattle.std.proofs.Math.Bool.{or-false}
+use Rattle.std.proofs.Common.{◌≡◌, ℕ, zero, suc, ◌<◌, List, [], ◌∷◌, ◌++◌, flat_map, Bool, true, false, cond, ◌⊎◌, inl, inr, Option, Some, None, is_some, slice_get, option_and_then, IsTrue, IsFalse, refl, sym, ap, subst, ◌∙◌, arith}
 use Rattle.herm_model.specs.Lists.{IsIn, with_some, list_of}
 use Rattle.herm_model.specs.Paths.{Path, Fact, init, case}
-use Rattle.herm_model.specs.Types.{Shape, boolean, integer, text, polymorph, names, fields, cases, rows, inport, outport, callmessage, TypeTable, part_type, part_of, type_below, type_at, is_cases, is_variant, enters_component, passes_component, full_parts, steps, greatest_depth, Leads}
-use Rattle.herm_model.specs.Facts.{with_prefixes, without_repeats, full_facts, said_at, message_facts, message_of, declared_facts, component_count, IsFactOf}
+use Rattle.herm_model.specs.Types.{Shape, fields, inport, TypeTable, part_type, part_of, type_below, type_at, is_cases, is_variant, enters_component, passes_component, full_parts, steps, greatest_depth}
+use Rattle.herm_model.specs.Facts.{with_prefixes, full_facts, said_at, message_facts, component_count, IsFactOf}
 use Rattle.herm_model.specs.StatementTable.{present, full, room_for, closed}
-use Rattle.herm_model.specs.TypedExpressions.{HasShape}
 use Rattle.herm_model.specs.WellFormedTables.{field_type, field_below, IsFieldPath, IsOfField, IsOfFullField, DeclaresFields}
 use Rattle.herm_model.proofs.Lists.{not_true, in-append_cases, in-map_from, in-flat_map_from}
-use Rattle.herm_model.proofs.Options.{some-injective, none-not_some}
+use Rattle.herm_model.proofs.Options.{none-not_some}
 use Rattle.herm_model.proofs.Steps.{steps-lead}
 use Rattle.herm_model.proofs.ClosedFacts.{once-IsIn}
-use Rattle.herm_model.proofs.TypedPaths.{falses-or, some-of, is-some, below-append, enters-append, typed-before, leads-typed, at-append, passes-append, to-facts, parent-facts, with-facts}
+use Rattle.herm_model.proofs.TypedPaths.{falses-or, is-some, typed-before, leads-typed, at-append, passes-append, to-facts, parent-facts, with-facts}
 
 -- every fact of a list is one that there is
 abbrev pub AllAre : TypeTable → List ℕ → List Fact → Type 0
@@ -38,9 +36,10 @@ module _ (table : TypeTable) where
       at_shape n None s e again = none-field q e
       at_shape n (Some (fields ts)) s e again =
           let r = again (slice_get ts i) e in
-          let part : part_of table (Some n) i ≡ slice_get ts i = ap (with_some None (λ s. part_type s i)) s in
-          (ap (λ o. type_below table o q) part ∙ r.0,
-          falses-or (is_variant table (Some n)) _ (ap (with_some false (λ s. is_cases s)) s) (ap (λ o. enters_component table o q) part ∙ r.1))
+          let part : part_of table (Some n) i ≡ slice_get ts i = ap (with_some None (λ s. part_type s i)) s in (
+            ap (λ o. type_below table o q) part ∙ r.0,
+            falses-or (is_variant table (Some n)) _ (ap (with_some false (λ s. is_cases s)) s) (ap (λ o. enters_component table o q) part ∙ r.1),
+          )
       at_shape n (Some s') s e again = none-field q e
 
       by : (o : Option ℕ) → field_below table o (i ∷ q) ≡ Some u → Again → Goal o

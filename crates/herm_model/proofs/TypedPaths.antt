@@ -1,12 +1,12 @@
 -- Paths that have types: longer and shorter ones, and the facts to them.
-use Rattle.std.proofs.Common.{◌≡◌, ℕ, zero, suc, ◌<◌, List, [], ◌∷◌, ◌++◌, map, length, Bool, true, false, cond, ◌||◌, ◌⊎◌, inl, inr, Option, Some, None, is_some, option_map, slice_get, IsTrue, IsFalse, refl, sym, ap, subst, subst₂, ◌∙◌, arith, append_assoc, true≢false}
+use Rattle.std.proofs.Common.{◌≡◌, ℕ, zero, suc, ◌<◌, List, [], ◌∷◌, ◌++◌, length, Bool, true, false, cond, ◌||◌, ◌⊎◌, inl, inr, Option, Some, None, is_some, slice_get, IsTrue, IsFalse, refl, sym, ap, subst, subst₂, ◌∙◌, arith, true≢false}
 use Rattle.std.proofs.Math.Bool.{or-false, or_assoc}
 use Rattle.herm_model.specs.Lists.{IsIn, with_some, list_of}
 use Rattle.herm_model.specs.Paths.{Path, Fact, init, case, parent}
-use Rattle.herm_model.specs.Types.{Shape, fields, cases, callmessage, TypeTable, part_type, part_of, type_below, type_at, is_cases, is_variant, enters_component, passes_component, full_parts, held_parts, Leads}
+use Rattle.herm_model.specs.Types.{Shape, fields, cases, callmessage, TypeTable, part_type, part_of, type_below, type_at, is_cases, is_variant, enters_component, passes_component, full_parts, Leads}
 use Rattle.herm_model.specs.Facts.{facts_from, facts_to, prefixes, with_prefixes, component_count, IsFactOf}
 use Rattle.herm_model.proofs.Lists.{not_true, in-append_cases}
-use Rattle.herm_model.proofs.Options.{some-injective, none-not_some}
+use Rattle.herm_model.proofs.Options.{none-not_some}
 use Rattle.herm_model.proofs.Prefixes.{full-part}
 
 -- the parts of a false choice
@@ -64,9 +64,10 @@ module _ (table : TypeTable) where
   leads-typed [] t l = (refl, refl)
   leads-typed (i ∷ q) t l =
       let again = leads-typed q l.0 l.2 in
-      let part : part_of table (Some t) i ≡ Some l.0 = full-part (slice_get table t) i l.0 l.1 in
-      (subst (λ o. IsTrue (is_some (type_below table o q))) (sym part) again.0,
-      falses-or (is_variant table (Some t)) _ (no_variant (slice_get table t) l.0 l.1) (subst (λ o. IsFalse (enters_component table o q)) (sym part) again.1))
+      let part : part_of table (Some t) i ≡ Some l.0 = full-part (slice_get table t) i l.0 l.1 in (
+        subst (λ o. IsTrue (is_some (type_below table o q))) (sym part) again.0,
+        falses-or (is_variant table (Some t)) _ (no_variant (slice_get table t) l.0 l.1) (subst (λ o. IsFalse (enters_component table o q)) (sym part) again.1),
+      )
     where
       no_variant : (o : Option Shape) (u : ℕ) → IsIn (i, u) (list_of full_parts o) → IsFalse (with_some false (λ s. is_cases s) o)
       no_variant (Some (fields ts)) u h = refl

@@ -1,22 +1,21 @@
 -- What a typed form needs, makes and takes away are facts and paths that there are.
-use Rattle.std.proofs.Common.{◌≡◌, ◌↔◌, ℕ, zero, suc, ◌+◌, ◌<◌, List, [], ◌∷◌, ◌++◌, map, flat_map, length, Bool, true, false, cond, ◌⊎◌, inl, inr, nat_eq, Option, Some, None, is_some, option_map, slice_get, option_and_then, IsTrue, IsFalse, refl, sym, ap, subst, ◌∙◌, arith}
+use Rattle.std.proofs.Common.{◌≡◌, ℕ, zero, suc, ◌<◌, List, [], ◌∷◌, ◌++◌, map, flat_map, length, ◌⊎◌, inl, inr, Option, Some, None, slice_get, refl, sym, ap, subst, ◌∙◌, arith}
 use Rattle.herm_model.specs.Lists.{IsIn, with_some, list_of}
 use Rattle.herm_model.specs.Paths.{Path, Fact, init, case}
-use Rattle.herm_model.specs.Types.{Parameter, Raised, Shape, cases, rows, inport, outport, callmessage, TypeTable, type_at, passes_component}
+use Rattle.herm_model.specs.Types.{Raised, inport, callmessage, TypeTable, type_at}
 use Rattle.herm_model.specs.Facts.{said_at, message_facts, message_of, declared_facts, component_count, IsFactOf}
 use Rattle.herm_model.specs.Expressions.{Expression, literal, copy, negated, inverted, operation, size_of, decimal, length_of, Atom, path, paths_read, paths_among}
 use Rattle.herm_model.specs.Statements.{Form, Assign, Move, New, Discard, Unite, Dissolve, Reveal, Case, Wrap, Unwrap, Insert, Remove, Get, For, Connect, Send, Receive, Select, Call, Return, ReturnBy, Create, If, While, Raise, Leave, Arm, Process}
-use Rattle.herm_model.specs.Outcomes.{Outcome, ok, is_true, is_false, turn, done, component, arm, raised, outcomes}
-use Rattle.herm_model.specs.Calls.{shape_at, parameters_of, raises_of, inport_at, call_parameters, call_raises, kept_for, is_given, is_returned, returned_places, arguments_by, argument_path}
-use Rattle.herm_model.specs.StatementTable.{Row, at_ok, at_turn, at_component, at_arm, at_exception, nothing, at_ok_or_exception, present, full, full_of_each, room_for, received_from, sent_to, parameters_at, returned, returned_by, given, set_by_call, kept_by_call, received_at, set_at, row, needs, makes, kills, closed}
-use Rattle.herm_model.specs.TypedExpressions.{HasShape, IsPathOf, IsTyped}
-use Rattle.herm_model.specs.WellFormedTables.{DeclaresFields, OfEachShape, KeepsReturned, IsWellFormedTable}
-use Rattle.herm_model.specs.TypedStatements.{IsComponent, IsLookedAt, IsTarget, IsSource, IsTypedAtom, AreArguments, AreKeysOf, IsTableOf, IsFound, GoesTo, ComesFrom, IsReceived, IsReturned, IsTypedForm}
+use Rattle.herm_model.specs.Outcomes.{Outcome, ok, turn, component, arm, raised, outcomes}
+use Rattle.herm_model.specs.Calls.{shape_at, parameters_of, raises_of, call_raises, kept_for, is_given, is_returned, returned_places, arguments_by, argument_path}
+use Rattle.herm_model.specs.StatementTable.{at_ok, at_turn, at_component, at_arm, at_exception, at_ok_or_exception, present, full, full_of_each, room_for, received_from, sent_to, returned, returned_by, given, set_by_call, kept_by_call, received_at, set_at, row}
+use Rattle.herm_model.specs.TypedExpressions.{HasShape, IsTyped}
+use Rattle.herm_model.specs.WellFormedTables.{IsWellFormedTable}
+use Rattle.herm_model.specs.TypedStatements.{IsComponent, IsLookedAt, IsTarget, AreKeysOf, IsFound, GoesTo, IsReceived, IsReturned, IsTypedForm}
 use Rattle.herm_model.proofs.Lists.{in-append_cases, in-map_from, in-flat_map_from}
-use Rattle.herm_model.proofs.Options.{some-injective, none-not_some}
+use Rattle.herm_model.proofs.Options.{none-not_some}
 use Rattle.herm_model.proofs.FactTests.{got-IsIn}
-use Rattle.herm_model.proofs.TypedPaths.{is-some}
-use Rattle.herm_model.proofs.TypedFacts.{AllAre, all-append, all-none, all-one, all-flat, all-closed, path-fact, present-facts, room-facts, whole-facts, said-fact, message-facts}
+use Rattle.herm_model.proofs.TypedFacts.{AllAre, all-append, all-none, all-one, all-flat, path-fact, present-facts, room-facts, whole-facts, said-fact, message-facts}
 use Rattle.herm_model.proofs.TypedCalls.{shape-is, inport-is, parameters-are, raises-are, kept-declared, returned-there, parameter-path, given-typed, set-typed, kept-set}
 
 -- every element has it

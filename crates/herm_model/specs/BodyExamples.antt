@@ -1,10 +1,9 @@
 -- Bodies of the process main of the examples, each with the rules that it breaks.
-use Rattle.std.specs.Prelude.{ℕ, true, false, pos, List, [], ◌∷◌}
-use Rattle.herm_model.specs.Expressions.{Literal, Operator, either, both, equal, unequal, less, at_most, greater, at_least, plus, minus, times, divided, modulo, concatenated, Expression, literal, copy, negated, inverted, operation, size_of, decimal, length_of, Atom, path}
-use Rattle.herm_model.specs.Statements.{Form, Assign, Move, New, Discard, Unite, Dissolve, Reveal, Case, Wrap, Unwrap, Insert, Remove, Get, For, Connect, Send, Receive, Select, Call, Return, ReturnBy, Create, If, While, Raise, Leave, Arm, Statement, simple, choosing, repeating, leaving, trying, Block, no_statements, statement, Blocks, no_blocks, block, Handlers, no_handlers, handler, Process}
+use Rattle.std.specs.Prelude.{true, pos, List, [], ◌∷◌}
+use Rattle.herm_model.specs.Expressions.{Literal, plus, literal, copy, operation}
+use Rattle.herm_model.specs.Statements.{Assign, Case, Select, If, While, Raise, Statement, simple, choosing, repeating, leaving, trying, no_statements, no_blocks, block, no_handlers, handler}
 use Rattle.herm_model.specs.Examples.{in_order}
-use Rattle.herm_model.specs.StatementTypes.{an_arm}
-use Rattle.herm_model.specs.TypingTests.{ProcessRule, port, variables_known, few_paths, few_statements, blocks, arms, handlers, handlers_differ, handlers_known, leaves_in_loops, typed, reached}
+use Rattle.herm_model.specs.TypingTests.{ProcessRule, blocks, arms, handlers, handlers_differ, handlers_known, leaves_in_loops, typed, reached}
 
 abbrev pub body_examples : List (List Statement × List ProcessRule)
 body_examples =

@@ -1,7 +1,7 @@
 -- The types and variables of the examples of statements.
-use Rattle.std.specs.Prelude.{ℕ, List, [], ◌∷◌, ◌++◌}
+use Rattle.std.specs.Prelude.{ℕ, List, [], ◌∷◌}
 use Rattle.herm_model.specs.Paths.{Path, init}
-use Rattle.herm_model.specs.Types.{Mode, by_in, by_inout, by_out, Parameter, Raised, names, fields, cases, rows, inport, outport, callmessage, TypeTable, predefined}
+use Rattle.herm_model.specs.Types.{Mode, by_in, by_inout, by_out, Parameter, Raised, names, fields, cases, rows, inport, outport, callmessage, TypeTable}
 use Rattle.herm_model.specs.Statements.{Arm, Statement, Process}
 use Rattle.herm_model.specs.Examples.{in_order}
 

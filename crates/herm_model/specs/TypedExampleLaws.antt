@@ -2,10 +2,10 @@
 use Rattle.std.specs.Prelude.{ℕ, ◌↔◌, List, [], ◌∷◌, ◌++◌, ◌≡◌}
 use Rattle.herm_model.specs.Lists.{IsIn}
 use Rattle.herm_model.specs.Types.{TypeTable, predefined}
-use Rattle.herm_model.specs.Statements.{Statement, Process}
+use Rattle.herm_model.specs.Statements.{Statement}
 use Rattle.herm_model.specs.WellFormedTables.{IsWellFormedTable}
 use Rattle.herm_model.specs.TypedPrograms.{IsTypedProcess}
-use Rattle.herm_model.specs.TableTests.{TableRule, broken_table_rules}
+use Rattle.herm_model.specs.TableTests.{broken_table_rules}
 use Rattle.herm_model.specs.TypingTests.{ProcessRule, typed, broken_process_rules}
 use Rattle.herm_model.specs.StatementTypes.{statement_types, helper, main_of}
 use Rattle.herm_model.specs.TableRuleExamples.{TableExample}

@@ -1,9 +1,9 @@
 -- Programs that are typed. Each comment has the program as it is written.
 use Rattle.std.specs.Prelude.{ℕ, true, pos, List, [], ◌∷◌, ◌++◌, codes, replicate}
-use Rattle.herm_model.specs.Paths.{Path, init}
-use Rattle.herm_model.specs.Types.{TypeTable, predefined, names, fields, cases, rows, inport, outport, callmessage, by_in, by_inout, by_out}
-use Rattle.herm_model.specs.Expressions.{Expression, literal, copy, negated, inverted, operation, size_of, decimal, length_of, equal, less, at_most, plus, minus, concatenated, Literal, Atom, path}
-use Rattle.herm_model.specs.Statements.{Form, Assign, Move, New, Discard, Unite, Dissolve, Reveal, Case, Wrap, Unwrap, Insert, Remove, Get, For, Connect, Send, Receive, Select, Call, Return, ReturnBy, Create, If, While, Raise, Leave, Statement, simple, choosing, repeating, leaving, trying, Block, no_statements, statement, Blocks, no_blocks, block, Handlers, no_handlers, handler, Process}
+use Rattle.herm_model.specs.Paths.{Path}
+use Rattle.herm_model.specs.Types.{TypeTable, fields, cases, rows, inport, outport, callmessage, by_in, by_inout}
+use Rattle.herm_model.specs.Expressions.{Expression, literal, copy, operation, decimal, equal, less, at_most, plus, minus, concatenated, Literal}
+use Rattle.herm_model.specs.Statements.{Assign, Move, New, Discard, Unite, Case, Wrap, Unwrap, Insert, For, Connect, Send, Receive, Create, If, While, Statement, simple, choosing, repeating, leaving, trying, no_statements, no_blocks, block, no_handlers, handler, Process}
 use Rattle.herm_model.specs.Outcomes.{polymorph_mismatch, duplicate_key, disconnected}
 use Rattle.herm_model.specs.Examples.{in_order}
 

@@ -1,8 +1,8 @@
 -- What is proved of typed statements and processes: their types, facts, numbers and calls.
-use Rattle.std.specs.Prelude.{ℕ, ◌<◌, ◌≤◌, List, [], ◌∷◌, ◌++◌, map, length, true, Option, Some, is_some, slice_get, IsTrue, IsFalse, ◌≡◌}
+use Rattle.std.specs.Prelude.{ℕ, ◌<◌, ◌≤◌, List, [], ◌∷◌, ◌++◌, map, length, true, Some, IsTrue, IsFalse, ◌≡◌}
 use Rattle.herm_model.specs.Lists.{IsIn}
 use Rattle.herm_model.specs.Paths.{Path, Fact, init, case}
-use Rattle.herm_model.specs.Types.{Parameter, Raised, Shape, inport, callmessage, TypeTable, type_at, passes_component, is_within_depth, greatest_depth, full_parts, held_parts, variable_paths}
+use Rattle.herm_model.specs.Types.{Parameter, Raised, inport, callmessage, TypeTable, type_at, passes_component, is_within_depth, greatest_depth, full_parts, held_parts, variable_paths}
 use Rattle.herm_model.specs.Facts.{full_facts, declared_facts, IsFactOf}
 use Rattle.herm_model.specs.Expressions.{Literal, Expression, literal, copy, negated, inverted, operation, size_of, decimal, length_of, Atom, path, paths_read, paths_among}
 use Rattle.herm_model.specs.Statements.{Form, Assign, Move, New, Discard, Unite, Dissolve, Reveal, Case, Wrap, Unwrap, Insert, Remove, Get, For, Connect, Send, Receive, Select, Call, Return, ReturnBy, Create, If, While, Raise, Leave, Arm, Process, Differ}

@@ -1,8 +1,8 @@
 -- What is proved of well-formed tables and typed programs.
-use Rattle.std.specs.Prelude.{ℕ, ◌<◌, ◌≤◌, ◌↔◌, List, [], ◌∷◌, ◌++◌, length, Bool, Some, slice_get, IsTrue, ◌≡◌}
+use Rattle.std.specs.Prelude.{ℕ, ◌<◌, ◌≤◌, ◌↔◌, List, [], ◌++◌, length, Some, slice_get, IsTrue, ◌≡◌}
 use Rattle.herm_model.specs.Lists.{IsIn}
 use Rattle.herm_model.specs.Paths.{Fact}
-use Rattle.herm_model.specs.Types.{Shape, inport, TypeTable, predefined, is_within_depth, greatest_depth, all_parts, steps, variable_paths}
+use Rattle.herm_model.specs.Types.{inport, TypeTable, predefined, is_within_depth, greatest_depth, all_parts, steps, variable_paths}
 use Rattle.herm_model.specs.Statements.{Process, numbers_of_block, IsWellFormedBlock}
 use Rattle.herm_model.specs.Nodes.{node, Node, process_nodes}
 use Rattle.herm_model.specs.Control.{flow_of, IsReached}

@@ -1,7 +1,7 @@
 -- Statements that are typed, in the process main of the examples.
-use Rattle.std.specs.Prelude.{ℕ, true, false, pos, negsuc, List, [], ◌∷◌}
-use Rattle.herm_model.specs.Expressions.{Literal, Operator, either, both, equal, unequal, less, at_most, greater, at_least, plus, minus, times, divided, modulo, concatenated, Expression, literal, copy, negated, inverted, operation, size_of, decimal, length_of, Atom, path}
-use Rattle.herm_model.specs.Statements.{Form, Assign, Move, New, Discard, Unite, Dissolve, Reveal, Case, Wrap, Unwrap, Insert, Remove, Get, For, Connect, Send, Receive, Select, Call, Return, ReturnBy, Create, If, While, Raise, Leave, Arm, Statement, simple, choosing, repeating, leaving, trying, Block, no_statements, statement, Blocks, no_blocks, block, Handlers, no_handlers, handler, Process}
+use Rattle.std.specs.Prelude.{pos, List, [], ◌∷◌}
+use Rattle.herm_model.specs.Expressions.{Literal, either, both, equal, less, at_most, plus, concatenated, literal, copy, negated, inverted, operation, size_of, decimal, length_of, Atom, path}
+use Rattle.herm_model.specs.Statements.{Assign, Move, New, Discard, Unite, Dissolve, Reveal, Case, Wrap, Unwrap, Insert, Remove, Get, For, Connect, Send, Receive, Select, Call, Return, ReturnBy, Create, If, While, Raise, Statement, simple, choosing, repeating, leaving, no_statements, no_blocks, block}
 use Rattle.herm_model.specs.Examples.{in_order}
 use Rattle.herm_model.specs.StatementTypes.{an_arm}
 
@@ -121,7 +121,7 @@ typed_statements =
     ∷ simple (ReturnBy (9 ∷ []) 7)
     -- create g of helper;
     ∷ simple (Create (13 ∷ []) 0)
-    -- if b { } 
+    -- if b { }
     ∷ choosing (If (copy (4 ∷ []))) (block no_statements (block no_statements no_blocks))
     -- while n < 3 { leave; }
     ∷ repeating (While (operation less (copy (2 ∷ [])) (literal (Literal.integer (pos 3))))) (in_order (leaving ∷ []))

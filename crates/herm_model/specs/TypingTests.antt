@@ -1,9 +1,9 @@
 -- Tests of expressions, forms, bodies and processes, rule by rule. A law says that they decide which are typed.
-use Rattle.std.specs.Prelude.{ℕ, suc, List, [], ◌∷◌, ◌++◌, map, filter, length, Bool, true, false, not, cond, ◌&&◌, ◌||◌, nat_eq, nat_lt, nat_le, Option, Some, None, is_some, slice_get, option_and_then}
-use Rattle.herm_model.specs.Lists.{with_some, every, some_of, numbered, range, list_of}
-use Rattle.herm_model.specs.Paths.{Path, Fact, same_path, are_apart}
-use Rattle.herm_model.specs.Types.{Mode, by_in, by_inout, by_out, Parameter, Raised, Shape, boolean, integer, text, polymorph, names, inport, TypeTable, predefined, greatest_depth, all_parts, variable_paths, type_at, passes_component, is_copyable_within}
-use Rattle.herm_model.specs.Expressions.{Literal, Operator, Expression, literal, copy, negated, inverted, operation, size_of, decimal, length_of, Atom, path}
+use Rattle.std.specs.Prelude.{ℕ, List, [], ◌∷◌, ◌++◌, map, filter, length, Bool, true, false, not, cond, ◌&&◌, ◌||◌, nat_eq, nat_lt, nat_le, Option, Some, None, is_some, slice_get, option_and_then}
+use Rattle.herm_model.specs.Lists.{with_some, every, some_of, numbered, range}
+use Rattle.herm_model.specs.Paths.{Path, same_path, are_apart}
+use Rattle.herm_model.specs.Types.{Mode, by_in, by_inout, by_out, Parameter, Raised, Shape, boolean, integer, polymorph, names, TypeTable, predefined, greatest_depth, all_parts, variable_paths, type_at, passes_component, is_copyable_within}
+use Rattle.herm_model.specs.Expressions.{Literal, Expression, literal, copy, negated, inverted, operation, size_of, decimal, length_of, Atom, path}
 use Rattle.herm_model.specs.Typed.{is_integer, is_text}
 use Rattle.herm_model.specs.Statements.{Form, Assign, Move, New, Discard, Unite, Dissolve, Reveal, Case, Wrap, Unwrap, Insert, Remove, Get, For, Connect, Send, Receive, Select, Call, Return, ReturnBy, Create, If, While, Raise, Leave, Arm, Statement, simple, choosing, repeating, leaving, trying, Block, no_statements, statement, Blocks, no_blocks, block, Handlers, no_handlers, handler, Process, Branching, goes_on, repeats, leaves, chooses, branching_of, count_blocks, numbers_of_block}
 use Rattle.herm_model.specs.Nodes.{Target, node, end, end_by, Node, process_nodes, entry_of, Exit, exits}

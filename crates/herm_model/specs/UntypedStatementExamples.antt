@@ -1,8 +1,7 @@
 -- Statements that are not typed: each breaks one rule, in the process main of the examples.
-use Rattle.std.specs.Prelude.{ℕ, true, false, pos, negsuc, List, [], ◌∷◌}
-use Rattle.herm_model.specs.Expressions.{Literal, Operator, either, both, equal, unequal, less, at_most, greater, at_least, plus, minus, times, divided, modulo, concatenated, Expression, literal, copy, negated, inverted, operation, size_of, decimal, length_of, Atom, path}
-use Rattle.herm_model.specs.Statements.{Form, Assign, Move, New, Discard, Unite, Dissolve, Reveal, Case, Wrap, Unwrap, Insert, Remove, Get, For, Connect, Send, Receive, Select, Call, Return, ReturnBy, Create, If, While, Raise, Leave, Arm, Statement, simple, choosing, repeating, leaving, trying, Block, no_statements, statement, Blocks, no_blocks, block, Handlers, no_handlers, handler, Process}
-use Rattle.herm_model.specs.Examples.{in_order}
+use Rattle.std.specs.Prelude.{true, pos, List, [], ◌∷◌}
+use Rattle.herm_model.specs.Expressions.{Literal, both, equal, less, plus, concatenated, literal, copy, negated, inverted, operation, size_of, decimal, length_of, Atom, path}
+use Rattle.herm_model.specs.Statements.{Assign, Move, New, Discard, Unite, Dissolve, Reveal, Case, Wrap, Unwrap, Insert, Remove, Get, For, Connect, Send, Receive, Select, Call, Return, ReturnBy, Create, If, While, Raise, Statement, simple, choosing, repeating, no_statements, no_blocks, block}
 use Rattle.herm_model.specs.StatementTypes.{an_arm}
 
 abbrev pub untyped_statements : List Statement

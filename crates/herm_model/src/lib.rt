@@ -6,7 +6,7 @@ pub mod examples;
 pub mod flows;
 pub mod table;
 pub mod texts;
-pub mod types;
 pub mod typed_examples;
 pub mod typed_programs;
+pub mod types;
 pub mod values;
