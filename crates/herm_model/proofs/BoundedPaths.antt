@@ -4,7 +4,7 @@ use Rattle.herm_model.specs.Lists.{IsIn, every, with_some, numbered}
 use Rattle.herm_model.specs.Paths.{Path}
 use Rattle.herm_model.specs.Types.{Mode, by_in, by_inout, by_out, Parameter, Shape, fields, cases, callmessage, TypeTable, named_types, part_type, part_of, type_below, type_at, is_within_depth, greatest_depth, filled, if_filled, full_parts, held_parts, all_parts, steps_within, steps, variable_paths}
 use Rattle.herm_model.specs.WellFormedTables.{IsType, IsWellFormedTable}
-use Rattle.herm_model.specs.TypedFactLaws.{TypedPathsAreBounded}
+use Rattle.herm_model.specs.laws.TypedFactLaws.{TypedPathsAreBounded}
 use Rattle.herm_model.proofs.Lists.{not_true, in-map, every-in, length-map}
 use Rattle.herm_model.proofs.Options.{none-not_some, map-some}
 use Rattle.herm_model.proofs.FactTests.{got-IsIn}

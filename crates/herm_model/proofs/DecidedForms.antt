@@ -10,8 +10,8 @@ use Rattle.herm_model.specs.StatementTable.{set_by_call}
 use Rattle.herm_model.specs.TypedExpressions.{takes, shape_given, passes_out, HasShape, IsLiteralOf, IsPathOf, IsTyped}
 use Rattle.herm_model.specs.WellFormedTables.{is_definable, BeginsPredefined, IsWellFormedTable}
 use Rattle.herm_model.specs.TypedStatements.{can_be_new, AreApart, port_type, IsComponent, IsLookedAt, IsTarget, IsTypedAtom, IsArgument, AreArguments, AreKeysOf, IsTableOf, IsFound, GoesTo, ComesFrom, IsReceived, IsReturned, IsTypedForm}
-use Rattle.herm_model.specs.TableTests.{are_different, on_fields, on_cases, on_rows, on_inport, on_outport, on_callmessage}
-use Rattle.herm_model.specs.TypingTests.{number_of_shape, given_if, is_number, on_names, is_polymorph, are_all_apart, literal_type, seen_type, own_type, copied_type, is_table, expression_type, atom_type, is_argument, are_arguments, are_keys, at_table, at_outport, at_inport, at_component, is_found, is_received, at_returned, is_test, is_typed_form}
+use Rattle.herm_model.specs.tests.TableTests.{are_different, on_fields, on_cases, on_rows, on_inport, on_outport, on_callmessage}
+use Rattle.herm_model.specs.tests.TypingTests.{number_of_shape, given_if, is_number, on_names, is_polymorph, are_all_apart, literal_type, seen_type, own_type, copied_type, is_table, expression_type, atom_type, is_argument, are_arguments, are_keys, at_table, at_outport, at_inport, at_component, is_found, is_received, at_returned, is_test, is_typed_form}
 use Rattle.herm_model.proofs.Lists.{not_true, every-in}
 use Rattle.herm_model.proofs.Options.{some-injective, none-not_some}
 use Rattle.herm_model.proofs.FactTests.{got-IsIn}

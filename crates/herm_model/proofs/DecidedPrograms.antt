@@ -12,9 +12,10 @@ use Rattle.herm_model.specs.TypedExpressions.{HasShape}
 use Rattle.herm_model.specs.WellFormedTables.{IsType}
 use Rattle.herm_model.specs.TypedStatements.{port_type, IsTypedForm}
 use Rattle.herm_model.specs.TypedPrograms.{greatest_statements, greatest_variable_paths, main_start, Placed, placed_in, handled, is_some_block, is_some_handler, HasArms, HasHandlers, HasDifferentHandlers, HandlesKnown, LeavesLoop, OfEachStatement, IsTypedProcess, IsTypedProgram}
-use Rattle.herm_model.specs.TableTests.{on_inport, broken_table_rules}
-use Rattle.herm_model.specs.TypingTests.{is_typed_form, same_branching, has_different_arms, is_well_formed, is_well_formed_block, are_well_formed, are_well_formed_handlers, has_arms, has_handlers, has_different_handlers, handles_known, leaves_loop, of_each_statement, places_of, places_behind, sweep, marked_places, is_marked, are_settled, ProcessRule, port, variables_known, few_paths, few_statements, blocks, arms, handlers, handlers_differ, handlers_known, leaves_in_loops, typed, reached, process_rules, keeps_process_rule, broken_process_rules, is_none, is_typed_program}
-use Rattle.herm_model.specs.TypedLaws.{ProcessKeeps, TestsDecideProcesses, NoneBrokenIsTyped, TestDecidesPrograms}
+use Rattle.herm_model.specs.tests.TableTests.{on_inport, broken_table_rules}
+use Rattle.herm_model.specs.tests.TypingTests.{is_typed_form}
+use Rattle.herm_model.specs.tests.BodyTests.{same_branching, has_different_arms, is_well_formed, is_well_formed_block, are_well_formed, are_well_formed_handlers, has_arms, has_handlers, has_different_handlers, handles_known, leaves_loop, of_each_statement, places_of, places_behind, sweep, marked_places, is_marked, are_settled, ProcessRule, port, variables_known, few_paths, few_statements, blocks, arms, handlers, handlers_differ, handlers_known, leaves_in_loops, typed, reached, process_rules, keeps_process_rule, broken_process_rules, is_none, is_typed_program}
+use Rattle.herm_model.specs.laws.TypedLaws.{ProcessKeeps, TestsDecideProcesses, NoneBrokenIsTyped, TestDecidesPrograms}
 use Rattle.herm_model.proofs.Lists.{not_true, and-both, both-and, in-every, in-append_cases, in-map, in-map_from, slice_get-map, every-in, or-either}
 use Rattle.herm_model.proofs.Options.{map-some}
 use Rattle.herm_model.proofs.FactTests.{at-numbered}

@@ -10,8 +10,8 @@ use Rattle.herm_model.specs.Statements.{Differ}
 use Rattle.herm_model.specs.FlowLaws.{Rise}
 use Rattle.herm_model.specs.TypedExpressions.{is_scalar_shape}
 use Rattle.herm_model.specs.WellFormedTables.{predefined_exceptions, greatest_paths, is_definable, BeginsPredefined, Reaches, at_once, further, field_below, IsType, NamesTypes, IsScalarField, HasKey, LeadsToInport, CopiesInputs, IsFieldPath, IsOfField, IsOfFullField, DeclaresFields, DeclaresOneCase, RaisesKnown, RaisesDifferent, KeepsReturned, KeepsRising, KeepsNoneDisconnected, IsWellFormedTable}
-use Rattle.herm_model.specs.TableTests.{are_different, do_rise, on_fields, on_cases, on_rows, on_inport, on_outport, on_callmessage, if_input, names_types, is_scalar_field, has_keys, leads_to_inport, copies_inputs, field_path_type, is_of_field, is_of_full_at, is_of_full_field, declares_fields, agree, declares_one_case, raises_known, raises_different, keeps_returned, keeps_rising, is_none_kept, keeps_none_disconnected, TableRule, predefined_types, enough_exceptions, types_known, exceptions_known, exceptions_differ, shallow, few_paths, keys, outports, inputs_copyable, facts_of_fields, one_case, kept_returned, kept_rising, kept_disconnected, table_rules, of_each_type, keeps_table_rule, broken_table_rules}
-use Rattle.herm_model.specs.TypedLaws.{TableKeeps, TestsDecideTables, NoneBrokenIsWellFormed}
+use Rattle.herm_model.specs.tests.TableTests.{are_different, do_rise, on_fields, on_cases, on_rows, on_inport, on_outport, on_callmessage, if_input, names_types, is_scalar_field, has_keys, leads_to_inport, copies_inputs, field_path_type, is_of_field, is_of_full_at, is_of_full_field, declares_fields, agree, declares_one_case, raises_known, raises_different, keeps_returned, keeps_rising, is_none_kept, keeps_none_disconnected, TableRule, predefined_types, enough_exceptions, types_known, exceptions_known, exceptions_differ, shallow, few_paths, keys, outports, inputs_copyable, facts_of_fields, one_case, kept_returned, kept_rising, kept_disconnected, table_rules, of_each_type, keeps_table_rule, broken_table_rules}
+use Rattle.herm_model.specs.laws.TypedLaws.{TableKeeps, TestsDecideTables, NoneBrokenIsWellFormed}
 use Rattle.herm_model.proofs.Lists.{not_true, every-in, or-either, cons-not_nil, cons-tail}
 use Rattle.herm_model.proofs.Options.{none-not_some}
 use Rattle.herm_model.proofs.Copyable.{copyable-is, is-copyable, within-more}

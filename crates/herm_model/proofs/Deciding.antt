@@ -5,7 +5,7 @@ use Rattle.herm_model.specs.Lists.{IsIn, every, some_of, with_some, range}
 use Rattle.herm_model.specs.Paths.{Path, Fact, same_path, same_fact}
 use Rattle.herm_model.specs.Statements.{Differ}
 use Rattle.herm_model.specs.FlowLaws.{Rise}
-use Rattle.herm_model.specs.TableTests.{are_different, do_rise}
+use Rattle.herm_model.specs.tests.TableTests.{are_different, do_rise}
 use Rattle.herm_model.proofs.Lists.{not_true, and-both, both-and, or-either, or-left, or-right, every-in, in-every}
 use Rattle.herm_model.proofs.Equality.{same_numbers-is, same_numbers_self, same_fact-is, same_fact_self}
 

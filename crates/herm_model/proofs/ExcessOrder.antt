@@ -8,7 +8,7 @@ use Rattle.herm_model.specs.Types.{Parameter, Shape, fields, cases, callmessage,
 use Rattle.herm_model.specs.Facts.{IsFactOf}
 use Rattle.herm_model.specs.Values.{has_value}
 use Rattle.herm_model.specs.Finalising.{excess_from, excess_at, excess}
-use Rattle.herm_model.specs.ExcessLaws.{comes_before, AreInOrder, is_beyond, IsExcess, FactsHaveTheirExcess, ValuesHaveTheirExcess}
+use Rattle.herm_model.specs.laws.ExcessLaws.{comes_before, AreInOrder, is_beyond, IsExcess, FactsHaveTheirExcess, ValuesHaveTheirExcess}
 use Rattle.herm_model.proofs.Lists.{not_true, or-either, or-left, or-right, and-both, both-and, in-append_cases, in-flat_map, in-flat_map_from, cons-head, cons-tail, numbered-in, every-in, slice_get-map}
 use Rattle.herm_model.proofs.FactTests.{at-numbered, got-IsIn}
 use Rattle.herm_model.proofs.Steps.{within-known}

@@ -9,7 +9,7 @@ use Rattle.herm_model.specs.Statements.{Form, Assign, Move, New, Discard, Unite,
 use Rattle.herm_model.specs.TypedExpressions.{IsLiteralOf, IsTyped}
 use Rattle.herm_model.specs.WellFormedTables.{IsType, IsWellFormedTable}
 use Rattle.herm_model.specs.TypedStatements.{port_type, IsComponent, IsLookedAt, IsArgument, AreArguments, AreKeysOf, IsFound, IsReceived, IsTypedForm}
-use Rattle.herm_model.specs.TypedFactLaws.{literals_in, literals_among, arm_paths, Named, named, IsInRange, TypedFormsAreInRange}
+use Rattle.herm_model.specs.laws.TypedFactLaws.{literals_in, literals_among, arm_paths, Named, named, IsInRange, TypedFormsAreInRange}
 use Rattle.herm_model.proofs.Lists.{in-append_cases, in-map_from}
 use Rattle.herm_model.proofs.Options.{none-not_some}
 use Rattle.herm_model.proofs.BoundedPaths.{type-there}

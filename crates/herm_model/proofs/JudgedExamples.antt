@@ -3,11 +3,11 @@ use Rattle.std.proofs.Common.{◌≡◌, ◌↔◌, List, [], ◌∷◌, map, Is
 use Rattle.herm_model.specs.Lists.{IsIn, every}
 use Rattle.herm_model.specs.Statements.{Statement}
 use Rattle.herm_model.specs.WellFormedTables.{IsWellFormedTable}
-use Rattle.herm_model.specs.TableTests.{broken_table_rules}
-use Rattle.herm_model.specs.TypingTests.{ProcessRule, typed, are_settled}
-use Rattle.herm_model.specs.StatementTypes.{statement_types, helper, main_of}
-use Rattle.herm_model.specs.TableRuleExamples.{TableExample}
-use Rattle.herm_model.specs.TypedExampleLaws.{example_exceptions, example_table, broken_by, IsTypedBody, AreTyped, BreakTheirFormAlone, BreakTheseRules, BreakTheseTableRules}
+use Rattle.herm_model.specs.tests.TableTests.{broken_table_rules}
+use Rattle.herm_model.specs.tests.BodyTests.{ProcessRule, typed, are_settled}
+use Rattle.herm_model.specs.judged.StatementTypes.{statement_types, helper, main_of}
+use Rattle.herm_model.specs.judged.TableRuleExamples.{TableExample}
+use Rattle.herm_model.specs.laws.TypedExampleLaws.{example_exceptions, example_table, broken_by, IsTypedBody, AreTyped, BreakTheirFormAlone, BreakTheseRules, BreakTheseTableRules}
 use Rattle.herm_model.proofs.Lists.{every-in, cons-not_nil}
 use Rattle.herm_model.proofs.DecidedTables.{none-well_formed}
 use Rattle.herm_model.proofs.DecidedPrograms.{none-process}

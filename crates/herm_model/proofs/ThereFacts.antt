@@ -12,7 +12,7 @@ use Rattle.herm_model.specs.Calls.{call_raises, kept_for}
 use Rattle.herm_model.specs.Control.{Edge, edge, Point, point, flow_of, Hop, held_behind, held_at_start, walk, edge_from, Leads}
 use Rattle.herm_model.specs.WellFormedTables.{IsFieldPath, IsOfField, IsOfFullField, field_type, field_below, IsWellFormedTable}
 use Rattle.herm_model.specs.TypedPrograms.{IsTypedProcess}
-use Rattle.herm_model.specs.TypedFactLaws.{FullFactsAreThere, DeclaredFactsAreThere, ListedFactsAreThere, TypedFormsHaveTheirFacts, HeldFactsAreThere, TypedCallsDeclare, CallmessagesTravelFull}
+use Rattle.herm_model.specs.laws.TypedFactLaws.{FullFactsAreThere, DeclaredFactsAreThere, ListedFactsAreThere, TypedFormsHaveTheirFacts, HeldFactsAreThere, TypedCallsDeclare, CallmessagesTravelFull}
 use Rattle.herm_model.proofs.Lists.{in-map, in-map_from}
 use Rattle.herm_model.proofs.Options.{none-not_some}
 use Rattle.herm_model.proofs.Equality.{same_fact-is}

@@ -1,8 +1,8 @@
 // Laws of well-formed tables and typed programs.
 
-ghost use Rattle.herm_model.specs.ExcessLaws.{FactsHaveTheirExcess, ValuesHaveTheirExcess};
-ghost use Rattle.herm_model.specs.TypedFactLaws.{CallmessagesTravelFull, DeclaredFactsAreThere, FullFactsAreThere, HeldFactsAreThere, ListedFactsAreThere, TypedCallsDeclare, TypedFormsAreInRange, TypedFormsHaveTheirFacts, TypedPathsAreBounded};
-ghost use Rattle.herm_model.specs.TypedLaws.{NoneBrokenIsTyped, NoneBrokenIsWellFormed, TestDecidesPrograms, TestsDecideProcesses, TestsDecideTables};
+ghost use Rattle.herm_model.specs.laws.ExcessLaws.{FactsHaveTheirExcess, ValuesHaveTheirExcess};
+ghost use Rattle.herm_model.specs.laws.TypedFactLaws.{CallmessagesTravelFull, DeclaredFactsAreThere, FullFactsAreThere, HeldFactsAreThere, ListedFactsAreThere, TypedCallsDeclare, TypedFormsAreInRange, TypedFormsHaveTheirFacts, TypedPathsAreBounded};
+ghost use Rattle.herm_model.specs.laws.TypedLaws.{NoneBrokenIsTyped, NoneBrokenIsWellFormed, TestDecidesPrograms, TestsDecideProcesses, TestsDecideTables};
 
 /// Which tables are well formed is decided by tests: one for each rule, and all of them together.
 pub fn tests_decide_tables()

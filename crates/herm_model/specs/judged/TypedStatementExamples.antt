@@ -3,7 +3,7 @@ use Rattle.std.specs.Prelude.{pos, List, [], ◌∷◌}
 use Rattle.herm_model.specs.Expressions.{Literal, either, both, equal, less, at_most, plus, concatenated, literal, copy, negated, inverted, operation, size_of, decimal, length_of, Atom, path}
 use Rattle.herm_model.specs.Statements.{Assign, Move, New, Discard, Unite, Dissolve, Reveal, Case, Wrap, Unwrap, Insert, Remove, Get, For, Connect, Send, Receive, Select, Call, Return, ReturnBy, Create, If, While, Raise, Statement, simple, choosing, repeating, leaving, no_statements, no_blocks, block}
 use Rattle.herm_model.specs.Examples.{in_order}
-use Rattle.herm_model.specs.StatementTypes.{an_arm}
+use Rattle.herm_model.specs.judged.StatementTypes.{an_arm}
 
 abbrev pub typed_statements : List Statement
 typed_statements =

@@ -3,7 +3,7 @@ use Rattle.std.specs.Prelude.{true, pos, List, [], ◌∷◌}
 use Rattle.herm_model.specs.Expressions.{Literal, plus, literal, copy, operation}
 use Rattle.herm_model.specs.Statements.{Assign, Case, Select, If, While, Raise, Statement, simple, choosing, repeating, leaving, trying, no_statements, no_blocks, block, no_handlers, handler}
 use Rattle.herm_model.specs.Examples.{in_order}
-use Rattle.herm_model.specs.TypingTests.{ProcessRule, blocks, arms, handlers, handlers_differ, handlers_known, leaves_in_loops, typed, reached}
+use Rattle.herm_model.specs.tests.BodyTests.{ProcessRule, blocks, arms, handlers, handlers_differ, handlers_known, leaves_in_loops, typed, reached}
 
 abbrev pub body_examples : List (List Statement × List ProcessRule)
 body_examples =

@@ -5,10 +5,10 @@ use Rattle.herm_model.specs.Types.{TypeTable, predefined}
 use Rattle.herm_model.specs.Statements.{Statement}
 use Rattle.herm_model.specs.WellFormedTables.{IsWellFormedTable}
 use Rattle.herm_model.specs.TypedPrograms.{IsTypedProcess}
-use Rattle.herm_model.specs.TableTests.{broken_table_rules}
-use Rattle.herm_model.specs.TypingTests.{ProcessRule, typed, broken_process_rules}
-use Rattle.herm_model.specs.StatementTypes.{statement_types, helper, main_of}
-use Rattle.herm_model.specs.TableRuleExamples.{TableExample}
+use Rattle.herm_model.specs.tests.TableTests.{broken_table_rules}
+use Rattle.herm_model.specs.tests.BodyTests.{ProcessRule, typed, broken_process_rules}
+use Rattle.herm_model.specs.judged.StatementTypes.{statement_types, helper, main_of}
+use Rattle.herm_model.specs.judged.TableRuleExamples.{TableExample}
 
 -- there is one exception of the program, Busy
 abbrev pub example_exceptions : ℕ

@@ -2,8 +2,8 @@
 use Rattle.std.specs.Prelude.{ℕ, zero, suc, List, [], ◌∷◌, replicate}
 use Rattle.herm_model.specs.Paths.{init, case}
 use Rattle.herm_model.specs.Types.{by_in, by_inout, by_out, integer, names, fields, cases, rows, inport, outport, callmessage, TypeTable}
-use Rattle.herm_model.specs.StatementTypes.{a_parameter, keeping, statement_types}
-use Rattle.herm_model.specs.TableTests.{TableRule, predefined_types, enough_exceptions, types_known, exceptions_known, exceptions_differ, shallow, few_paths, keys, outports, inputs_copyable, facts_of_fields, one_case, kept_returned, kept_rising, kept_disconnected}
+use Rattle.herm_model.specs.judged.StatementTypes.{a_parameter, keeping, statement_types}
+use Rattle.herm_model.specs.tests.TableTests.{TableRule, predefined_types, enough_exceptions, types_known, exceptions_known, exceptions_differ, shallow, few_paths, keys, outports, inputs_copyable, facts_of_fields, one_case, kept_returned, kept_rising, kept_disconnected}
 
 pub record TableExample : Type 0 where
   pub exceptions : ℕ

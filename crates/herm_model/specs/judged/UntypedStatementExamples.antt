@@ -2,7 +2,7 @@
 use Rattle.std.specs.Prelude.{true, pos, List, [], ◌∷◌}
 use Rattle.herm_model.specs.Expressions.{Literal, both, equal, less, plus, concatenated, literal, copy, negated, inverted, operation, size_of, decimal, length_of, Atom, path}
 use Rattle.herm_model.specs.Statements.{Assign, Move, New, Discard, Unite, Dissolve, Reveal, Case, Wrap, Unwrap, Insert, Remove, Get, For, Connect, Send, Receive, Select, Call, Return, ReturnBy, Create, If, While, Raise, Statement, simple, choosing, repeating, no_statements, no_blocks, block}
-use Rattle.herm_model.specs.StatementTypes.{an_arm}
+use Rattle.herm_model.specs.judged.StatementTypes.{an_arm}
 
 abbrev pub untyped_statements : List Statement
 untyped_statements =

@@ -1,0 +1,4 @@
+pub mod TypedLaws
+pub mod TypedFactLaws
+pub mod ExcessLaws
+pub mod TypedExampleLaws
