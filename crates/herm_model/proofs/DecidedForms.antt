@@ -1,5 +1,5 @@
 -- The tests of expressions and forms decide which are typed.
-use Rattle.std.proofs.Common.{◌≡◌, ◌↔◌, ℕ, zero, suc, ◌+◌, ◌<◌, ◌≤◌, List, [], ◌∷◌, ◌++◌, map, length, Bool, true, false, not, cond, ◌&&◌, ◌||◌, ◌⊎◌, inl, inr, nat_eq, nat_lt, nat_le, Option, Some, None, is_some, slice_get, option_and_then, IsTrue, IsFalse, refl, sym, ap, subst, ◌∙◌, arith, true≢false}
+use Rattle.std.proofs.Common.{◌≡◌, ◌↔◌, ℕ, zero, suc, ◌<◌, List, [], ◌∷◌, ◌++◌, map, length, Bool, true, false, cond, ◌&&◌, nat_eq, nat_lt, Option, Some, None, is_some, slice_get, option_and_then, IsTrue, IsFalse, refl, sym, ap, subst, ◌∙◌, true≢false}
 use Rattle.herm_model.specs.Lists.{IsIn, every, some_of, with_some, range}
 use Rattle.herm_model.specs.Paths.{Path, Fact, are_apart, same_path}
 use Rattle.herm_model.specs.Types.{Mode, by_in, by_inout, by_out, Parameter, Raised, Shape, boolean, integer, text, polymorph, names, fields, cases, rows, inport, outport, callmessage, TypeTable, predefined, greatest_depth, type_at, passes_component, IsCopyable, is_copyable_within}
@@ -8,10 +8,10 @@ use Rattle.herm_model.specs.Typed.{is_integer, is_text}
 use Rattle.herm_model.specs.Statements.{Form, Assign, Move, New, Discard, Unite, Dissolve, Reveal, Case, Wrap, Unwrap, Insert, Remove, Get, For, Connect, Send, Receive, Select, Call, Return, ReturnBy, Create, If, While, Raise, Leave, Arm, Process, Differ}
 use Rattle.herm_model.specs.StatementTable.{set_by_call}
 use Rattle.herm_model.specs.TypedExpressions.{takes, shape_given, passes_out, HasShape, IsLiteralOf, IsPathOf, IsTyped}
-use Rattle.herm_model.specs.WellFormedTables.{is_definable, BeginsPredefined, IsType, IsWellFormedTable}
-use Rattle.herm_model.specs.TypedStatements.{can_be_new, AreApart, port_type, IsComponent, IsLookedAt, IsTarget, IsSource, IsTypedAtom, IsArgument, AreArguments, AreKeysOf, IsTableOf, IsFound, GoesTo, ComesFrom, IsReceived, IsReturned, IsTypedForm}
-use Rattle.herm_model.specs.TableTests.{are_different, on_fields, on_cases, on_rows, on_inport, on_outport, on_callmessage}
-use Rattle.herm_model.specs.TypingTests.{number_of_shape, given_if, is_number, on_names, is_polymorph, are_all_apart, literal_type, seen_type, own_type, copied_type, is_table, expression_type, atom_type, is_argument, are_arguments, are_keys, at_table, at_outport, at_inport, at_component, is_found, is_received, at_returned, is_test, is_typed_form}
+use Rattle.herm_model.specs.WellFormedTables.{is_definable, BeginsPredefined, IsWellFormedTable}
+use Rattle.herm_model.specs.TypedStatements.{can_be_new, AreApart, port_type, IsComponent, IsLookedAt, IsTarget, IsTypedAtom, IsArgument, AreArguments, AreKeysOf, IsTableOf, IsFound, GoesTo, ComesFrom, IsReceived, IsReturned, IsTypedForm}
+use Rattle.herm_model.specs.tests.TableTests.{are_different, on_fields, on_cases, on_rows, on_inport, on_outport, on_callmessage}
+use Rattle.herm_model.specs.tests.TypingTests.{number_of_shape, given_if, is_number, on_names, is_polymorph, are_all_apart, literal_type, seen_type, own_type, copied_type, is_table, expression_type, atom_type, is_argument, are_arguments, are_keys, at_table, at_outport, at_inport, at_component, is_found, is_received, at_returned, is_test, is_typed_form}
 use Rattle.herm_model.proofs.Lists.{not_true, every-in}
 use Rattle.herm_model.proofs.Options.{some-injective, none-not_some}
 use Rattle.herm_model.proofs.FactTests.{got-IsIn}
@@ -125,9 +125,10 @@ module _ (table : TypeTable) (regular : IsRegular table) where
       let k = chosen-if (is_text bytes) 2 t ((λ h. h), λ h. h) in
       (λ e. let r = k.0 e in (subst (λ u. HasShape table u text) (sym r.0) regular.has_text, r.1), λ h. k.1 (regular.one_text t h.0, h.1))
   literal-is (Literal.tag type place) t =
-      let k = chosen-if (on_names (nat_lt place) (slice_get table type)) type t (names-decide (nat_lt place) (λ n. IsTrue (nat_lt place n)) (λ n. ((λ h. h), λ h. h)) (slice_get table type)) in
-      (λ e. let r = k.0 e in (r.0, r.1.0, subst (λ u. HasShape table u (names r.1.0)) (sym r.0) r.1.1, r.1.2),
-      λ h. k.1 (h.0, (h.1, subst (λ u. HasShape table u (names h.1)) h.0 h.2, h.3)))
+      let k = chosen-if (on_names (nat_lt place) (slice_get table type)) type t (names-decide (nat_lt place) (λ n. IsTrue (nat_lt place n)) (λ n. ((λ h. h), λ h. h)) (slice_get table type)) in (
+        λ e. let r = k.0 e in (r.0, r.1.0, subst (λ u. HasShape table u (names r.1.0)) (sym r.0) r.1.1, r.1.2),
+        λ h. k.1 (h.0, (h.1, subst (λ u. HasShape table u (names h.1)) h.0 h.2, h.3)),
+      )
 
   module _ (variables : List ℕ) where
     unless : (b : Bool) (o : Option ℕ) (t : ℕ) → (cond b None o ≡ Some t) ↔ ((o ≡ Some t) × IsFalse b)
@@ -193,26 +194,31 @@ module _ (table : TypeTable) (regular : IsRegular table) where
     expression-is (literal l) t = literal-is l t
     expression-is (copy p) t = copied p t
     expression-is (negated e) t =
-        let k = given-if 1 1 (expression_type table variables e) t in
-        (λ h. let r = k.0 h in (subst (λ u. HasShape table u integer) (sym r.0) regular.has_integer, 1, regular.has_integer, (expression-is e 1).0 r.1),
-        λ h. k.1 (regular.one_integer t h.0, (expression-is e 1).1 (subst (IsTyped table variables e) (regular.one_integer h.1 h.2) h.3)))
+        let k = given-if 1 1 (expression_type table variables e) t in (
+          λ h. let r = k.0 h in (subst (λ u. HasShape table u integer) (sym r.0) regular.has_integer, 1, regular.has_integer, (expression-is e 1).0 r.1),
+          λ h. k.1 (regular.one_integer t h.0, (expression-is e 1).1 (subst (IsTyped table variables e) (regular.one_integer h.1 h.2) h.3)),
+        )
     expression-is (inverted e) t =
-        let k = given-if 0 0 (expression_type table variables e) t in
-        (λ h. let r = k.0 h in (subst (λ u. HasShape table u boolean) (sym r.0) regular.has_boolean, 0, regular.has_boolean, (expression-is e 0).0 r.1),
-        λ h. k.1 (regular.one_boolean t h.0, (expression-is e 0).1 (subst (IsTyped table variables e) (regular.one_boolean h.1 h.2) h.3)))
+        let k = given-if 0 0 (expression_type table variables e) t in (
+          λ h. let r = k.0 h in (subst (λ u. HasShape table u boolean) (sym r.0) regular.has_boolean, 0, regular.has_boolean, (expression-is e 0).0 r.1),
+          λ h. k.1 (regular.one_boolean t h.0, (expression-is e 0).1 (subst (IsTyped table variables e) (regular.one_boolean h.1 h.2) h.3)),
+        )
     expression-is (operation o left right) t = operated o left right t (expression-is left) (expression-is right)
     expression-is (size_of p) t =
-        let k = chosen-if (is_table table variables p) 1 t (table-decides p) in
-        (λ h. let r = k.0 h in (subst (λ u. HasShape table u integer) (sym r.0) regular.has_integer, r.1.0, r.1.1, r.1.2, r.1.3, r.1.4),
-        λ h. k.1 (regular.one_integer t h.0, (h.1, h.2, h.3, h.4, h.5)))
+        let k = chosen-if (is_table table variables p) 1 t (table-decides p) in (
+          λ h. let r = k.0 h in (subst (λ u. HasShape table u integer) (sym r.0) regular.has_integer, r.1.0, r.1.1, r.1.2, r.1.3, r.1.4),
+          λ h. k.1 (regular.one_integer t h.0, (h.1, h.2, h.3, h.4, h.5)),
+        )
     expression-is (decimal e) t =
-        let k = given-if 1 2 (expression_type table variables e) t in
-        (λ h. let r = k.0 h in (subst (λ u. HasShape table u text) (sym r.0) regular.has_text, 1, regular.has_integer, (expression-is e 1).0 r.1),
-        λ h. k.1 (regular.one_text t h.0, (expression-is e 1).1 (subst (IsTyped table variables e) (regular.one_integer h.1 h.2) h.3)))
+        let k = given-if 1 2 (expression_type table variables e) t in (
+          λ h. let r = k.0 h in (subst (λ u. HasShape table u text) (sym r.0) regular.has_text, 1, regular.has_integer, (expression-is e 1).0 r.1),
+          λ h. k.1 (regular.one_text t h.0, (expression-is e 1).1 (subst (IsTyped table variables e) (regular.one_integer h.1 h.2) h.3)),
+        )
     expression-is (length_of e) t =
-        let k = given-if 2 1 (expression_type table variables e) t in
-        (λ h. let r = k.0 h in (subst (λ u. HasShape table u integer) (sym r.0) regular.has_integer, 2, regular.has_text, (expression-is e 2).0 r.1),
-        λ h. k.1 (regular.one_integer t h.0, (expression-is e 2).1 (subst (IsTyped table variables e) (regular.one_text h.1 h.2) h.3)))
+        let k = given-if 2 1 (expression_type table variables e) t in (
+          λ h. let r = k.0 h in (subst (λ u. HasShape table u integer) (sym r.0) regular.has_integer, 2, regular.has_text, (expression-is e 2).0 r.1),
+          λ h. k.1 (regular.one_integer t h.0, (expression-is e 2).1 (subst (IsTyped table variables e) (regular.one_text h.1 h.2) h.3)),
+        )
 
     atom-is : (a : Atom) (t : ℕ) → (atom_type table variables a ≡ Some t) ↔ IsTypedAtom table variables a t
     atom-is (Atom.literal l) t = literal-is l t

@@ -1,26 +1,27 @@
 -- The tests of bodies, processes and programs decide which are typed.
-use Rattle.std.proofs.Common.{◌≡◌, ◌↔◌, ℕ, zero, suc, ◌+◌, ◌<◌, ◌≤◌, List, [], ◌∷◌, ◌++◌, map, filter, length, Bool, true, false, not, cond, ◌&&◌, ◌||◌, ◌⊎◌, inl, inr, nat_eq, nat_lt, nat_le, Option, Some, None, is_some, option_map, slice_get, IsTrue, refl, sym, ap, subst, ◌∙◌, arith, true≢false}
-use Rattle.herm_model.specs.Lists.{IsIn, every, some_of, numbered, with_some, range}
+use Rattle.std.proofs.Common.{◌≡◌, ◌↔◌, ℕ, suc, ◌+◌, ◌<◌, List, [], ◌∷◌, ◌++◌, map, length, Bool, true, false, not, cond, ◌||◌, ◌⊎◌, inl, inr, nat_eq, nat_lt, Some, is_some, option_map, slice_get, IsTrue, refl, sym, ap, subst, ◌∙◌, arith, true≢false}
+use Rattle.herm_model.specs.Lists.{IsIn, every, some_of, numbered}
 use Rattle.herm_model.specs.Paths.{Fact}
 use Rattle.herm_model.specs.Types.{inport, TypeTable, predefined, all_parts, variable_paths}
-use Rattle.herm_model.specs.Statements.{Form, Assign, Move, New, Discard, Unite, Dissolve, Reveal, Case, Wrap, Unwrap, Insert, Remove, Get, For, Connect, Send, Receive, Select, Call, Return, ReturnBy, Create, If, While, Raise, Leave, Statement, simple, choosing, repeating, leaving, trying, Block, no_statements, statement, Blocks, no_blocks, block, Handlers, no_handlers, handler, Process, Branching, goes_on, repeats, leaves, chooses, branching_of, count_blocks, numbers_of_block, HasDifferentArms, IsWellFormed, IsWellFormedBlock, AreWellFormed, AreWellFormedHandlers}
+use Rattle.herm_model.specs.Statements.{Form, Case, Statement, simple, choosing, repeating, leaving, trying, Block, no_statements, statement, Blocks, no_blocks, block, Handlers, no_handlers, handler, Process, Branching, goes_on, repeats, leaves, chooses, branching_of, count_blocks, numbers_of_block, HasDifferentArms, IsWellFormed, IsWellFormedBlock, AreWellFormed, AreWellFormedHandlers}
 use Rattle.herm_model.specs.Nodes.{Target, node, end, end_by, Node, process_nodes, entry_of, Exit, exits}
 use Rattle.herm_model.specs.Control.{Edge, edge, Point, point, flow_of, IsReached}
 use Rattle.herm_model.specs.FlowLaws.{EdgesDiffer, IsLedTo, begins, goes_on}
 use Rattle.herm_model.specs.FlowLaws
 use Rattle.herm_model.specs.TypedExpressions.{HasShape}
-use Rattle.herm_model.specs.WellFormedTables.{IsType, IsWellFormedTable}
+use Rattle.herm_model.specs.WellFormedTables.{IsType}
 use Rattle.herm_model.specs.TypedStatements.{port_type, IsTypedForm}
 use Rattle.herm_model.specs.TypedPrograms.{greatest_statements, greatest_variable_paths, main_start, Placed, placed_in, handled, is_some_block, is_some_handler, HasArms, HasHandlers, HasDifferentHandlers, HandlesKnown, LeavesLoop, OfEachStatement, IsTypedProcess, IsTypedProgram}
-use Rattle.herm_model.specs.TableTests.{are_different, on_inport, broken_table_rules}
-use Rattle.herm_model.specs.TypingTests.{is_number, is_typed_form, same_branching, has_different_arms, is_well_formed, is_well_formed_block, are_well_formed, are_well_formed_handlers, has_arms, has_handlers, has_different_handlers, handles_known, leaves_loop, of_each_statement, places_of, places_behind, sweep, marked_places, is_marked, are_settled, ProcessRule, port, variables_known, few_paths, few_statements, blocks, arms, handlers, handlers_differ, handlers_known, leaves_in_loops, typed, reached, process_rules, keeps_process_rule, broken_process_rules, is_none, is_typed_program, is_judged}
-use Rattle.herm_model.specs.TypedLaws.{ProcessKeeps, TestsDecideProcesses, NoneBrokenIsTyped, TestDecidesPrograms}
+use Rattle.herm_model.specs.tests.TableTests.{on_inport, broken_table_rules}
+use Rattle.herm_model.specs.tests.TypingTests.{is_typed_form}
+use Rattle.herm_model.specs.tests.BodyTests.{same_branching, has_different_arms, is_well_formed, is_well_formed_block, are_well_formed, are_well_formed_handlers, has_arms, has_handlers, has_different_handlers, handles_known, leaves_loop, of_each_statement, places_of, places_behind, sweep, marked_places, is_marked, are_settled, ProcessRule, port, variables_known, few_paths, few_statements, blocks, arms, handlers, handlers_differ, handlers_known, leaves_in_loops, typed, reached, process_rules, keeps_process_rule, broken_process_rules, is_none, is_typed_program}
+use Rattle.herm_model.specs.laws.TypedLaws.{ProcessKeeps, TestsDecideProcesses, NoneBrokenIsTyped, TestDecidesPrograms}
 use Rattle.herm_model.proofs.Lists.{not_true, and-both, both-and, in-every, in-append_cases, in-map, in-map_from, slice_get-map, every-in, or-either}
-use Rattle.herm_model.proofs.Options.{some-injective, none-not_some, map-some}
+use Rattle.herm_model.proofs.Options.{map-some}
 use Rattle.herm_model.proofs.FactTests.{at-numbered}
 use Rattle.herm_model.proofs.Reached.{reached-led}
 use Rattle.herm_model.proofs.DifferentOutcomes.{process-EdgesDiffer}
-use Rattle.herm_model.proofs.Deciding.{Decides, through, both-decide, true-decides, false-decides, not-decides, numbers-decide, below-decides, at_most-decides, all-decide, chosen-decides, member-decides, different-decides, range-decides}
+use Rattle.herm_model.proofs.Deciding.{Decides, through, both-decide, true-decides, false-decides, numbers-decide, below-decides, at_most-decides, all-decide, chosen-decides, member-decides, different-decides, range-decides}
 use Rattle.herm_model.proofs.DecidedTables.{inport-decides, none-broken, all-kept, none-well_formed}
 use Rattle.herm_model.proofs.DecidedForms.{IsRegular, well_formed-regular, number-is, form-decides}
 

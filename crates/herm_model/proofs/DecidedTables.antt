@@ -1,19 +1,19 @@
 -- The tests of tables decide which are well formed.
-use Rattle.std.proofs.Common.{◌≡◌, ◌↔◌, ℕ, zero, suc, ◌+◌, ◌<◌, ◌≤◌, List, [], ◌∷◌, ◌++◌, map, filter, flat_map, length, Bool, true, false, not, cond, ◌&&◌, ◌||◌, ◌⊎◌, inl, inr, nat_eq, nat_lt, nat_le, Option, Some, None, is_some, slice_get, option_and_then, IsTrue, refl, sym, ap, subst, ◌∙◌, arith, append-nil, true≢false}
-use Rattle.herm_model.specs.Lists.{IsIn, every, some_of, with_some, list_of, range}
+use Rattle.std.proofs.Common.{◌≡◌, ℕ, zero, suc, ◌+◌, ◌<◌, ◌≤◌, List, [], ◌∷◌, ◌++◌, map, filter, flat_map, length, Bool, true, false, not, cond, ◌&&◌, ◌||◌, ◌⊎◌, inl, inr, nat_eq, nat_lt, nat_le, Option, Some, None, is_some, slice_get, option_and_then, IsTrue, refl, sym, ap, subst, ◌∙◌, arith, append-nil, true≢false}
+use Rattle.herm_model.specs.Lists.{IsIn, every, some_of, with_some, list_of}
 use Rattle.herm_model.specs.Paths.{Path, Fact, init, case, path_of, same_path, same_fact}
-use Rattle.herm_model.specs.Types.{Mode, by_in, by_inout, by_out, Parameter, Raised, Shape, boolean, integer, text, polymorph, names, fields, cases, rows, inport, outport, callmessage, TypeTable, predefined, named_types, is_within_depth, greatest_depth, all_parts, full_parts, steps_within, steps, IsCopyable, plain, composed, is_copyable_within}
+use Rattle.herm_model.specs.Types.{Mode, by_in, by_inout, by_out, Parameter, Raised, Shape, fields, cases, rows, inport, outport, callmessage, TypeTable, predefined, named_types, is_within_depth, greatest_depth, all_parts, full_parts, steps_within, steps, IsCopyable, plain, composed, is_copyable_within}
 use Rattle.herm_model.specs.Facts.{full_facts}
 use Rattle.herm_model.specs.Calls.{is_returned}
 use Rattle.herm_model.specs.Outcomes.{disconnected}
 use Rattle.herm_model.specs.Statements.{Differ}
 use Rattle.herm_model.specs.FlowLaws.{Rise}
-use Rattle.herm_model.specs.TypedExpressions.{is_scalar_shape, HasShape}
-use Rattle.herm_model.specs.WellFormedTables.{predefined_exceptions, greatest_paths, is_definable, BeginsPredefined, Reaches, at_once, further, field_below, IsType, OfEachShape, NamesTypes, IsScalarField, HasKey, LeadsToInport, CopiesInputs, IsFieldPath, IsOfField, IsOfFullField, DeclaresFields, DeclaresOneCase, RaisesKnown, RaisesDifferent, KeepsReturned, KeepsRising, KeepsNoneDisconnected, IsWellFormedTable}
-use Rattle.herm_model.specs.TableTests.{are_different, do_rise, on_fields, on_cases, on_rows, on_inport, on_outport, on_callmessage, if_input, names_types, is_scalar_field, has_keys, leads_to_inport, copies_inputs, field_path_type, is_of_field, is_of_full_at, is_of_full_field, declares_fields, agree, declares_one_case, raises_known, raises_different, keeps_returned, keeps_rising, is_none_kept, keeps_none_disconnected, TableRule, predefined_types, enough_exceptions, types_known, exceptions_known, exceptions_differ, shallow, few_paths, keys, outports, inputs_copyable, facts_of_fields, one_case, kept_returned, kept_rising, kept_disconnected, table_rules, of_each_type, keeps_table_rule, broken_table_rules}
-use Rattle.herm_model.specs.TypedLaws.{TableKeeps, TestsDecideTables, NoneBrokenIsWellFormed}
+use Rattle.herm_model.specs.TypedExpressions.{is_scalar_shape}
+use Rattle.herm_model.specs.WellFormedTables.{predefined_exceptions, greatest_paths, is_definable, BeginsPredefined, Reaches, at_once, further, field_below, IsType, NamesTypes, IsScalarField, HasKey, LeadsToInport, CopiesInputs, IsFieldPath, IsOfField, IsOfFullField, DeclaresFields, DeclaresOneCase, RaisesKnown, RaisesDifferent, KeepsReturned, KeepsRising, KeepsNoneDisconnected, IsWellFormedTable}
+use Rattle.herm_model.specs.tests.TableTests.{are_different, do_rise, on_fields, on_cases, on_rows, on_inport, on_outport, on_callmessage, if_input, names_types, is_scalar_field, has_keys, leads_to_inport, copies_inputs, field_path_type, is_of_field, is_of_full_at, is_of_full_field, declares_fields, agree, declares_one_case, raises_known, raises_different, keeps_returned, keeps_rising, is_none_kept, keeps_none_disconnected, TableRule, predefined_types, enough_exceptions, types_known, exceptions_known, exceptions_differ, shallow, few_paths, keys, outports, inputs_copyable, facts_of_fields, one_case, kept_returned, kept_rising, kept_disconnected, table_rules, of_each_type, keeps_table_rule, broken_table_rules}
+use Rattle.herm_model.specs.laws.TypedLaws.{TableKeeps, TestsDecideTables, NoneBrokenIsWellFormed}
 use Rattle.herm_model.proofs.Lists.{not_true, every-in, or-either, cons-not_nil, cons-tail}
-use Rattle.herm_model.proofs.Options.{some-injective, none-not_some}
+use Rattle.herm_model.proofs.Options.{none-not_some}
 use Rattle.herm_model.proofs.Copyable.{copyable-is, is-copyable, within-more}
 use Rattle.herm_model.proofs.Deciding.{Decides, through, both-decide, either-decides, true-decides, false-decides, not-decides, numbers-decide, below-decides, at_most-decides, paths-decide, facts-decide, there-decides, all-decide, some-decides, chosen-decides, got-decides, member-decides, different-decides, rise-decides, range-decides}
 

@@ -1,11 +1,11 @@
 -- Tests that decide, and how they are joined.
-use Rattle.std.proofs.Common.{◌≡◌, ◌↔◌, ℕ, zero, suc, ◌+◌, ◌<◌, ◌≤◌, List, [], ◌∷◌, length, Bool, true, false, not, ◌&&◌, ◌||◌, ◌⊎◌, inl, inr, nat_eq, nat_lt, nat_le, Option, Some, None, is_some, slice_get, IsTrue, IsFalse, refl, sym, ap, subst, ◌∙◌, arith, true≢false}
+use Rattle.std.proofs.Common.{◌≡◌, ◌↔◌, ℕ, zero, suc, ◌+◌, ◌<◌, ◌≤◌, List, [], ◌∷◌, Bool, true, false, not, ◌&&◌, ◌||◌, ◌⊎◌, inl, inr, nat_eq, nat_lt, nat_le, Option, Some, None, is_some, slice_get, IsTrue, IsFalse, refl, sym, subst, ◌∙◌, arith, true≢false}
 use Rattle.std.proofs.lemmas.Bool.{eq-eqb, eqb-true, lt-ltb, ltb-true, le-leb, leb-true}
 use Rattle.herm_model.specs.Lists.{IsIn, every, some_of, with_some, range}
 use Rattle.herm_model.specs.Paths.{Path, Fact, same_path, same_fact}
 use Rattle.herm_model.specs.Statements.{Differ}
 use Rattle.herm_model.specs.FlowLaws.{Rise}
-use Rattle.herm_model.specs.TableTests.{are_different, do_rise}
+use Rattle.herm_model.specs.tests.TableTests.{are_different, do_rise}
 use Rattle.herm_model.proofs.Lists.{not_true, and-both, both-and, or-either, or-left, or-right, every-in, in-every}
 use Rattle.herm_model.proofs.Equality.{same_numbers-is, same_numbers_self, same_fact-is, same_fact_self}
 

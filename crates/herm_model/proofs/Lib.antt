@@ -44,3 +44,12 @@ pub mod Deciding
 pub mod DecidedTables
 pub mod DecidedForms
 pub mod DecidedPrograms
+pub mod TypedPaths
+pub mod TypedFacts
+pub mod TypedCalls
+pub mod TypedRows
+pub mod ExcessOrder
+pub mod BoundedPaths
+pub mod ThereFacts
+pub mod InRange
+pub mod JudgedExamples

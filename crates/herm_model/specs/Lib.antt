@@ -30,7 +30,6 @@ pub mod laws
 pub mod WellFormedTables
 pub mod TypedStatements
 pub mod TypedPrograms
-pub mod TableTests
-pub mod TypingTests
-pub mod TypedExamples
-pub mod TypedLaws
+pub mod laws
+pub mod judged
+pub mod tests

@@ -3,3 +3,7 @@ pub mod ChangesThrough
 pub mod LabelsExist
 pub mod OrderedFacts
 pub mod FormFacts
+pub mod TypedLaws
+pub mod TypedFactLaws
+pub mod ExcessLaws
+pub mod TypedExampleLaws

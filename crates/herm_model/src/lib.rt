@@ -9,6 +9,7 @@ pub mod flows;
 pub mod refusals;
 pub mod table;
 pub mod texts;
+pub mod typed_examples;
 pub mod typed_programs;
 pub mod types;
 pub mod untyped_texts;

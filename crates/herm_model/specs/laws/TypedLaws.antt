@@ -1,8 +1,8 @@
 -- What is proved of well-formed tables and typed programs.
-use Rattle.std.specs.Prelude.{ℕ, ◌<◌, ◌≤◌, ◌↔◌, List, [], ◌∷◌, ◌++◌, length, Bool, Some, slice_get, IsTrue, ◌≡◌}
+use Rattle.std.specs.Prelude.{ℕ, ◌<◌, ◌≤◌, ◌↔◌, List, [], ◌++◌, length, Some, slice_get, IsTrue, ◌≡◌}
 use Rattle.herm_model.specs.Lists.{IsIn}
 use Rattle.herm_model.specs.Paths.{Fact}
-use Rattle.herm_model.specs.Types.{Shape, inport, TypeTable, predefined, is_within_depth, greatest_depth, all_parts, steps, variable_paths}
+use Rattle.herm_model.specs.Types.{inport, TypeTable, predefined, is_within_depth, greatest_depth, all_parts, steps, variable_paths}
 use Rattle.herm_model.specs.Statements.{Process, numbers_of_block, IsWellFormedBlock}
 use Rattle.herm_model.specs.Nodes.{node, Node, process_nodes}
 use Rattle.herm_model.specs.Control.{flow_of, IsReached}
@@ -10,8 +10,8 @@ use Rattle.herm_model.specs.TypedExpressions.{HasShape}
 use Rattle.herm_model.specs.WellFormedTables.{predefined_exceptions, greatest_paths, BeginsPredefined, Reaches, IsType, OfEachShape, NamesTypes, HasKey, LeadsToInport, CopiesInputs, DeclaresFields, DeclaresOneCase, RaisesKnown, RaisesDifferent, KeepsReturned, KeepsRising, KeepsNoneDisconnected, IsWellFormedTable}
 use Rattle.herm_model.specs.TypedStatements.{IsTypedForm}
 use Rattle.herm_model.specs.TypedPrograms.{greatest_statements, greatest_variable_paths, HasArms, HasHandlers, HasDifferentHandlers, HandlesKnown, LeavesLoop, OfEachStatement, IsTypedProcess, IsTypedProgram}
-use Rattle.herm_model.specs.TableTests.{TableRule, predefined_types, enough_exceptions, types_known, exceptions_known, exceptions_differ, shallow, few_paths, keys, outports, inputs_copyable, facts_of_fields, one_case, kept_returned, kept_rising, kept_disconnected, keeps_table_rule, broken_table_rules}
-use Rattle.herm_model.specs.TypingTests.{ProcessRule, port, variables_known, few_statements, blocks, arms, handlers, handlers_differ, handlers_known, leaves_in_loops, typed, reached, keeps_process_rule, broken_process_rules, are_settled, is_judged, is_typed_program}
+use Rattle.herm_model.specs.tests.TableTests.{TableRule, predefined_types, enough_exceptions, types_known, exceptions_known, exceptions_differ, shallow, few_paths, keys, outports, inputs_copyable, facts_of_fields, one_case, kept_returned, kept_rising, kept_disconnected, keeps_table_rule, broken_table_rules}
+use Rattle.herm_model.specs.tests.BodyTests.{ProcessRule, port, variables_known, few_statements, blocks, arms, handlers, handlers_differ, handlers_known, leaves_in_loops, typed, reached, keeps_process_rule, broken_process_rules, are_settled, is_judged, is_typed_program}
 
 -- what each rule of tables says
 abbrev pub TableKeeps : (exceptions : ℕ) → TypeTable → TableRule → Type 0

@@ -1,0 +1,3 @@
+pub mod TableTests
+pub mod TypingTests
+pub mod BodyTests
