@@ -74,6 +74,10 @@ pub record IsDueByLoads {S : Type 0} (loads : S → Load → S → Type 0) (faul
   pub told : IfSome contents (λ files. AreTold files names answers)
   pub due : IsDueBy [] names answers status text report
 
+-- a status of 3 is that of a load that failed and raised the count of faults; with any other the count is as before
+abbrev pub IsCaused : ℕ → ℕ → ℕ → Type 0
+IsCaused before after status = ((status ≡ 3) × Rose before after) ⊎ ((status ≢ 3) × (after ≡ before))
+
 -- words that are not taken are due the usage line, and no file is asked for
 abbrev pub IsUsage : ℕ → List ℕ → Option Report → Type 0
 IsUsage status text report = (status ≡ 2) × (text ≡ usage_text) × (report ≡ None)

@@ -28,9 +28,9 @@ AreLoaded loads (name ∷ names) (no_memory ∷ answers) before after = loads be
 abbrev pub CountsFaults : List FileAnswer → ℕ → ℕ → Type 0
 CountsFaults [] before after = after ≡ before
 CountsFaults (given bytes ∷ answers) before after = CountsFaults answers before after
-CountsFaults (not_there ∷ answers) before after = CountsFaults answers before after
+CountsFaults (not_there ∷ answers) before after = after ≡ before
 CountsFaults (not_read ∷ answers) before after = Rose before after
-CountsFaults (no_memory ∷ answers) before after = CountsFaults answers before after
+CountsFaults (no_memory ∷ answers) before after = after ≡ before
 
 -- an answer is what told files say of a name: the first bytes of its file, or that there is none
 abbrev pub IsTold : Option (List ℕ) → FileAnswer → Type 0
