@@ -1,5 +1,5 @@
 -- What is due to the words, from what a shelf answers.
-use Rattle.std.proofs.Common.{◌≡◌, ◌≢◌, ◌≤◌, ◌⊎◌, inl, inr, ℕ, List, [], ◌∷◌, ◌++◌, Option, Some, None, Result, Ok, Err, OnErr, length, take, refl, ap, subst, IfSome, MatchOption, option_map, arith}
+use Rattle.std.proofs.Common.{◌≡◌, ◌≢◌, ◌≤◌, ◌⊎◌, inl, inr, ℕ, List, [], ◌∷◌, ◌++◌, Option, Some, None, length, take, refl, ap, subst, IfSome, MatchOption, option_map, arith}
 use Rattle.herm_edge.specs.Faults.{Rose}
 use Rattle.herm_edge.specs.Shelf.{File, Load, FileAnswer, given, not_there, not_read, no_memory, answer_of, IfHere, file_at}
 use Rattle.herm_edge.specs.declared.shelf.Loaded.{Loaded}
@@ -20,19 +20,15 @@ told-nothing : (contents : Option (List File)) (name : List ℕ) → IfSome cont
 told-nothing None name = tt
 told-nothing (Some files) name = tt
 
-pub due-given : {S : Type 0} (loads : S → Load → S → Type 0) (faults : S → ℕ) (contents : Option (List File)) (before after : S) (name bytes : List ℕ) (limit : ℕ) (status : ℕ) (text : List ℕ) (report : Option Report) →
-    limit ≡ load_limit →
-    loads before (record { name = name; limit = limit; answer = given bytes }) after →
+pub due-given : {S : Type 0} (loads : S → Load → S → Type 0) (faults : S → ℕ) (contents : Option (List File)) (before after : S) (name bytes : List ℕ) (status : ℕ) (text : List ℕ) (report : Option Report) →
+    loads before (load_of name (given bytes)) after →
     faults after ≡ faults before →
-    length bytes ≤ limit →
-    IfSome contents (λ files. option_map (take limit) (file_at files name) ≡ Some bytes) →
+    length bytes ≤ load_limit →
+    IfSome contents (λ files. option_map (take load_limit) (file_at files name) ≡ Some bytes) →
     IsDone bytes status text report ⊎ IsRefusal name bytes status text report →
     IsDueByLoads loads faults contents before after (name ∷ []) status text report
-due-given {S} loads faults contents before after name bytes limit status text report e loaded kept within told due =
-    let P : ℕ → Type 0 = λ n. loads before (record { name = name; limit = n; answer = given bytes }) after in
-    let Q : ℕ → Type 0 = λ n. IfSome contents (λ files. option_map (take n) (file_at files name) ≡ Some bytes) in
-    let R : ℕ → Type 0 = λ n. length bytes ≤ n in
-    record { answers = given bytes ∷ []; loaded = (after, subst P e loaded, subst R e within, refl); counted = kept; told = told-one contents name (given bytes) (subst Q e told); due = due }
+due-given loads faults contents before after name bytes status text report loaded kept within told due =
+    record { answers = given bytes ∷ []; loaded = (after, loaded, within, refl); counted = kept; told = told-one contents name (given bytes) told; due = due }
 
 pub due-missing : {S : Type 0} (loads : S → Load → S → Type 0) (faults : S → ℕ) (contents : Option (List File)) (before after : S) (name : List ℕ) (status : ℕ) (text : List ℕ) (report : Option Report) →
     loads before (load_of name not_there) after →
@@ -54,10 +50,10 @@ due-failed loads faults contents before after name status text report loaded ros
 -- a file was loaded, whatever was answered
 first-answered : {S : Type 0} (loads : S → Load → S → Type 0) (name : List ℕ) (loaded : Loaded) (before after : S) →
     loads before (load_of name (answer_of loaded)) after → IfHere loaded (λ bytes. length bytes ≤ load_limit) → FirstAreLoaded loads (name ∷ []) before after
-first-answered loads name (Here bytes) before after asked within = (1, given bytes.items ∷ [], (after, asked, within, refl))
-first-answered loads name Missing before after asked within = (1, not_there ∷ [], (asked, refl))
-first-answered loads name Failed before after asked within = (1, not_read ∷ [], (asked, refl))
-first-answered loads name Memory before after asked within = (1, no_memory ∷ [], (asked, refl))
+first-answered loads name (Here bytes) before after asked within = record { count = 1; answers = given bytes.items ∷ []; loaded = (after, asked, within, refl) }
+first-answered loads name Missing before after asked within = record { count = 1; answers = not_there ∷ []; loaded = (asked, refl) }
+first-answered loads name Failed before after asked within = record { count = 1; answers = not_read ∷ []; loaded = (asked, refl) }
+first-answered loads name Memory before after asked within = record { count = 1; answers = no_memory ∷ []; loaded = (asked, refl) }
 
 pub first-loaded : {S : Type 0} (loads : S → Load → S → Type 0) (name : List ℕ) (limit : ℕ) (loaded : Loaded) (before after : S) →
     limit ≡ load_limit →
@@ -140,10 +136,6 @@ pub due-caused : {S : Type 0} (loads : S → Load → S → Type 0) (faults : S 
 due-caused loads faults contents before after words status text report due =
     caused-at loads faults contents before after (named_file words) status text report due
 
-pub ruleset load_lemmas = (first-loaded, due-given, due-missing, due-failed)
+pub ruleset load_lemmas = (due-given, due-missing, due-failed)
 
 pub ruleset word_lemmas = (told-chosen, due-caused)
-
-pub on-err : {A E : Type 0} (r : Result A E) (P : Type 0) → P → OnErr r P
-on-err (Ok a) P p = tt
-on-err (Err e) P p = p

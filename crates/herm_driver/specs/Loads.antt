@@ -45,5 +45,7 @@ AreTold files (name ∷ names) [] = Unit {0}
 AreTold files (name ∷ names) (answer ∷ answers) = IsTold (file_at files name) answer × AreTold files names answers
 
 -- Memory was wanting: the first of the named files were loaded, some of them or all, and the rest was not asked for.
-abbrev pub FirstAreLoaded : {S : Type 0} → (S → Load → S → Type 0) → List (List ℕ) → S → S → Type 0
-FirstAreLoaded loads names before after = (n : ℕ) × (answers : List FileAnswer) × AreLoaded loads (take n names) answers before after
+pub record FirstAreLoaded {S : Type 0} (loads : S → Load → S → Type 0) (names : List (List ℕ)) (before after : S) : Type 0 where
+  pub count : ℕ
+  pub answers : List FileAnswer
+  pub loaded : AreLoaded loads (take count names) answers before after

@@ -1,7 +1,8 @@
 //! The answer of a call before anything is written: its status, its text and its report.
-ghost use Rattle.std.specs.Prelude.{◌≡◌, ◌≢◌, ◌≤◌, ◌⊎◌, ◌∷◌, [], IfOk, OnErr, None, IfSome, MatchOption, length, map, string_bytes};
+ghost use Rattle.std.specs.Prelude.{◌≡◌, ◌≢◌, ◌≤◌, ◌⊎◌, ◌∷◌, [], IfOk, OnErr, None, IfSome, MatchOption, length, take, map, option_map, string_bytes};
 ghost use Rattle.herm_edge.specs.Faults.{Rose};
-ghost use Rattle.herm_driver.specs.Loads.{load_limit, FirstAreLoaded};
+ghost use Rattle.herm_edge.specs.Shelf.{answer_of, file_at, IfHere, OnMissing, OnFailed, UnlessFailed};
+ghost use Rattle.herm_driver.specs.Loads.{load_limit, load_of, FirstAreLoaded};
 ghost use Rattle.herm_driver.specs.Due.{IsDone, IsRefusal, IsReportOf, IsNotFound, IsUnreadable, IsDueByLoads, IsDueToWords, IsCaused, IsChosen, IsTextStatus};
 ghost use Rattle.herm_driver.specs.Words.{named_files};
 ghost use Rattle.herm_driver.specs.Texts.{console_text, usage_text};
@@ -96,6 +97,23 @@ fn read_fault(alloc: Global, name: &str) -> Result<Answer, AllocError>
     Ok(plain(3, text))
 }
 
+/// Loads a named file, once.
+fn load_named<F: Shelf>(name: &str, shelf: &mut F) -> Loaded
+    ensures loaded { F.loads shelf.old (load_of name.now (answer_of result)) shelf.new }
+    ensures within { IfHere result (λ bytes. length bytes ≤ load_limit) }
+    ensures here { IfHere result (λ bytes. IfSome (F.contents shelf.old)
+        (λ files. option_map (take load_limit) (file_at files name.now) ≡ Some bytes)) }
+    ensures missing { OnMissing result (IfSome (F.contents shelf.old) (λ files. file_at files name.now ≡ None)) }
+    ensures first { FirstAreLoaded F.loads (name.now ∷ []) shelf.old shelf.new }
+    ensures failed { OnFailed result (Rose (F.faults shelf.old) (F.faults shelf.new)) }
+    ensures kept { UnlessFailed result (F.faults shelf.new ≡ F.faults shelf.old) }
+    ensures counted { F.faults shelf.old ≤ F.faults shelf.new }
+    ensures same { F.contents shelf.new ≡ F.contents shelf.old }
+{
+    let loaded = shelf.load(name, load_limit());
+    loaded
+}
+
 /// Loads the named file and answers for it.
 #[tactic(auto, using(crate::proofs::Chosen::load_lemmas))]
 fn answer_for<F: Shelf>(alloc: Global, name: &str, shelf: &mut F) -> Result<Answer, AllocError>
@@ -106,7 +124,7 @@ fn answer_for<F: Shelf>(alloc: Global, name: &str, shelf: &mut F) -> Result<Answ
     ensures counted { F.faults shelf.old ≤ F.faults shelf.new }
     ensures same { F.contents shelf.new ≡ F.contents shelf.old }
 {
-    match shelf.load(name, load_limit()) {
+    match load_named(name, shelf) {
         Loaded::Here(bytes) => {
             let answer = judge(alloc, name, bytes)?;
             Ok(answer)
