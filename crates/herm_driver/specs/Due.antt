@@ -132,3 +132,17 @@ pub record IsAnswer (chooses : ℕ → List ℕ → Type 0) (count after_count :
 abbrev pub IsUnanswered : ℕ → ℕ → Option (List ℕ) → Option (List ℕ) → ℕ → Option Report → Type 0
 IsUnanswered count after_count before after status report =
     (status ≡ 5) × (after ≡ before) × (after_count ≡ count) × (report ≡ None)
+
+-- What a call of the program does, for any shelf and any sink: memory was wanting, or the text that is due to the words, by what
+-- the shelf answered, was written.
+abbrev pub IsAnswered : {S : Type 0} → (S → Load → S → Type 0) → (S → ℕ) → Option (List File) → S → S → List (List ℕ)
+    → (count after_count : ℕ) → (written after_written : Option (List ℕ)) → ℕ → Option Report → Type 0
+IsAnswered loads faults contents before after words count after_count written after_written status report =
+    IsUnanswered count after_count written after_written status report
+    ⊎ IsAnswer (λ chosen text. IsDueToWords loads faults contents before after words chosen text report) count after_count written after_written status
+
+-- the status that the program ends with is that of a call
+abbrev pub EndsWith : {S : Type 0} → (S → Load → S → Type 0) → (S → ℕ) → Option (List File) → S → S → List (List ℕ)
+    → (count after_count : ℕ) → (written after_written : Option (List ℕ)) → ℕ → Type 0
+EndsWith loads faults contents before after words count after_count written after_written status =
+    (report : Option Report) × IsAnswered loads faults contents before after words count after_count written after_written status report

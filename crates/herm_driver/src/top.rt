@@ -2,7 +2,7 @@
 ghost use Rattle.std.specs.Prelude.{◌≡◌, ◌≢◌, ◌≤◌, ◌⊎◌, IfSome, None, MatchOption, map, string_bytes};
 ghost use Rattle.herm_edge.specs.Faults.{Rose};
 ghost use Rattle.herm_driver.specs.Loads.{FirstAreLoaded};
-ghost use Rattle.herm_driver.specs.Due.{IsDueToWords, IsChosen, IsWritten, IsAnswer, IsUnanswered};
+ghost use Rattle.herm_driver.specs.Due.{IsAnswered, IsChosen, IsWritten, IsAnswer, IsUnanswered};
 ghost use Rattle.herm_driver.specs.Words.{named_file, named_files};
 ghost use Rattle.herm_driver.specs.Texts.{usage_text};
 
@@ -41,10 +41,8 @@ pub fn hermes<F: Shelf, S: Sink, G: Gate + Sync>(
     sink: &mut S,
     _gate: &G,
 ) -> Outcome
-    ensures answered {
-        IsUnanswered (S.faults sink.old) (S.faults sink.new) (S.written sink.old) (S.written sink.new) result.status result.report
-        ⊎ IsAnswer (λ status text. IsDueToWords F.loads F.faults (F.contents shelf.old) shelf.old shelf.new (map string_bytes words.now) status text result.report)
-        (S.faults sink.old) (S.faults sink.new) (S.written sink.old) (S.written sink.new) result.status }
+    ensures answered { IsAnswered F.loads F.faults (F.contents shelf.old) shelf.old shelf.new (map string_bytes words.now)
+        (S.faults sink.old) (S.faults sink.new) (S.written sink.old) (S.written sink.new) result.status result.report }
     ensures told { IfSome (F.contents shelf.old) (λ files.
         IsUnanswered (S.faults sink.old) (S.faults sink.new) (S.written sink.old) (S.written sink.new) result.status result.report
         ⊎ IsAnswer (λ status text. IsChosen (map string_bytes words.now) files (Rose (F.faults shelf.old) (F.faults shelf.new)) status text result.report)

@@ -96,11 +96,7 @@ fn read_up_to<F: Read>(alloc: Global, file: &mut Counted<F>, limit: usize) -> Lo
 
 // Loads a file that was opened, or says why it was not. It fails only where a read does, or where opening failed otherwise
 // than by a name that is not there.
-fn load_opened<F: Read>(
-    alloc: Global,
-    opened: &mut io::Result<Counted<F>>,
-    limit: usize,
-) -> Loaded
+fn load_opened<F: Read>(alloc: Global, opened: &mut io::Result<Counted<F>>, limit: usize) -> Loaded
     ensures within { IfHere result (λ bytes. length bytes ≤ limit) }
     ensures start { IfHere result (λ bytes. IsOkAnd opened.old (λ file. IfSome (F.remaining file.reader) (λ all. bytes ≡ take limit all))) }
     ensures missing { OnMissing result (IsErrAnd opened.old (λ e. error_kind e ≡ ErrorKind.NotFound)) }

@@ -1,9 +1,13 @@
 //! The program `hermes`: reads files by their names, writes to standard output, and ends with the call's status.
 #![tactic(auto)]
 
+ghost use Rattle.std.specs.Prelude.{map, string_bytes};
+ghost use Rattle.std.specs.Process.{exit_status};
+ghost use Rattle.herm_driver.specs.Due.{EndsWith};
+
 use herm_driver::hermes;
-use herm_edge::{DirShelf, FreeGate, WriteSink};
-use std::alloc::AllocError;
+use herm_edge::{DirShelf, FreeGate, Gate, Shelf, Sink, WriteSink};
+use std::alloc::{AllocError, Global};
 use std::process::ExitCode;
 use std::rt::Env;
 use std::{env, io};
@@ -17,6 +21,21 @@ fn words<R: Env + AllocGlobal>(rt: &R) -> Result<Vec<String>, AllocError> {
     }
 }
 
+/// Calls the program with these words, over any outside, and ends with the status of the call.
+fn call<F: Shelf, S: Sink, G: Gate + Sync>(
+    alloc: Global,
+    words: &[String],
+    shelf: &mut F,
+    sink: &mut S,
+    gate: &G,
+) -> ExitCode
+    ensures answered { EndsWith F.loads F.faults (F.contents shelf.old) shelf.old shelf.new (map string_bytes words.now)
+        (S.faults sink.old) (S.faults sink.new) (S.written sink.old) (S.written sink.new) (exit_status result) }
+{
+    let outcome = hermes(alloc, words, shelf, sink, gate);
+    ExitCode::from(outcome.status)
+}
+
 fn main(rt: HostRuntime) -> ExitCode {
     let words = match words(&rt) {
         Ok(words) => words,
@@ -24,6 +43,5 @@ fn main(rt: HostRuntime) -> ExitCode {
     };
     let mut shelf = DirShelf::new(&rt);
     let mut sink = WriteSink::new(io::writer(&rt));
-    let outcome = hermes(rt.alloc(), &words, &mut shelf, &mut sink, &FreeGate);
-    ExitCode::from(outcome.status)
+    call(rt.alloc(), &words, &mut shelf, &mut sink, &FreeGate)
 }
