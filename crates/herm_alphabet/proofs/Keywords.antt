@@ -1,13 +1,14 @@
 -- The keyword with given letters, and back. Tests for one keyword and for one sign.
-use Rattle.std.proofs.Common.{◌≡◌, ◌≢◌, ℕ, Bool, true, false, List, [], ◌∷◌, Option, Some, None, refl, sym, ap, ◌∙◌}
-use Rattle.std.specs.Prelude.{IfSome, IfNone, bytes_eq}
+use Rattle.std.proofs.Common.{◌≡◌, ◌≢◌, ℕ, Bool, true, false, List, [], ◌∷◌, length, Option, Some, None, refl, sym, ap, ◌∙◌}
+use Rattle.std.specs.Prelude.{IfSome, IfNone, bytes_eq, filter, nat_eq, slice_index}
 use Rattle.std.specs.List.{find}
 use Rattle.std.proofs.lemmas.Slice.Eq.{bytes_eq-Decides}
+use Rattle.std.proofs.lemmas.Bool.{eq-eqb}
 use denote.Enum.Bare.{same_true, true_same}
 use Rattle.std.proofs.Common.{rules}
 use Rattle.herm_alphabet.specs.contracts.keyword.Keyword.{the_type as the_keyword}
 use Rattle.herm_alphabet.specs.contracts.sign.Mark.{the_type as the_mark}
-use Rattle.herm_alphabet.specs.Letters.{letters, keywords, keyword_of, same_keyword, same_mark}
+use Rattle.herm_alphabet.specs.Letters.{letters, keywords, keyword_of, found_among, starting_with, same_keyword, same_mark}
 use Rattle.herm_alphabet.specs.declared.sign.Mark.{Mark}
 use Rattle.herm_alphabet.specs.declared.keyword.Keyword.{Keyword}
 use Rattle.herm_alphabet.specs.declared.keyword.Keyword.TheVariants.{KwAnd}
@@ -55,3 +56,37 @@ one_mark a b e = same_true the_mark (search rules) a b e
 
 pub own_mark : (m : Mark) → same_mark m m ≡ true
 own_mark m = true_same the_mark m m refl
+
+-- ---- keywords by their first letter
+
+-- what is found among those that pass a test is what is found among all, where what is looked for passes it
+find-filter : {X : Type 0} (p q : X → Bool) → ((x : X) → p x ≡ true → q x ≡ true) → (xs : List X) → find p (filter q xs) ≡ find p xs
+find-filter p q h [] = refl
+find-filter p q h (x ∷ xs) =
+    let choose : (v w : Bool) → p x ≡ v → q x ≡ w → find p (filter q (x ∷ xs)) ≡ find p (x ∷ xs) =
+    λ v w. elim v as (λ v. p x ≡ v → q x ≡ w → find p (filter q (x ∷ xs)) ≡ find p (x ∷ xs)) [
+      | true ↦ λ pv qw. rw (h x pv, pv) refl
+      | false ↦ elim w as (λ w. p x ≡ false → q x ≡ w → find p (filter q (x ∷ xs)) ≡ find p (x ∷ xs)) [
+        | true ↦ λ pv qw. rw (qw, pv, find-filter p q h xs) refl
+        | false ↦ λ pv qw. rw (qw, pv, find-filter p q h xs) refl
+      ]
+    ]
+    in
+    choose (p x) (q x) refl refl
+
+same_first : (text : List ℕ) (k : Keyword) → bytes_eq (letters k) text ≡ true → nat_eq (slice_index (letters k) 0) (slice_index text 0) ≡ true
+same_first text k e =
+    let same : letters k ≡ text = (bytes_eq-Decides (letters k) text).0 e in
+    rw same (eq-eqb (slice_index text 0) (slice_index text 0) refl)
+
+-- the keyword with given letters is found among those with its first letter
+pub found-first : (text : List ℕ) → found_among (starting_with (slice_index text 0)) text ≡ keyword_of text
+unfolding keyword_of starting_with
+found-first text = find-filter (λ k. bytes_eq (letters k) text) (λ k. nat_eq (slice_index (letters k) 0) (slice_index text 0)) (same_first text) keywords
+
+pub no_keyword : (text : List ℕ) → length text ≡ 0 → None ≡ keyword_of text
+unfolding keyword_of
+no_keyword [] e = refl
+no_keyword (b ∷ bs) e = absurd cc
+
+pub ruleset first_letters = (found-first, no_keyword)

@@ -1,5 +1,5 @@
 -- The letters of keywords and signs (Language reference, "Tokens").
-use Rattle.std.specs.Prelude.{ℕ, Bool, List, [], ◌∷◌, codes, Option, bytes_eq}
+use Rattle.std.specs.Prelude.{ℕ, Bool, List, [], ◌∷◌, codes, Option, bytes_eq, filter, nat_eq, slice_index}
 use denote.Enum.Bare.{sameb}
 use Rattle.std.specs.List.{find}
 use Rattle.herm_alphabet.specs.declared.keyword.Keyword.{Keyword}
@@ -103,9 +103,17 @@ characters Minus = codes "-"
 characters Star = codes "*"
 characters Ampersand = codes "&"
 
+-- the first of some keywords with these letters
+abbrev pub found_among : List Keyword → List ℕ → Option Keyword
+found_among some text = find (λ k. bytes_eq (letters k) text) some
+
 -- the keyword with these letters
 unfoldable pub keyword_of : List ℕ → Option Keyword
-keyword_of text = find (λ k. bytes_eq (letters k) text) keywords
+keyword_of text = found_among keywords text
+
+-- the keywords that begin with a letter, in alphabetical order
+unfoldable pub starting_with : ℕ → List Keyword
+starting_with first = filter (λ k. nat_eq (slice_index (letters k) 0) first) keywords
 
 -- whether two keywords are one, and whether two signs are
 abbrev pub same_keyword : Keyword → Keyword → Bool
