@@ -1,5 +1,5 @@
 //! Straight-line programs, their refusals, and the limits of the form and of its tokens.
-use crate::{CompileFault, compile};
+use crate::{CompileFault, Fact, Fault, MissingFact, Outcome, compile};
 use herm_base::Word;
 use std::alloc::{AllocError, Global};
 use std::test::Fail;
@@ -17,10 +17,7 @@ fn answer(alloc: Global, bytes: &[u8]) -> Result<String, AllocError> {
         Err(CompileFault::Refused(faults)) => {
             let mut text = String::new(alloc);
             for fault in faults.as_slice() {
-                let line = fault.line;
-                let column = fault.column;
-                let code = fault.code;
-                write_fault(alloc, &mut text, line, column, code, fault.words.bytes())?;
+                write_fault(alloc, &mut text, fault)?;
             }
             Ok(text)
         }
@@ -28,20 +25,46 @@ fn answer(alloc: Global, bytes: &[u8]) -> Result<String, AllocError> {
     }
 }
 
-fn write_fault(
-    alloc: Global,
-    text: &mut String,
-    line: u32,
-    column: u32,
-    code: u8,
-    words: &[u8],
-) -> Result<(), AllocError> {
-    let place = format!(in alloc; "{line}:{column}: F{code} ")?;
+/// The file's number, the place, the code, the words, and the missing fact.
+fn write_fault(alloc: Global, text: &mut String, fault: &Fault) -> Result<(), AllocError> {
+    let file = fault.file;
+    let line = fault.line;
+    let column = fault.column;
+    let code = fault.code;
+    let place = format!(in alloc; "{file}/{line}:{column}: F{code} ")?;
     text.push_str(place.as_str())?;
-    for byte in words {
+    for byte in fault.words.bytes() {
         text.push(*byte as char)?;
     }
+    match &fault.missing {
+        Some(missing) => write_missing(alloc, text, missing)?,
+        None => {}
+    }
     text.push('|')
+}
+
+/// The statement, the kind of fact, its variable, how many parts it goes down, and the numbers on the path to it.
+fn write_missing(
+    alloc: Global,
+    text: &mut String,
+    missing: &MissingFact,
+) -> Result<(), AllocError> {
+    let at = missing.stmt.0;
+    let (kind, path) = match &missing.fact {
+        Fact::Init(path) => ("init", path),
+        Fact::Case(path, _) => ("case", path),
+    };
+    let variable = path.var.0;
+    let down = path.parts.len();
+    let fact = format!(in alloc; " ({at} {kind} {variable} {down}:")?;
+    text.push_str(fact.as_str())?;
+    for hop in &missing.by {
+        let number = hop.stmt.0;
+        let how = if hop.outcome == Outcome::Ok { "" } else { "?" };
+        let step = format!(in alloc; " {number}{how}")?;
+        text.push_str(step.as_str())?;
+    }
+    text.push(')')
 }
 
 #[test]
@@ -52,28 +75,28 @@ fn refusals_have_their_places_and_paths(rt: HostRuntime) -> Result<(), Fail> {
         ("  s := \"hi\";\n  send s to m.out;\n}\n", "1 3"),
         (
             "  send s to m.out;\n}\n",
-            "4:3: F13 needs init(s) by start 1:ok|",
+            "0/4:3: F13 needs init(s) by start 1:ok (2 init 2 0: 1)|",
         ),
         (
             "  s := \"hi\";\n  send s to m.out;\n  send s to m.out;\n}\n",
-            "6:3: F13 needs init(s) by start 1:ok 2:ok 3:ok|",
+            "0/6:3: F13 needs init(s) by start 1:ok 2:ok 3:ok (4 init 2 0: 1 2 3)|",
         ),
         ("}", "1 1"),
         (
             "discard s;\r\n\t s := \"~ !\"; discard s; \n\n\t discard s; }",
-            "4:1: F13 needs init(s) by start 1:ok|7:3: F13 needs init(s) by start 1:ok 2:ok 3:ok 4:ok|",
+            "0/4:1: F13 needs init(s) by start 1:ok (2 init 2 0: 1)|0/7:3: F13 needs init(s) by start 1:ok 2:ok 3:ok 4:ok (5 init 2 0: 1 2 3 4)|",
         ),
         ("s := \"a\\n\\\"\\\\\";\n}", "1 2"),
         ("-- hello\n}", "1 1"),
         ("s := \"a\" -- \"\n;-- }\n}--", "1 2"),
-        ("s := \"a\\t\";\n}", "4:6: F2 token|"),
-        ("s : = \"a\";\n}", "1:1: F12 not built|"),
-        ("t := \"a\";\n}", "1:1: F12 not built|"),
-        ("receive m from start;\n}", "1:1: F12 not built|"),
-        ("} }", "1:1: F12 not built|"),
-        ("send s to m.outport;\n}", "1:1: F12 not built|"),
-        ("s := 7;\n}", "1:1: F12 not built|"),
-        ("", "1:1: F12 not built|"),
+        ("s := \"a\\t\";\n}", "0/4:6: F2 token|"),
+        ("s : = \"a\";\n}", "0/1:1: F12 not built|"),
+        ("t := \"a\";\n}", "0/1:1: F12 not built|"),
+        ("receive m from start;\n}", "0/1:1: F12 not built|"),
+        ("} }", "0/1:1: F12 not built|"),
+        ("send s to m.outport;\n}", "0/1:1: F12 not built|"),
+        ("s := 7;\n}", "0/1:1: F12 not built|"),
+        ("", "0/1:1: F12 not built|"),
     ];
     for (body, expected) in cases {
         let mut file = String::from_str(rt.alloc(), head)?;
@@ -85,20 +108,40 @@ fn refusals_have_their_places_and_paths(rt: HostRuntime) -> Result<(), Fail> {
 }
 
 #[test]
+fn names_that_are_taken_are_not_built(rt: HostRuntime) -> Result<(), Fail> {
+    let built = "0/1:1: F12 not built|";
+    let cases = [
+        ("s: string, t: string", "2 2"),
+        ("s: string, s: string", built),
+        ("s: string, t: string, s: string", built),
+        ("m: string, s: string", built),
+        ("s: string, start: string", built),
+    ];
+    for (declared, expected) in cases {
+        let file = format!(in rt.alloc();
+            "process main(start: main_start) {{ var m: main_message, {declared}; receive m from start; s := \"a\"; }}"
+        )?;
+        let found = answer(rt.alloc(), file.as_bytes())?;
+        assert_eq!(rt; found.as_str(), expected, "{declared}");
+    }
+    Ok(())
+}
+
+#[test]
 fn a_fault_of_the_bytes_is_the_one_refusal(rt: HostRuntime) -> Result<(), Fail> {
     let cases: [(&[u8], &str); 9] = [
         (
             b"process main(start: main_start) { n := 00; }",
-            "1:40: F2 token|",
+            "0/1:40: F2 token|",
         ),
-        (b"\xff", "1:1: F1 byte|"),
-        (b"\n\n -- \x7f 12a", "3:5: F1 byte|"),
-        (b"12a", "1:1: F2 token|"),
-        (b"process\n\t\"main", "2:2: F2 token|"),
-        (b"12a \xff", "1:1: F2 token|"),
-        (b"9223372036854775808", "1:1: F3 too long|"),
-        (b"9223372036854775807", "1:1: F12 not built|"),
-        (b"", "1:1: F12 not built|"),
+        (b"\xff", "0/1:1: F1 byte|"),
+        (b"\n\n -- \x7f 12a", "0/3:5: F1 byte|"),
+        (b"12a", "0/1:1: F2 token|"),
+        (b"process\n\t\"main", "0/2:2: F2 token|"),
+        (b"12a \xff", "0/1:1: F2 token|"),
+        (b"9223372036854775808", "0/1:1: F3 too long|"),
+        (b"9223372036854775807", "0/1:1: F12 not built|"),
+        (b"", "0/1:1: F12 not built|"),
     ];
     for (bytes, expected) in cases {
         let found = answer(rt.alloc(), bytes)?;
@@ -151,16 +194,16 @@ fn push_name(
 
 #[test]
 fn each_limit_is_taken_and_no_more(rt: HostRuntime) -> Result<(), Fail> {
-    let built = "1:1: F12 not built|";
+    let built = "0/1:1: F12 not built|";
     let cases = [
         ((1, 1, 1023, 1), "1 1024"),
         ((1, 1, 1024, 1), built),
         ((4000, 1, 1, 1), "4000 2"),
         ((4001, 1, 1, 1), built),
         ((1, 58, 1, 1), "1 2"),
-        ((1, 59, 1, 1), "1:51: F3 too long|"),
+        ((1, 59, 1, 1), "0/1:51: F3 too long|"),
         ((1, 1, 1, 4096), "1 2"),
-        ((1, 1, 1, 4097), "1:96: F3 too long|"),
+        ((1, 1, 1, 4097), "0/1:96: F3 too long|"),
     ];
     for ((names, letters, statements, text), expected) in cases {
         let file = sized(rt.alloc(), names, letters, statements, text)?;
@@ -183,9 +226,9 @@ fn a_file_has_its_most_bytes_and_no_more(rt: HostRuntime) -> Result<(), Fail> {
     assert_eq!(rt; answer(rt.alloc(), file.as_slice())?.as_str(), "1 2");
     file.push(b' ')?;
     let found = answer(rt.alloc(), file.as_slice())?;
-    assert_eq!(rt; found.as_str(), "1:1048577: F3 too long|");
+    assert_eq!(rt; found.as_str(), "0/1:1048577: F3 too long|");
     file[0] = b'_';
     let found = answer(rt.alloc(), file.as_slice())?;
-    assert_eq!(rt; found.as_str(), "1:1: F2 token|");
+    assert_eq!(rt; found.as_str(), "0/1:1: F2 token|");
     Ok(())
 }

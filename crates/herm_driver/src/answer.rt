@@ -1,9 +1,10 @@
 //! The answer of a call before anything is written: its status, its text and its report.
-ghost use Rattle.std.specs.Prelude.{◌≡◌, ◌≢◌, ◌≤◌, ◌⊎◌, ◌↔◌, IfOk, IfSome, Some, None, length, map, string_bytes};
+ghost use Rattle.std.specs.Prelude.{◌≡◌, ◌≢◌, ◌≤◌, ◌⊎◌, ◌∷◌, [], IfOk, OnErr, None, IfSome, MatchOption, length, take, map, option_map, string_bytes};
 ghost use Rattle.herm_edge.specs.Faults.{Rose};
-ghost use Rattle.herm_edge.specs.Shelf.{file_at};
-ghost use Rattle.herm_driver.specs.Due.{load_limit, IsDone, IsRefusal, IsReportOf, IsDueTo, IsReadFault, IsChosen, IsTextStatus};
-ghost use Rattle.herm_driver.specs.Words.{named_file};
+ghost use Rattle.herm_edge.specs.Shelf.{answer_of, file_at, IfHere, OnMissing, OnFailed, UnlessFailed};
+ghost use Rattle.herm_driver.specs.Loads.{load_limit, load_of, FirstAreLoaded};
+ghost use Rattle.herm_driver.specs.Due.{IsDone, IsRefusal, IsReportOf, IsNotFound, IsUnreadable, IsDueByLoads, IsDueToWords, IsCaused, IsChosen, IsTextStatus};
+ghost use Rattle.herm_driver.specs.Words.{named_files};
 ghost use Rattle.herm_driver.specs.Texts.{console_text, usage_text};
 ghost use Rattle.herm_world.specs.Lines.{sent};
 ghost use Rattle.herm_world.specs.StraightRuns.{IsRunnable};
@@ -17,7 +18,7 @@ use herm_world::{Report, run_lines};
 use std::alloc::{AllocError, Global};
 
 /// How much of a file is loaded: one byte more than a source file may have.
-#[tactic(auto, unfolding(crate::specs::Due::load_limit))]
+#[tactic(auto, unfolding(crate::specs::Loads::load_limit))]
 fn load_limit() -> usize
     ensures { result ≡ load_limit }
 {
@@ -82,7 +83,7 @@ fn judge(alloc: Global, name: &str, bytes: Vec<u8>) -> Result<Answer, AllocError
 
 /// Says that no file has the name.
 fn not_found(alloc: Global, name: &str) -> Result<Answer, AllocError>
-    ensures due { IfOk result (λ a. IsDueTo name.now None a.status a.text.items a.report) }
+    ensures due { IfOk result (λ a. IsNotFound name.now a.status a.text.items a.report) }
 {
     let text = file_line(alloc, name.as_bytes(), b": not found\n")?;
     Ok(plain(10, text))
@@ -90,25 +91,40 @@ fn not_found(alloc: Global, name: &str) -> Result<Answer, AllocError>
 
 /// Says that the file could not be read.
 fn read_fault(alloc: Global, name: &str) -> Result<Answer, AllocError>
-    ensures due { IfOk result (λ a. IsReadFault (Some name.now) a.status a.text.items a.report) }
+    ensures due { IfOk result (λ a. IsUnreadable name.now a.status a.text.items a.report) }
 {
     let text = file_line(alloc, name.as_bytes(), b": read fault\n")?;
     Ok(plain(3, text))
 }
 
+/// Loads a named file, once.
+fn load_named<F: Shelf>(name: &str, shelf: &mut F) -> Loaded
+    ensures loaded { F.loads shelf.old (load_of name.now (answer_of result)) shelf.new }
+    ensures within { IfHere result (λ bytes. length bytes ≤ load_limit) }
+    ensures here { IfHere result (λ bytes. IfSome (F.contents shelf.old)
+        (λ files. option_map (take load_limit) (file_at files name.now) ≡ Some bytes)) }
+    ensures missing { OnMissing result (IfSome (F.contents shelf.old) (λ files. file_at files name.now ≡ None)) }
+    ensures first { FirstAreLoaded F.loads (name.now ∷ []) shelf.old shelf.new }
+    ensures failed { OnFailed result (Rose (F.faults shelf.old) (F.faults shelf.new)) }
+    ensures kept { UnlessFailed result (F.faults shelf.new ≡ F.faults shelf.old) }
+    ensures counted { F.faults shelf.old ≤ F.faults shelf.new }
+    ensures same { F.contents shelf.new ≡ F.contents shelf.old }
+{
+    let loaded = shelf.load(name, load_limit());
+    loaded
+}
+
 /// Loads the named file and answers for it.
-#[tactic(auto, using(crate::proofs::Chosen::chosen_lemmas))]
+#[tactic(auto, using(crate::proofs::Chosen::load_lemmas))]
 fn answer_for<F: Shelf>(alloc: Global, name: &str, shelf: &mut F) -> Result<Answer, AllocError>
-    ensures due { IfOk result (λ a. IfSome (F.contents shelf.old) (λ files.
-        IsDueTo name.now (file_at files name.now) a.status a.text.items a.report
-        ⊎ (Rose (F.faults shelf.old) (F.faults shelf.new) × IsReadFault (Some name.now) a.status a.text.items a.report))) }
-    ensures cause { IfOk result (λ a. a.status ≡ 3 → Rose (F.faults shelf.old) (F.faults shelf.new)) }
+    ensures due { IfOk result (λ a. IsDueByLoads F.loads F.faults (F.contents shelf.old) shelf.old shelf.new (name.now ∷ []) a.status a.text.items a.report) }
+    ensures memory { OnErr result (FirstAreLoaded F.loads (name.now ∷ []) shelf.old shelf.new) }
     ensures words { IfOk result (λ a. a.status ≢ 2) }
     ensures written_only { IfOk result (λ a. IsTextStatus a.status) }
     ensures counted { F.faults shelf.old ≤ F.faults shelf.new }
     ensures same { F.contents shelf.new ≡ F.contents shelf.old }
 {
-    match shelf.load(name, load_limit()) {
+    match load_named(name, shelf) {
         Loaded::Here(bytes) => {
             let answer = judge(alloc, name, bytes)?;
             Ok(answer)
@@ -126,18 +142,17 @@ fn answer_for<F: Shelf>(alloc: Global, name: &str, shelf: &mut F) -> Result<Answ
 }
 
 /// The answer to the words of a call.
-#[tactic(auto, using(crate::proofs::Chosen::chosen_lemmas))]
+#[tactic(auto, using(crate::proofs::Chosen::word_lemmas))]
 pub fn answer_to<F: Shelf>(
     alloc: Global,
     words: &[String],
     shelf: &mut F,
 ) -> Result<Answer, AllocError>
-    ensures chosen { IfOk result (λ a. IfSome (F.contents shelf.old) (λ files.
+    ensures due { IfOk result (λ a. IsDueToWords F.loads F.faults (F.contents shelf.old) shelf.old shelf.new (map string_bytes words.now) a.status a.text.items a.report) }
+    ensures told { IfOk result (λ a. IfSome (F.contents shelf.old) (λ files.
         IsChosen (map string_bytes words.now) files (Rose (F.faults shelf.old) (F.faults shelf.new)) a.status a.text.items a.report)) }
-    ensures usage { IfOk result (λ a. (a.status ≡ 2) ↔ (named_file (map string_bytes words.now) ≡ None)) }
-    ensures usage_text { IfOk result (λ a. a.status ≡ 2 → a.text.items ≡ usage_text) }
-    ensures usage_report { IfOk result (λ a. a.status ≡ 2 → a.report ≡ None) }
-    ensures cause { IfOk result (λ a. a.status ≡ 3 → Rose (F.faults shelf.old) (F.faults shelf.new)) }
+    ensures caused { IfOk result (λ a. IsCaused (F.faults shelf.old) (F.faults shelf.new) a.status) }
+    ensures memory { OnErr result (MatchOption (named_files (map string_bytes words.now)) (shelf.new ≡ shelf.old) (λ names. FirstAreLoaded F.loads names shelf.old shelf.new)) }
     ensures written_only { IfOk result (λ a. IsTextStatus a.status) }
     ensures counted { F.faults shelf.old ≤ F.faults shelf.new }
     ensures same { F.contents shelf.new ≡ F.contents shelf.old }

@@ -1,8 +1,9 @@
 //! The program's top call.
-ghost use Rattle.std.specs.Prelude.{◌≡◌, ◌≤◌, ◌⊎◌, IfSome, None, map, string_bytes};
+ghost use Rattle.std.specs.Prelude.{◌≡◌, ◌≢◌, ◌≤◌, ◌⊎◌, IfSome, None, MatchOption, map, string_bytes};
 ghost use Rattle.herm_edge.specs.Faults.{Rose};
-ghost use Rattle.herm_driver.specs.Due.{IsChosen, IsWritten, IsAnswer, IsUnanswered};
-ghost use Rattle.herm_driver.specs.Words.{named_file};
+ghost use Rattle.herm_driver.specs.Loads.{FirstAreLoaded};
+ghost use Rattle.herm_driver.specs.Due.{IsAnswered, IsChosen, IsWritten, IsAnswer, IsUnanswered};
+ghost use Rattle.herm_driver.specs.Words.{named_file, named_files};
 ghost use Rattle.herm_driver.specs.Texts.{usage_text};
 
 use crate::Outcome;
@@ -12,7 +13,7 @@ use std::alloc::Global;
 
 /// Writes the text of an answer, whole unless the sink fails.
 fn write<S: Sink>(sink: &mut S, answer: Answer) -> Outcome
-    ensures written { IsWritten (Rose (S.faults sink.old) (S.faults sink.new)) (S.written sink.old) (S.written sink.new)
+    ensures written { IsWritten (S.faults sink.old) (S.faults sink.new) (S.written sink.old) (S.written sink.new)
         result.status answer.status answer.text.items }
     ensures report { result.report ≡ answer.report }
     ensures aside { result.aside ≡ None }
@@ -40,18 +41,22 @@ pub fn hermes<F: Shelf, S: Sink, G: Gate + Sync>(
     sink: &mut S,
     _gate: &G,
 ) -> Outcome
-    ensures answered { IfSome (F.contents shelf.old) (λ files.
-        IsUnanswered (S.written sink.old) (S.written sink.new) result.status result.report
+    ensures answered { IsAnswered F.loads F.faults (F.contents shelf.old) shelf.old shelf.new (map string_bytes words.now)
+        (S.faults sink.old) (S.faults sink.new) (S.written sink.old) (S.written sink.new) result.status result.report }
+    ensures told { IfSome (F.contents shelf.old) (λ files.
+        IsUnanswered (S.faults sink.old) (S.faults sink.new) (S.written sink.old) (S.written sink.new) result.status result.report
         ⊎ IsAnswer (λ status text. IsChosen (map string_bytes words.now) files (Rose (F.faults shelf.old) (F.faults shelf.new)) status text result.report)
-        (Rose (S.faults sink.old) (S.faults sink.new)) (S.written sink.old) (S.written sink.new)
-        result.status) }
+        (S.faults sink.old) (S.faults sink.new) (S.written sink.old) (S.written sink.new) result.status) }
     ensures usage { named_file (map string_bytes words.now) ≡ None →
-        (IsUnanswered (S.written sink.old) (S.written sink.new) result.status result.report
-        ⊎ IsWritten (Rose (S.faults sink.old) (S.faults sink.new)) (S.written sink.old) (S.written sink.new)
+        (IsUnanswered (S.faults sink.old) (S.faults sink.new) (S.written sink.old) (S.written sink.new) result.status result.report
+        ⊎ IsWritten (S.faults sink.old) (S.faults sink.new) (S.written sink.old) (S.written sink.new)
         result.status 2 usage_text) }
     ensures usage_only { result.status ≡ 2 → named_file (map string_bytes words.now) ≡ None }
     ensures read_fault { result.status ≡ 3 → Rose (F.faults shelf.old) (F.faults shelf.new) }
     ensures write_fault { result.status ≡ 4 → Rose (S.faults sink.old) (S.faults sink.new) }
+    ensures shelf_kept { result.status ≢ 3 → result.status ≢ 4 → result.status ≢ 5 → F.faults shelf.new ≡ F.faults shelf.old }
+    ensures sink_kept { result.status ≢ 4 → S.faults sink.new ≡ S.faults sink.old }
+    ensures asked { result.status ≡ 5 → MatchOption (named_files (map string_bytes words.now)) (shelf.new ≡ shelf.old) (λ names. FirstAreLoaded F.loads names shelf.old shelf.new) }
     ensures memory { result.status ≡ 5 → S.written sink.new ≡ S.written sink.old }
     ensures shelf_counted { F.faults shelf.old ≤ F.faults shelf.new }
     ensures sink_counted { S.faults sink.old ≤ S.faults sink.new }

@@ -10,10 +10,31 @@ pub record File : Type 0 where
   pub name : List ℕ
   pub bytes : List ℕ
 
+-- What a load answered: the first bytes of the file, that no file has the name, that the file could not be read, or that
+-- memory was wanting.
+pub data FileAnswer : Type 0 where
+  given : List ℕ → FileAnswer
+  not_there : FileAnswer
+  not_read : FileAnswer
+  no_memory : FileAnswer
+
+-- a load of a file: the name that was asked for, how many bytes at most, and what was answered
+pub record Load : Type 0 where
+  pub name : List ℕ
+  pub limit : ℕ
+  pub answer : FileAnswer
+
 -- the bytes of the file with this name, if there is one; of several the first counts
 abbrev pub file_at : List File → List ℕ → Option (List ℕ)
 file_at [] name = None
 file_at (file ∷ files) name = if bytes_eq file.name name then Some file.bytes else file_at files name
+
+-- what a load answered, as a list of bytes
+abbrev pub answer_of : Loaded → FileAnswer
+answer_of (Here bytes) = given bytes.items
+answer_of Missing = not_there
+answer_of Failed = not_read
+answer_of Memory = no_memory
 
 -- a fact about the bytes that were loaded
 abbrev pub IfHere : Loaded → (List ℕ → Type 0) → Type 0
@@ -36,9 +57,16 @@ OnFailed Missing P = Unit {0}
 OnFailed Failed P = P
 OnFailed Memory P = Unit {0}
 
--- a count of faults after a load with this answer: one higher where it failed
-abbrev pub faults_after : Loaded → ℕ → ℕ
-faults_after (Here bytes) faults = faults
-faults_after Missing faults = faults
-faults_after Failed faults = next_count faults
-faults_after Memory faults = faults
+-- a fact where the load did not fail
+abbrev pub UnlessFailed : Loaded → Type 0 → Type 0
+UnlessFailed (Here bytes) P = P
+UnlessFailed Missing P = P
+UnlessFailed Failed P = Unit {0}
+UnlessFailed Memory P = P
+
+-- a count of faults after a load with this answer: one higher where the file could not be read
+abbrev pub faults_after : FileAnswer → ℕ → ℕ
+faults_after (given bytes) faults = faults
+faults_after not_there faults = faults
+faults_after not_read faults = next_count faults
+faults_after no_memory faults = faults

@@ -1,14 +1,17 @@
 // A shelf over the system's files.
-ghost use Rattle.std.specs.Prelude.{◌≡◌, ℕ, ◌<◌, ◌≤◌, Some, None, option_map, List, ◌++◌, length, take, vec_len, IfOk, OnOk, IfSome};
+ghost use Rattle.std.specs.Prelude.{◌≡◌, ◌≢◌, ℕ, ◌+◌, ◌<◌, ◌≤◌, Some, None, option_map, List, ◌++◌, length, take, vec_len, IfOk, OnOk, IfErr, IsOkAnd, IsErrAnd, IfSome};
 ghost use Rattle.std.specs.Io.KnownBytes.{Consumes, IsAtEnd};
+ghost use Rattle.std.specs.IoError.{error_kind};
 ghost use Rattle.herm_edge.specs.Faults.{Rose};
-ghost use Rattle.herm_edge.specs.Shelf.{file_at, faults_after, IfHere, OnMissing, OnFailed};
+ghost use Rattle.herm_edge.specs.Reader.{FailsToLoad};
+ghost use Rattle.herm_edge.specs.Shelf.{file_at, answer_of, faults_after, IfHere, OnMissing, OnFailed, UnlessFailed};
 
 use crate::calls::next_count;
+use crate::counted::Counted;
 use crate::{Loaded, Shelf};
 use std::alloc::Global;
 use std::fs;
-use std::io::{ErrorKind, Read};
+use std::io::{self, ErrorKind, Read};
 use std::marker::Model;
 use std::rt::Files;
 
@@ -45,34 +48,42 @@ enum Stop {
 }
 
 // Reads some of the bytes that are left, up to the limit, and answers how many.
-fn read_some<F: Read>(file: &mut F, limit: usize, bytes: &mut Vec<u8>) -> Result<usize, Stop>
+fn read_some<F: Read>(
+    file: &mut Counted<F>,
+    limit: usize,
+    bytes: &mut Vec<u8>,
+) -> Result<usize, Stop>
     requires { vec_len bytes.old < limit }
     ensures within { vec_len bytes.new ≤ limit }
+    ensures grows { IfOk result (λ n. vec_len bytes.new ≡ vec_len bytes.old + n) }
     ensures read { OnOk result ((more : List ℕ) × (bytes.new.items ≡ bytes.old.items ++ more)
-        × Consumes (F.remaining file.old) (F.remaining file.new) more) }
-    ensures end { IfOk result (λ n. n ≡ 0 → IsAtEnd (F.remaining file.new)) }
+        × Consumes (F.remaining file.old.reader) (F.remaining file.new.reader) more) }
+    ensures end { IfOk result (λ n. n ≡ 0 → IsAtEnd (F.remaining file.new.reader)) }
+    ensures failed { IfErr result (λ stop. stop ≡ Stop.Fault → Rose file.old.faults file.new.faults) }
+    ensures kept { OnOk result (file.new.faults ≡ file.old.faults) }
+    ensures unread { IfErr result (λ stop. stop ≡ Stop.Memory → file.new.faults ≡ file.old.faults) }
 {
     let mut part = [0u8; 4096];
     let room = part.len().min(limit - bytes.len());
     match file.read(&mut part[..room]) {
-        Ok(n) => match bytes.extend_from_slice(&part[..n]) {
+        Some(n) => match bytes.extend_from_slice(&part[..n]) {
             Ok(()) => Ok(n),
             Err(_) => Err(Stop::Memory),
         },
-        Err(_) => Err(Stop::Fault),
+        None => Err(Stop::Fault),
     }
 }
 
 // The first bytes that a reader has left, up to the limit.
-fn read_up_to<F: Read>(alloc: Global, file: &mut F, limit: usize) -> Loaded
+fn read_up_to<F: Read>(alloc: Global, file: &mut Counted<F>, limit: usize) -> Loaded
     ensures within { IfHere result (λ bytes. length bytes ≤ limit) }
-    ensures start { IfHere result (λ bytes. IfSome (F.remaining file.old) (λ all. bytes ≡ take limit all)) }
+    ensures start { IfHere result (λ bytes. IfSome (F.remaining file.old.reader) (λ all. bytes ≡ take limit all)) }
+    ensures there { OnMissing result ⊥ }
+    ensures failed { OnFailed result (Rose file.old.faults file.new.faults) }
+    ensures kept { UnlessFailed result (file.new.faults ≡ file.old.faults) }
 {
     let mut bytes = Vec::new(alloc);
-    for _ in 0..u64::MAX {
-        if bytes.len() == limit {
-            return Loaded::Here(bytes);
-        }
+    while bytes.len() < limit {
         match read_some(file, limit, &mut bytes) {
             Ok(0) => return Loaded::Here(bytes),
             Ok(_) => {}
@@ -80,18 +91,32 @@ fn read_up_to<F: Read>(alloc: Global, file: &mut F, limit: usize) -> Loaded
             Err(Stop::Memory) => return Loaded::Memory,
         }
     }
-    Loaded::Failed
+    Loaded::Here(bytes)
+}
+
+// Loads a file that was opened, or says why it was not. It fails only where a read does, or where opening failed otherwise
+// than by a name that is not there.
+fn load_opened<F: Read>(alloc: Global, opened: &mut io::Result<Counted<F>>, limit: usize) -> Loaded
+    ensures within { IfHere result (λ bytes. length bytes ≤ limit) }
+    ensures start { IfHere result (λ bytes. IsOkAnd opened.old (λ file. IfSome (F.remaining file.reader) (λ all. bytes ≡ take limit all))) }
+    ensures missing { OnMissing result (IsErrAnd opened.old (λ e. error_kind e ≡ ErrorKind.NotFound)) }
+    ensures absent { IfErr opened.old (λ e. error_kind e ≡ ErrorKind.NotFound → result ≡ Loaded.Missing) }
+    ensures unopened { IfErr opened.old (λ e. error_kind e ≢ ErrorKind.NotFound → result ≡ Loaded.Failed) }
+    ensures failed { OnFailed result (FailsToLoad opened.old opened.new) }
+{
+    match opened {
+        Ok(file) => read_up_to(alloc, file, limit),
+        Err(e) if e.kind() == ErrorKind::NotFound => Loaded::Missing,
+        Err(_) => Loaded::Failed,
+    }
 }
 
 // Loads a file, and counts no fault.
 fn load_file<R: Files + AllocGlobal>(rt: &R, name: &str, limit: usize) -> Loaded
     ensures { IfHere result (λ bytes. length bytes ≤ limit) }
 {
-    match fs::open(rt, name) {
-        Ok(mut file) => read_up_to(rt.alloc(), &mut file, limit),
-        Err(e) if e.kind() == ErrorKind::NotFound => Loaded::Missing,
-        Err(_) => Loaded::Failed,
-    }
+    let mut opened = fs::open(rt, name).map(Counted::new);
+    load_opened(rt.alloc(), &mut opened, limit)
 }
 
 impl<'a, R: Files + AllocGlobal> Shelf for DirShelf<'a, R> {
@@ -99,13 +124,16 @@ impl<'a, R: Files + AllocGlobal> Shelf for DirShelf<'a, R> {
 
     ghost faults = { λ s. s };
 
+    ghost loads = { λ before load after. after ≡ faults_after load.answer before };
+
     fn load(&mut self, name: &str, limit: usize) -> Loaded
-        ensures count { self.new ≡ faults_after result self.old }
         ensures within { IfHere result (λ bytes. length bytes ≤ limit) }
         ensures here { IfHere result (λ bytes. IfSome None
             (λ files. option_map (take limit) (file_at files name.now) ≡ Some bytes)) }
         ensures missing { OnMissing result (IfSome None (λ files. file_at files name.now ≡ None)) }
         ensures failed { OnFailed result (Rose self.old self.new) }
+        ensures kept { UnlessFailed result (self.new ≡ self.old) }
+        ensures loaded { self.new ≡ faults_after (answer_of result) self.old }
         ensures never_falls { self.old ≤ self.new }
     {
         let answer = load_file(self.rt, name, limit);

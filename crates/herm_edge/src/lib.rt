@@ -5,6 +5,7 @@
 #![tactic(auto)]
 
 mod calls;
+mod counted;
 mod dir_shelf;
 mod gate;
 mod mem_shelf;

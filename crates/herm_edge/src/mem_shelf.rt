@@ -2,7 +2,7 @@
 ghost use Rattle.std.specs.Prelude.{◌≡◌, ◌≤◌, Some, None, map, length, take, option_map, IfSome, MatchOption, IsTrue, IsFalse};
 ghost use Rattle.herm_edge.specs.declared.shelf.Loaded.TheVariants.{Failed};
 ghost use Rattle.herm_edge.specs.Faults.{Rose, is_next_failing};
-ghost use Rattle.herm_edge.specs.Shelf.{file_at, IfHere, OnMissing, OnFailed};
+ghost use Rattle.herm_edge.specs.Shelf.{file_at, IfHere, OnMissing, OnFailed, UnlessFailed};
 ghost use Rattle.herm_edge.specs.MemShelf.{ShelfState, file_of, after_load, AnswersFiles};
 
 use crate::calls::{begin_call, next_count};
@@ -77,8 +77,9 @@ impl Shelf for MemShelf {
 
     ghost faults = { λ s. s.faults };
 
+    ghost loads = { λ before load after. after ≡ after_load before };
+
     fn load(&mut self, name: &str, limit: usize) -> Loaded
-        ensures state { self.new ≡ after_load self.old }
         ensures fails { IsTrue (is_next_failing self.old.failing self.old.calls) → result ≡ Failed }
         ensures answer { IsFalse (is_next_failing self.old.failing self.old.calls) → AnswersFiles self.old.files name.now limit result }
         ensures within { IfHere result (λ bytes. length bytes ≤ limit) }
@@ -87,7 +88,9 @@ impl Shelf for MemShelf {
         ensures missing { OnMissing result (IfSome (Some self.old.files)
             (λ files. file_at files name.now ≡ None)) }
         ensures failed { OnFailed result (Rose self.old.faults self.new.faults) }
+        ensures kept { UnlessFailed result (self.new.faults ≡ self.old.faults) }
         ensures never_falls { self.old.faults ≤ self.new.faults }
+        ensures loaded { self.new ≡ after_load self.old }
         ensures same { Some self.new.files ≡ Some self.old.files }
     {
         if begin_call(&self.failing, &mut self.calls) {

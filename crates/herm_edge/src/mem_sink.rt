@@ -76,6 +76,7 @@ impl Sink for MemSink {
         ensures grows { IfTook result (λ n. Some self.new.written ≡ written_after (Some self.old.written) (take n bytes.now)) }
         ensures stays { OnFailed result (Some self.new.written ≡ Some self.old.written) }
         ensures failed { OnFailed result (Rose self.old.faults self.new.faults) }
+        ensures kept { IfTook result (λ _. self.new.faults ≡ self.old.faults) }
         ensures never_falls { self.old.faults ≤ self.new.faults }
     {
         if begin_call(&self.failing, &mut self.calls) {

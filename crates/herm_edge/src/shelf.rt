@@ -1,7 +1,7 @@
 // Where files are read from.
 ghost use Rattle.std.specs.Prelude.{◌≡◌, ℕ, ◌≤◌, List, Option, Some, None, IfSome, length, option_map, take};
 ghost use Rattle.herm_edge.specs.Faults.{Rose};
-ghost use Rattle.herm_edge.specs.Shelf.{File, file_at, IfHere, OnMissing, OnFailed};
+ghost use Rattle.herm_edge.specs.Shelf.{File, Load, answer_of, file_at, IfHere, OnMissing, OnFailed, UnlessFailed};
 
 /// What a shelf answers when a file is asked for.
 #[derive(Debug, Drop)]
@@ -18,8 +18,8 @@ pub enum Loaded {
 
 /// Files by their names.
 ///
-/// A shelf means its contents, which may be told or not and which no call changes, and a count of
-/// faults that never falls. (Language reference, "The outside".)
+/// A shelf means its contents, which may be told or not and which no call changes, a count of
+/// faults that never falls, and what a load does to it. (Language reference, "The outside".)
 pub trait Shelf {
     /// The files, where they are told.
     ghost contents: { Self → Option (List File) };
@@ -27,10 +27,14 @@ pub trait Shelf {
     /// How many faults there were.
     ghost faults: { Self → ℕ };
 
+    /// What a load does: the shelf before it, the load with its answer, and the shelf after it. A caller that is
+    /// generic over the shelf shows by a chain of these which loads it made, in which order, and what they answered.
+    ghost loads: { Self → Load → Self → Type 0 };
+
     /// Loads the first `limit` bytes of a file, or all where there are fewer. It takes memory.
     ///
     /// Told contents decide between `Here` and `Missing`. `Failed` comes only where the count of
-    /// faults rose in this call.
+    /// faults rose in this call; any other answer leaves the count.
     fn load(&mut self, name: &str, limit: usize) -> Loaded
         ensures within { IfHere result (λ bytes. length bytes ≤ limit) }
         ensures here { IfHere result (λ bytes. IfSome (contents self.old)
@@ -38,6 +42,8 @@ pub trait Shelf {
         ensures missing { OnMissing result (IfSome (contents self.old)
             (λ files. file_at files name.now ≡ None)) }
         ensures failed { OnFailed result (Rose (faults self.old) (faults self.new)) }
+        ensures kept { UnlessFailed result (faults self.new ≡ faults self.old) }
         ensures never_falls { faults self.old ≤ faults self.new }
+        ensures loaded { loads self.old (record { name = name.now; limit = limit; answer = answer_of result }) self.new }
         ensures same { contents self.new ≡ contents self.old };
 }

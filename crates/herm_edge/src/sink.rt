@@ -25,7 +25,7 @@ pub trait Sink {
 
     /// Hands over bytes, of which the sink takes some of the first. It takes no memory.
     ///
-    /// `Failed` comes only where the count of faults rose in this call, and leaves the bytes.
+    /// `Failed` comes only where the count of faults rose in this call, and leaves the bytes; `Took` leaves the count.
     fn write(&mut self, bytes: &[u8]) -> Wrote
         requires { 0 < length bytes.now }
         ensures some { IfTook result (λ n. 1 ≤ n) }
@@ -33,5 +33,6 @@ pub trait Sink {
         ensures grows { IfTook result (λ n. written self.new ≡ written_after (written self.old) (take n bytes.now)) }
         ensures stays { OnFailed result (written self.new ≡ written self.old) }
         ensures failed { OnFailed result (Rose (faults self.old) (faults self.new)) }
+        ensures kept { IfTook result (λ _. faults self.new ≡ faults self.old) }
         ensures never_falls { faults self.old ≤ faults self.new };
 }

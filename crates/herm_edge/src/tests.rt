@@ -5,7 +5,9 @@ ghost use Rattle.herm_edge.specs.Sink.{written_after};
 
 use super::*;
 use std::alloc::{AllocError, Global};
+use std::fs::Permissions;
 use std::io::{self, ErrorKind, Write};
+use std::os::unix::fs::{PermissionsExt, symlink};
 use std::process::Abort;
 use std::test::Fail;
 use std::{env, fs};
@@ -59,11 +61,6 @@ fn loads<F: Shelf>(rt: &impl Abort, shelf: &mut F, name: &str, limit: usize, wan
 fn writes<S: Sink>(rt: &impl Abort, sink: &mut S, text: &[u8], want: Result<(), WriteFault>) {
     let got = write_whole(sink, text);
     assert_eq!(rt; got, want);
-}
-
-// Calls a gate that workers share.
-fn pass<G: Gate + Sync>(gate: &G) {
-    gate.turn(0, 1);
 }
 
 // A sink that takes two bytes at each call, and keeps how many it was handed at each.
@@ -181,7 +178,7 @@ fn a_shelf_over_the_system_reads_files_by_their_names(rt: HostRuntime) -> Result
     let alloc = rt.alloc();
     let folder = env::temp_dir(&rt)?;
     let folder = folder.to_string_lossy();
-    let name = format!(in alloc; "{folder}/herm_edge_a_shelf_reads")?;
+    let name = format!(in alloc; "{folder}/herm_edge a shelf reads")?;
     let beneath = format!(in alloc; "{name}/x")?;
     let absent = format!(in alloc; "{name}_absent")?;
     let text = vec![in alloc; b'x'; 10_000]?;
@@ -198,6 +195,58 @@ fn a_shelf_over_the_system_reads_files_by_their_names(rt: HostRuntime) -> Result
     Ok(())
 }
 
+// The largest source file, and one byte more, are read whole.
+#[test]
+fn a_shelf_over_the_system_reads_a_mib_and_a_byte(rt: HostRuntime) -> Result<(), Fail> {
+    let alloc = rt.alloc();
+    let folder = env::temp_dir(&rt)?;
+    let folder = folder.to_string_lossy();
+    let name = format!(in alloc; "{folder}/herm_edge_a_mib")?;
+    let text = vec![in alloc; b'y'; 1_048_578]?;
+    let mut shelf = DirShelf::new(&rt);
+    for (length, read) in [
+        (1_048_576, 1_048_576),
+        (1_048_577, 1_048_577),
+        (1_048_578, 1_048_577),
+    ] {
+        fs::write(&rt, &name, &text[..length])?;
+        loads(
+            &rt,
+            &mut shelf,
+            &name,
+            1_048_577,
+            Want::Bytes(&text[..read]),
+        );
+    }
+    fs::remove_file(&rt, &name)?;
+    Ok(())
+}
+
+// A link to itself can be opened by nobody. A file that no one may read is opened by the administrator alone, so
+// the answer that is wanted of it depends on who runs the tests.
+#[test]
+fn a_shelf_over_the_system_fails_where_a_file_is_out_of_reach(rt: HostRuntime) -> Result<(), Fail> {
+    let alloc = rt.alloc();
+    let folder = env::temp_dir(&rt)?;
+    let folder = folder.to_string_lossy();
+    let circle = format!(in alloc; "{folder}/herm_edge_circle")?;
+    let closed = format!(in alloc; "{folder}/herm_edge_closed")?;
+    let mut shelf = DirShelf::new(&rt);
+    symlink(&rt, &circle, &circle)?;
+    loads(&rt, &mut shelf, &circle, 9, Want::Failed);
+    fs::remove_file(&rt, &circle)?;
+    fs::write(&rt, &closed, b"text")?;
+    fs::set_permissions(&rt, &closed, Permissions::from_mode(0))?;
+    let want = if fs::open(&rt, &closed).is_ok() {
+        Want::Bytes(b"text")
+    } else {
+        Want::Failed
+    };
+    loads(&rt, &mut shelf, &closed, 9, want);
+    fs::remove_file(&rt, &closed)?;
+    Ok(())
+}
+
 #[test]
 fn a_sink_over_a_writer_fails_where_the_writer_does(rt: HostRuntime) {
     let mut text = Vec::new(rt.alloc());
@@ -210,9 +259,4 @@ fn a_sink_over_a_writer_fails_where_the_writer_does(rt: HostRuntime) {
     let mut sink = WriteSink::new(Breaks { broken: false });
     writes(&rt, &mut sink, b"hi\n", Err(WriteFault { taken: 1 }));
     writes(&rt, &mut sink, b"\n", Err(WriteFault { taken: 0 }));
-}
-
-#[test]
-fn a_free_gate_lets_a_worker_through() {
-    pass(&FreeGate);
 }

@@ -15,13 +15,14 @@ pub struct WriteFault {
 /// Writes all the bytes, and hands over all that are left at each call. It takes no memory.
 ///
 /// An empty text calls nothing. `Err` comes only where the sink's count of faults rose in this call; then
-/// the first `taken` bytes were appended. (Language reference, "The outside".)
+/// the first `taken` bytes were appended. `Ok` leaves the count. (Language reference, "The outside".)
 #[tactic(auto, using(crate::proofs::SinkLemmas::writes))]
 pub fn write_whole<S: Sink>(sink: &mut S, bytes: &[u8]) -> Result<(), WriteFault>
     ensures all { OnOk result (S.written sink.new ≡ written_after (S.written sink.old) bytes.now) }
     ensures some { IfErr result (λ fault. S.written sink.new ≡ written_after (S.written sink.old) (take fault.taken bytes.now)) }
     ensures short { IfErr result (λ fault. fault.taken < length bytes.now) }
     ensures cause { OnErr result (Rose (S.faults sink.old) (S.faults sink.new)) }
+    ensures kept { OnOk result (S.faults sink.new ≡ S.faults sink.old) }
     ensures untouched { length bytes.now ≡ 0 → sink.new ≡ sink.old }
     ensures never_falls { S.faults sink.old ≤ S.faults sink.new }
 {

@@ -43,11 +43,12 @@ impl<W: Write> Sink for WriteSink<W> {
     fn write(&mut self, bytes: &[u8]) -> Wrote
         requires { 0 < length bytes.now }
         ensures passed { IfTook result (λ n. Appends (W.contents self.old.writer) (W.contents self.new.writer) (take n bytes.now)) }
-        ensures kept { OnFailed result (Keeps (W.contents self.old.writer) (W.contents self.new.writer)) }
+        ensures left { OnFailed result (Keeps (W.contents self.old.writer) (W.contents self.new.writer)) }
         ensures count { self.new.faults ≡ faults_after result self.old.faults }
         ensures some { IfTook result (λ n. 1 ≤ n) }
         ensures within { IfTook result (λ n. n ≤ length bytes.now) }
         ensures failed { OnFailed result (Rose self.old.faults self.new.faults) }
+        ensures kept { IfTook result (λ _. self.new.faults ≡ self.old.faults) }
         ensures never_falls { self.old.faults ≤ self.new.faults }
     {
         match self.writer.write(bytes) {

@@ -2,23 +2,37 @@ use crate::{Keyword, LexFault, Mark, Token, TokenKind, lex};
 use std::alloc::{AllocError, Global};
 use std::test::Fail;
 
-// A letter for the kind, and the bytes at the token's place or the content of a string.
-fn add_shown(out: &mut Vec<u8>, source: &[u8], token: &Token) -> Result<(), AllocError> {
+// A letter for the kind, and what the token is: the letters of its keyword, its name, its number, its content or the
+// characters of its sign. A `!` where other bytes stand at its place; around a string stand two quotes.
+fn add_shown(
+    alloc: Global,
+    out: &mut Vec<u8>,
+    source: &[u8],
+    token: &Token,
+) -> Result<(), AllocError> {
     let start = token.span.start as usize;
     let end = token.span.end as usize;
     let text = source.get(start..end).unwrap_or(b"none".as_slice());
-    let (letter, shown) = match &token.kind {
-        TokenKind::Key(_) => (b'K', text),
-        TokenKind::Ident(word) => (b'I', word.bytes()),
-        TokenKind::Int(_) => (b'N', text),
-        TokenKind::Text(word) => (b'T', word.bytes()),
-        TokenKind::Sign(_) => (b'S', text),
-    };
     if !out.is_empty() {
         out.push(b' ')?;
     }
+    let (letter, shown) = match &token.kind {
+        TokenKind::Key(keyword) => (b'K', keyword.letters().to_vec(alloc)?),
+        TokenKind::Ident(word) => (b'I', word.bytes().to_vec(alloc)?),
+        TokenKind::Int(number) => (b'N', format!(in alloc; "{number}")?.into_bytes()),
+        TokenKind::Text(word) => (b'T', word.bytes().to_vec(alloc)?),
+        TokenKind::Sign(mark) => (b'S', mark.characters().to_vec(alloc)?),
+    };
     out.push(letter)?;
-    out.extend_from_slice(shown)
+    let is_there = if letter == b'T' {
+        text.first() == Some(&b'"') && text.last() == Some(&b'"')
+    } else {
+        text == shown.as_slice()
+    };
+    if !is_there {
+        out.push(b'!')?;
+    }
+    out.extend_from_slice(&shown)
 }
 
 // The tokens of a source, or its fault, as text.
@@ -27,7 +41,7 @@ fn shown(alloc: Global, source: &[u8]) -> Result<Vec<u8>, AllocError> {
     match lex(alloc, source) {
         Ok(tokens) => {
             for token in &tokens {
-                add_shown(&mut out, source, token)?;
+                add_shown(alloc, &mut out, source, token)?;
             }
         }
         Err(fault) => {

@@ -32,7 +32,8 @@ fn shelf_of(alloc: Global, outside: &Outside<'_>) -> Result<MemShelf, AllocError
     Ok(MemShelf::new(files, outside.failing_loads.to_vec(alloc)?))
 }
 
-fn strings_of(alloc: Global, words: &[&str]) -> Result<Vec<String>, AllocError> {
+/// The words of a call.
+pub fn strings_of(alloc: Global, words: &[&str]) -> Result<Vec<String>, AllocError> {
     let mut strings = Vec::new(alloc);
     for word in words {
         strings.push(String::from_str(alloc, word)?)?;

@@ -1,7 +1,7 @@
 //! The greeting program, and each status that a call of it can have.
 use crate::call::{Outside, call, plain};
 use herm_driver::Outcome;
-use herm_world::{Action, Entry, Place, ProcEnd};
+use herm_world::{Action, End, Entry, Place, ProcEnd};
 use std::process::Abort;
 use std::test::Fail;
 
@@ -138,7 +138,13 @@ fn the_greeting_is_reported(rt: HostRuntime) -> Result<(), Fail> {
     assert!(rt; is_put(&entries[1]) && port_of(&entries[1]) == 0);
     assert!(rt; is_close(&entries[2]) && port_of(&entries[2]) == 1);
     assert_eq!(rt; report.ends.len(), 1);
-    assert!(rt; matches!(report.ends[0], ProcEnd::Ended(_)));
+    assert!(rt; matches!(report.ends[0], ProcEnd::Ended(End::Normal)));
+    assert_eq!(rt; report.queued.len(), 2);
+    assert!(rt; report.queued[0].0.get() == 0 && report.queued[1].0.get() == 1);
+    let console = report.queued[0].1.as_slice();
+    assert_eq!(rt; console.len(), 1);
+    assert_eq!(rt; console[0].bytes(), b"\"hi\"".as_slice());
+    assert!(rt; report.queued[1].1.as_slice().is_empty());
     let c = report.counts;
     assert_eq!(rt; [c.processes, c.ended, c.waiting, c.stopped], [1, 1, 0, 0]);
     assert_eq!(rt; [c.ports, c.unclosed, c.steps, c.actions], [2, 1, 3, 3]);

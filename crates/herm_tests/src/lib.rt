@@ -6,4 +6,6 @@ mod call;
 #[cfg(test)]
 mod hello;
 #[cfg(test)]
+mod loads;
+#[cfg(test)]
 mod straight;

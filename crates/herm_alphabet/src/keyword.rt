@@ -1,7 +1,6 @@
 //! Keywords and their letters.
 ghost use Rattle.std.specs.Prelude.{◌≡◌, ◌≢◌, IfSome, IfNone};
-ghost use Rattle.herm_lexer.specs.Letters.{letters, keywords};
-ghost use Rattle.herm_lexer.specs.Reading.{keyword_of};
+ghost use Rattle.herm_alphabet.specs.Letters.{letters, keyword_of, found_among, starting_with};
 
 /// The keywords, which are names that are reserved.
 #[derive(Clone, Copy, Debug, PartialEq, Eq)]
@@ -69,72 +68,6 @@ pub enum Keyword {
     KwWhile,
     KwWrap,
 }
-
-// All keywords.
-const KEYWORDS: [Keyword; 62] = [
-    Keyword::KwAnd,
-    Keyword::KwAs,
-    Keyword::KwCall,
-    Keyword::KwCallmessage,
-    Keyword::KwCase,
-    Keyword::KwConnect,
-    Keyword::KwCreate,
-    Keyword::KwDefinitions,
-    Keyword::KwDiscard,
-    Keyword::KwDissolve,
-    Keyword::KwDiv,
-    Keyword::KwElse,
-    Keyword::KwEnum,
-    Keyword::KwException,
-    Keyword::KwFalse,
-    Keyword::KwFor,
-    Keyword::KwFrom,
-    Keyword::KwFull,
-    Keyword::KwGet,
-    Keyword::KwIf,
-    Keyword::KwIn,
-    Keyword::KwInit,
-    Keyword::KwInout,
-    Keyword::KwInport,
-    Keyword::KwInsert,
-    Keyword::KwInto,
-    Keyword::KwKey,
-    Keyword::KwLeave,
-    Keyword::KwLength,
-    Keyword::KwMod,
-    Keyword::KwMove,
-    Keyword::KwNew,
-    Keyword::KwNot,
-    Keyword::KwOf,
-    Keyword::KwOn,
-    Keyword::KwOr,
-    Keyword::KwOut,
-    Keyword::KwOutport,
-    Keyword::KwProcess,
-    Keyword::KwRaise,
-    Keyword::KwRaises,
-    Keyword::KwReceive,
-    Keyword::KwRecord,
-    Keyword::KwRemove,
-    Keyword::KwReturn,
-    Keyword::KwReveal,
-    Keyword::KwSelect,
-    Keyword::KwSend,
-    Keyword::KwSize,
-    Keyword::KwTable,
-    Keyword::KwText,
-    Keyword::KwTo,
-    Keyword::KwTrue,
-    Keyword::KwTry,
-    Keyword::KwType,
-    Keyword::KwUnite,
-    Keyword::KwUnwrap,
-    Keyword::KwVar,
-    Keyword::KwVariant,
-    Keyword::KwWhen,
-    Keyword::KwWhile,
-    Keyword::KwWrap,
-];
 
 impl Keyword {
     /// The keyword with these letters, if there is one.
@@ -217,10 +150,97 @@ impl Keyword {
     }
 }
 
-// The first keyword with these letters.
-#[tactic(auto, unfolding(crate::specs::Reading::keyword_of))]
+// The keywords that begin with this letter.
+#[tactic(auto, unfolding(crate::specs::Letters::starting_with))]
+fn starting_with(first: u8) -> &'static [Keyword]
+    ensures { result.now ≡ starting_with first }
+{
+    match first {
+        b'a' => &[Keyword::KwAnd, Keyword::KwAs],
+        b'c' => &[
+            Keyword::KwCall,
+            Keyword::KwCallmessage,
+            Keyword::KwCase,
+            Keyword::KwConnect,
+            Keyword::KwCreate,
+        ],
+        b'd' => &[
+            Keyword::KwDefinitions,
+            Keyword::KwDiscard,
+            Keyword::KwDissolve,
+            Keyword::KwDiv,
+        ],
+        b'e' => &[Keyword::KwElse, Keyword::KwEnum, Keyword::KwException],
+        b'f' => &[
+            Keyword::KwFalse,
+            Keyword::KwFor,
+            Keyword::KwFrom,
+            Keyword::KwFull,
+        ],
+        b'g' => &[Keyword::KwGet],
+        b'i' => &[
+            Keyword::KwIf,
+            Keyword::KwIn,
+            Keyword::KwInit,
+            Keyword::KwInout,
+            Keyword::KwInport,
+            Keyword::KwInsert,
+            Keyword::KwInto,
+        ],
+        b'k' => &[Keyword::KwKey],
+        b'l' => &[Keyword::KwLeave, Keyword::KwLength],
+        b'm' => &[Keyword::KwMod, Keyword::KwMove],
+        b'n' => &[Keyword::KwNew, Keyword::KwNot],
+        b'o' => &[
+            Keyword::KwOf,
+            Keyword::KwOn,
+            Keyword::KwOr,
+            Keyword::KwOut,
+            Keyword::KwOutport,
+        ],
+        b'p' => &[Keyword::KwProcess],
+        b'r' => &[
+            Keyword::KwRaise,
+            Keyword::KwRaises,
+            Keyword::KwReceive,
+            Keyword::KwRecord,
+            Keyword::KwRemove,
+            Keyword::KwReturn,
+            Keyword::KwReveal,
+        ],
+        b's' => &[Keyword::KwSelect, Keyword::KwSend, Keyword::KwSize],
+        b't' => &[
+            Keyword::KwTable,
+            Keyword::KwText,
+            Keyword::KwTo,
+            Keyword::KwTrue,
+            Keyword::KwTry,
+            Keyword::KwType,
+        ],
+        b'u' => &[Keyword::KwUnite, Keyword::KwUnwrap],
+        b'v' => &[Keyword::KwVar, Keyword::KwVariant],
+        b'w' => &[Keyword::KwWhen, Keyword::KwWhile, Keyword::KwWrap],
+        _ => &[],
+    }
+}
+
+// The first of some keywords with these letters.
+fn find_among(keywords: &[Keyword], text: &[u8]) -> Option<Keyword>
+    ensures { result ≡ found_among keywords.now text.now }
+{
+    keywords.iter().copied().find(|k| k.letters() == text)
+}
+
+// The keyword with these letters. Only those with its first letter are compared with it.
+#[tactic(auto, using(crate::proofs::Keywords::first_letters))]
 fn find_keyword(text: &[u8]) -> Option<Keyword>
     ensures { result ≡ keyword_of text.now }
 {
-    KEYWORDS.iter().copied().find(|k| k.letters() == text)
+    match text {
+        [] => None,
+        [first, ..] => {
+            let found = find_among(starting_with(*first), text);
+            found
+        }
+    }
 }
