@@ -16,9 +16,6 @@ pub mod NodePlaces
 pub mod ClosedFacts
 pub mod TypesBelow
 pub mod OrderedFacts
-pub mod FactsThere
-pub mod NamedFacts
-pub mod FormFacts
 pub mod ExactLabels
 pub mod NodeExits
 pub mod DeterminedRefusals

@@ -30,6 +30,5 @@ pub mod laws
 pub mod WellFormedTables
 pub mod TypedStatements
 pub mod TypedPrograms
-pub mod laws
 pub mod judged
 pub mod tests

@@ -2,7 +2,6 @@ pub mod UntypedTexts
 pub mod ChangesThrough
 pub mod LabelsExist
 pub mod OrderedFacts
-pub mod FormFacts
 pub mod TypedLaws
 pub mod TypedFactLaws
 pub mod ExcessLaws

@@ -1,9 +1,9 @@
--- What is proved of the order of the facts that a statement needs and makes.
+-- What is proved of the facts before a fact, and of the order of those that a statement needs and makes.
 use Rattle.std.specs.Prelude.{◌≡◌, ℕ, List, ◌∷◌, ◌++◌}
 use Rattle.herm_model.specs.Lists.{IsIn}
 use Rattle.herm_model.specs.Paths.{Path, Fact}
 use Rattle.herm_model.specs.Types.{TypeTable}
-use Rattle.herm_model.specs.Facts.{facts_to, prefixes}
+use Rattle.herm_model.specs.Facts.{facts_to, prefixes, IsFactOf}
 use Rattle.herm_model.specs.Statements.{Form}
 use Rattle.herm_model.specs.Outcomes.{Outcome}
 use Rattle.herm_model.specs.StatementTable.{needs, makes}
@@ -21,3 +21,7 @@ NeedsAreOrdered = (types : TypeTable) (variables : List ℕ) (form : Form) → S
 
 abbrev pub MakesAreOrdered : Type 0
 MakesAreOrdered = (types : TypeTable) (variables : List ℕ) (form : Form) (o : Outcome) → StandBehindPrefixes types variables (makes types variables form o)
+
+-- before a fact that there is, there are the facts before it
+abbrev pub PrefixesAreFacts : Type 0
+PrefixesAreFacts = (types : TypeTable) (variables : List ℕ) (f g : Fact) → IsFactOf types variables f → IsIn g (prefixes types variables f) → IsFactOf types variables g

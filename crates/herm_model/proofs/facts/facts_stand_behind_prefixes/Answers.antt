@@ -1,4 +1,8 @@
+use Rattle.std.specs.Prelude.{[], ◌∷◌}
+use Rattle.herm_model.specs.Facts.{prefixes}
 use Rattle.herm_model.specs.StatementTable.{row}
+use Rattle.herm_model.proofs.Lists.{in-append_left}
+use Rattle.herm_model.proofs.TypedPaths.{with-facts}
 use Rattle.herm_model.proofs.OrderedFacts.{to-stand, closed-stand}
 use Rattle.herm_model.proofs.facts.facts_stand_behind_prefixes.Goals as goal
 
@@ -10,3 +14,6 @@ returns-clause-needs c = λ types variables form. closed-stand types variables (
 
 pub returns-clause-makes : goal.returns-clause-makes
 returns-clause-makes c = λ types variables form o. closed-stand types variables ((row types variables form).made o)
+
+pub returns-clause-there : goal.returns-clause-there
+returns-clause-there c = λ types variables f g h i. with-facts types variables f g h (in-append_left g (prefixes types variables f) (f ∷ []) i)
