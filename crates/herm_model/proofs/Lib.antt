@@ -44,3 +44,4 @@ pub mod BoundedPaths
 pub mod ThereFacts
 pub mod InRange
 pub mod JudgedExamples
+pub mod TypedArguments
