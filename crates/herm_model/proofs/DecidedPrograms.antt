@@ -14,7 +14,7 @@ use Rattle.herm_model.specs.TypedStatements.{port_type, IsTypedForm}
 use Rattle.herm_model.specs.TypedPrograms.{greatest_statements, greatest_variable_paths, main_start, Placed, placed_in, handled, is_some_block, is_some_handler, HasArms, HasHandlers, HasDifferentHandlers, HandlesKnown, LeavesLoop, OfEachStatement, IsTypedProcess, IsTypedProgram}
 use Rattle.herm_model.specs.tests.TableTests.{on_inport, broken_table_rules}
 use Rattle.herm_model.specs.tests.TypingTests.{is_typed_form}
-use Rattle.herm_model.specs.tests.BodyTests.{same_branching, has_different_arms, is_well_formed, is_well_formed_block, are_well_formed, are_well_formed_handlers, has_arms, has_handlers, has_different_handlers, handles_known, leaves_loop, of_each_statement, places_of, places_behind, sweep, marked_places, is_marked, are_settled, ProcessRule, port, variables_known, few_paths, few_statements, blocks, arms, handlers, handlers_differ, handlers_known, leaves_in_loops, typed, reached, process_rules, keeps_process_rule, broken_process_rules, is_none, is_typed_program}
+use Rattle.herm_model.specs.tests.BodyTests.{same_branching, has_different_arms, is_well_formed, is_well_formed_block, are_well_formed, are_well_formed_handlers, has_arms, has_handlers, has_different_handlers, handles_known, leaves_loop, of_each_statement, places_of, places_behind, sweep, marked_places, is_marked, are_settled, ProcessRule, port, variables_known, few_variable_paths, few_statements, blocks, arms, handlers, handlers_differ, handlers_known, leaves_in_loops, typed, reached, process_rules, keeps_process_rule, broken_process_rules, is_empty, is_typed_program}
 use Rattle.herm_model.specs.laws.TypedLaws.{ProcessKeeps, TestsDecideProcesses, NoneBrokenIsTyped, TestDecidesPrograms}
 use Rattle.herm_model.proofs.Lists.{not_true, and-both, both-and, in-every, in-append_cases, in-map, in-map_from, slice_get-map, every-in, or-either}
 use Rattle.herm_model.proofs.Options.{map-some}
@@ -182,7 +182,7 @@ module _ (exceptions : ℕ) (table : TypeTable) (processes : List Process) (p : 
       through _ (λ h. (h.0, h.2.0, h.2.1, h.1, h.2.2)) (λ h. (h.0, h.3, (h.1, h.2, h.4, tt)))
       (chosen-decides (λ t. on_inport (λ message declared. true) (slice_get table t)) (λ t. (message : ℕ) × (declared : List Fact) × HasShape table t (inport message declared) × Unit {0}) (λ t. inport-decides (λ message declared. true) (λ message declared. Unit {0}) (λ message declared. true-decides tt) (slice_get table t)) (slice_get p.variables 0))
   process-decides formed variables_known = all-decide (λ t. is_some (slice_get table t)) (IsType table) (λ t. itself (is_some (slice_get table t))) p.variables
-  process-decides formed few_paths = at_most-decides (length (variable_paths all_parts table p.variables)) greatest_variable_paths
+  process-decides formed few_variable_paths = at_most-decides (length (variable_paths all_parts table p.variables)) greatest_variable_paths
   process-decides formed few_statements = at_most-decides (numbers_of_block p.body) greatest_statements
   process-decides formed blocks = block-decides p.body
   process-decides formed arms = each-decides p has_arms (λ l s. HasArms s) arms-decide
@@ -196,7 +196,7 @@ module _ (exceptions : ℕ) (table : TypeTable) (processes : List Process) (p : 
   process_rule-listed : (rule : ProcessRule) → IsIn rule process_rules
   process_rule-listed port = inl refl
   process_rule-listed variables_known = inr (inl refl)
-  process_rule-listed few_paths = inr (inr (inl refl))
+  process_rule-listed few_variable_paths = inr (inr (inl refl))
   process_rule-listed few_statements = inr (inr (inr (inl refl)))
   process_rule-listed blocks = inr (inr (inr (inr (inl refl))))
   process_rule-listed arms = inr (inr (inr (inr (inr (inl refl)))))
@@ -219,7 +219,7 @@ module _ (exceptions : ℕ) (table : TypeTable) (processes : List Process) (p : 
           record {
             port = keeps port;
             variables_known = keeps variables_known;
-            few_paths = keeps few_paths;
+            few_paths = keeps few_variable_paths;
             few_statements = keeps few_statements;
             blocks = keeps blocks;
             arms = keeps arms;
@@ -234,7 +234,7 @@ module _ (exceptions : ℕ) (table : TypeTable) (processes : List Process) (p : 
       holds : IsTypedProcess exceptions table processes p → (rule : ProcessRule) → ProcessKeeps exceptions table processes p rule
       holds w port = w.port
       holds w variables_known = w.variables_known
-      holds w few_paths = w.few_paths
+      holds w few_variable_paths = w.few_paths
       holds w few_statements = w.few_statements
       holds w blocks = w.blocks
       holds w arms = w.arms
@@ -254,9 +254,9 @@ tests-processes exceptions table processes p w settled formed rule = process-dec
 pub none-process : NoneBrokenIsTyped
 none-process exceptions table processes p w settled = none-typed exceptions table processes p (well_formed-regular exceptions table w) settled
 
-empty-decides : {X : Type 0} (xs : List X) → Decides (is_none xs) (xs ≡ [])
+empty-decides : {X : Type 0} (xs : List X) → Decides (is_empty xs) (xs ≡ [])
 empty-decides [] = true-decides refl
-empty-decides (x ∷ xs) = false-decides (λ e. absurd (true≢false (sym (ap is_none e))))
+empty-decides (x ∷ xs) = false-decides (λ e. absurd (true≢false (sym (ap is_empty e))))
 
 pub test-programs : TestDecidesPrograms
 test-programs exceptions defined processes main judged = (to, from)
@@ -266,18 +266,18 @@ test-programs exceptions defined processes main judged = (to, from)
 
     to : IsTrue (is_typed_program exceptions defined processes main) → IsTypedProgram exceptions (predefined ++ defined) processes main
     to h =
-        let a = and-both (is_none (broken_table_rules exceptions defined)) _ h in
-        let b = and-both (every (λ p. is_none (broken_process_rules exceptions (predefined ++ defined) processes p)) processes) _ a.1 in
+        let a = and-both (is_empty (broken_table_rules exceptions defined)) _ h in
+        let b = and-both (every (λ p. is_empty (broken_process_rules exceptions (predefined ++ defined) processes p)) processes) _ a.1 in
         let w = (none-well_formed exceptions defined).0 ((empty-decides _).0 a.0) in
         record {
           types = w;
-          modules = λ p i. (none-process exceptions (predefined ++ defined) processes p w (all_settled p i)).0 ((empty-decides _).0 (every-in (λ p. is_none (broken_process_rules exceptions (predefined ++ defined) processes p)) p processes b.0 i));
+          modules = λ p i. (none-process exceptions (predefined ++ defined) processes p w (all_settled p i)).0 ((empty-decides _).0 (every-in (λ p. is_empty (broken_process_rules exceptions (predefined ++ defined) processes p)) p processes b.0 i));
           begins = (number-is (port_type processes main) main_start).0 b.1;
         }
 
     from : IsTypedProgram exceptions (predefined ++ defined) processes main → IsTrue (is_typed_program exceptions defined processes main)
     from w =
-        both-and (is_none (broken_table_rules exceptions defined)) _ ((empty-decides _).1 ((none-well_formed exceptions defined).1 w.types))
-        (both-and (every (λ p. is_none (broken_process_rules exceptions (predefined ++ defined) processes p)) processes) _
-        (in-every (λ p. is_none (broken_process_rules exceptions (predefined ++ defined) processes p)) processes (λ p i. (empty-decides _).1 ((none-process exceptions (predefined ++ defined) processes p w.types (all_settled p i)).1 (w.modules p i))))
+        both-and (is_empty (broken_table_rules exceptions defined)) _ ((empty-decides _).1 ((none-well_formed exceptions defined).1 w.types))
+        (both-and (every (λ p. is_empty (broken_process_rules exceptions (predefined ++ defined) processes p)) processes) _
+        (in-every (λ p. is_empty (broken_process_rules exceptions (predefined ++ defined) processes p)) processes (λ p i. (empty-decides _).1 ((none-process exceptions (predefined ++ defined) processes p w.types (all_settled p i)).1 (w.modules p i))))
         ((number-is (port_type processes main) main_start).1 w.begins))

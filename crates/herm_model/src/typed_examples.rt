@@ -5,7 +5,7 @@ ghost use Rattle.herm_model.specs.Types.{predefined};
 ghost use Rattle.herm_model.specs.Examples.{calls, denies, on_busy};
 ghost use Rattle.herm_model.specs.judged.TypedExamples.{item_types, items_in_a_table, keeping_types, ring_main, ring_node, ring_types, sender, sender_types, two_senders, with_statements, with_variables};
 ghost use Rattle.herm_model.specs.TypedPrograms.{IsTypedProgram};
-ghost use Rattle.herm_model.specs.tests.BodyTests.{broken_process_rules, few_paths, few_statements, keeps_process_rule, port, variables_known};
+ghost use Rattle.herm_model.specs.tests.BodyTests.{broken_process_rules, few_variable_paths, few_statements, keeps_process_rule, port, variables_known};
 ghost use Rattle.herm_model.specs.judged.BodyExamples.{body_examples};
 ghost use Rattle.herm_model.specs.judged.TableRuleExamples.{table_examples};
 ghost use Rattle.herm_model.specs.laws.TypedExampleLaws.{AreTyped, BreakTheirFormAlone, BreakTheseRules, BreakTheseTableRules};
@@ -47,6 +47,6 @@ pub fn programs_are_typed()
 pub fn processes_break_their_rules()
     ensures port { map (λ p. broken_process_rules 7 predefined [] (with_variables p)) ([] ∷ (1 ∷ []) ∷ (7 ∷ []) ∷ []) ≡ (port ∷ []) ∷ (port ∷ []) ∷ [] ∷ [] }
     ensures unknown { map (λ p. broken_process_rules 7 predefined [] (with_variables p)) ((7 ∷ 8 ∷ []) ∷ (7 ∷ 5 ∷ []) ∷ []) ≡ (variables_known ∷ []) ∷ [] ∷ [] }
-    ensures paths { map (λ n. broken_process_rules 7 predefined [] (with_variables (7 ∷ replicate n 1))) (4095 ∷ 4096 ∷ []) ≡ [] ∷ (few_paths ∷ []) ∷ [] }
+    ensures paths { map (λ n. broken_process_rules 7 predefined [] (with_variables (7 ∷ replicate n 1))) (4095 ∷ 4096 ∷ []) ≡ [] ∷ (few_variable_paths ∷ []) ∷ [] }
     ensures statements { map (λ n. keeps_process_rule 7 predefined [] (with_statements n) few_statements) (1024 ∷ 1025 ∷ []) ≡ true ∷ false ∷ [] }
 {}

@@ -11,7 +11,7 @@ use Rattle.herm_model.specs.WellFormedTables.{predefined_exceptions, greatest_pa
 use Rattle.herm_model.specs.TypedStatements.{IsTypedForm}
 use Rattle.herm_model.specs.TypedPrograms.{greatest_statements, greatest_variable_paths, HasArms, HasHandlers, HasDifferentHandlers, HandlesKnown, LeavesLoop, OfEachStatement, IsTypedProcess, IsTypedProgram}
 use Rattle.herm_model.specs.tests.TableTests.{TableRule, predefined_types, enough_exceptions, types_known, exceptions_known, exceptions_differ, shallow, few_paths, keys, outports, inputs_copyable, facts_of_fields, one_case, kept_returned, kept_rising, kept_disconnected, keeps_table_rule, broken_table_rules}
-use Rattle.herm_model.specs.tests.BodyTests.{ProcessRule, port, variables_known, few_statements, blocks, arms, handlers, handlers_differ, handlers_known, leaves_in_loops, typed, reached, keeps_process_rule, broken_process_rules, are_settled, is_judged, is_typed_program}
+use Rattle.herm_model.specs.tests.BodyTests.{ProcessRule, port, variables_known, few_variable_paths, few_statements, blocks, arms, handlers, handlers_differ, handlers_known, leaves_in_loops, typed, reached, keeps_process_rule, broken_process_rules, are_settled, is_judged, is_typed_program}
 
 -- what each rule of tables says
 abbrev pub TableKeeps : (exceptions : ℕ) → TypeTable → TableRule → Type 0
@@ -44,7 +44,7 @@ NoneBrokenIsWellFormed = (exceptions : ℕ) (defined : TypeTable) → (broken_ta
 abbrev pub ProcessKeeps : (exceptions : ℕ) → TypeTable → List Process → Process → ProcessRule → Type 0
 ProcessKeeps exceptions table processes p port = (t message : ℕ) × (declared : List Fact) × (slice_get p.variables 0 ≡ Some t) × HasShape table t (inport message declared)
 ProcessKeeps exceptions table processes p variables_known = (t : ℕ) → IsIn t p.variables → IsType table t
-ProcessKeeps exceptions table processes p ProcessRule.few_paths = length (variable_paths all_parts table p.variables) ≤ greatest_variable_paths
+ProcessKeeps exceptions table processes p few_variable_paths = length (variable_paths all_parts table p.variables) ≤ greatest_variable_paths
 ProcessKeeps exceptions table processes p few_statements = numbers_of_block p.body ≤ greatest_statements
 ProcessKeeps exceptions table processes p blocks = IsWellFormedBlock p.body
 ProcessKeeps exceptions table processes p arms = OfEachStatement p (λ l s. HasArms s)

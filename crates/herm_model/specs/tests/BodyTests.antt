@@ -91,17 +91,17 @@ module _ (table : TypeTable) (p : Process) where
 
 -- The rules of processes, by the names of the parts of a typed process.
 pub data ProcessRule : Type 0 where
-  port variables_known few_paths few_statements : ProcessRule
+  port variables_known few_variable_paths few_statements : ProcessRule
   blocks arms handlers handlers_differ handlers_known leaves_in_loops typed reached : ProcessRule
 
 abbrev pub process_rules : List ProcessRule
-process_rules = port ∷ variables_known ∷ few_paths ∷ few_statements ∷ blocks ∷ arms ∷ handlers ∷ handlers_differ ∷ handlers_known ∷ leaves_in_loops ∷ typed ∷ reached ∷ []
+process_rules = port ∷ variables_known ∷ few_variable_paths ∷ few_statements ∷ blocks ∷ arms ∷ handlers ∷ handlers_differ ∷ handlers_known ∷ leaves_in_loops ∷ typed ∷ reached ∷ []
 
 -- whether a process keeps a rule
 abbrev pub keeps_process_rule : (exceptions : ℕ) → TypeTable → List Process → Process → ProcessRule → Bool
 keeps_process_rule exceptions table processes p port = with_some false (λ t. on_inport (λ message declared. true) (slice_get table t)) (slice_get p.variables 0)
 keeps_process_rule exceptions table processes p variables_known = every (λ t. is_some (slice_get table t)) p.variables
-keeps_process_rule exceptions table processes p few_paths = nat_le (length (variable_paths all_parts table p.variables)) greatest_variable_paths
+keeps_process_rule exceptions table processes p few_variable_paths = nat_le (length (variable_paths all_parts table p.variables)) greatest_variable_paths
 keeps_process_rule exceptions table processes p few_statements = nat_le (numbers_of_block p.body) greatest_statements
 keeps_process_rule exceptions table processes p blocks = is_well_formed_block p.body
 keeps_process_rule exceptions table processes p arms = of_each_statement p has_arms
@@ -116,14 +116,14 @@ keeps_process_rule exceptions table processes p reached = every (is_marked table
 abbrev pub broken_process_rules : (exceptions : ℕ) → TypeTable → List Process → Process → List ProcessRule
 broken_process_rules exceptions table processes p = filter (λ rule. not (keeps_process_rule exceptions table processes p rule)) process_rules
 
-abbrev pub is_none : {X : Type 0} → List X → Bool
-is_none [] = true
-is_none (x ∷ xs) = false
+abbrev pub is_empty : {X : Type 0} → List X → Bool
+is_empty [] = true
+is_empty (x ∷ xs) = false
 
 -- whether a program is typed, and whether that can be judged so
 abbrev pub is_typed_program : (exceptions : ℕ) → (defined : TypeTable) → List Process → (main : ℕ) → Bool
 is_typed_program exceptions defined processes main =
-    is_none (broken_table_rules exceptions defined) && (every (λ p. is_none (broken_process_rules exceptions (predefined ++ defined) processes p)) processes && is_number (port_type processes main) main_start)
+    is_empty (broken_table_rules exceptions defined) && (every (λ p. is_empty (broken_process_rules exceptions (predefined ++ defined) processes p)) processes && is_number (port_type processes main) main_start)
 
 abbrev pub is_judged : (defined : TypeTable) → List Process → Bool
 is_judged defined processes = every (are_settled (predefined ++ defined)) processes
