@@ -1,14 +1,13 @@
 -- The arguments of typed calls are targets of the types of their parameters, and apart.
-use Rattle.std.proofs.Common.{◌≡◌, ℕ, zero, suc, ◌<◌, List, [], ◌∷◌, ◌++◌, map, filter, flat_map, Bool, true, false, cond, ◌⊎◌, inl, inr, Option, Some, None, slice_get, IsTrue, nat_eq, refl, sym, ap, subst, subst₂, ◌∙◌, arith, true≢false}
+use Rattle.std.proofs.Common.{◌≡◌, ℕ, zero, suc, ◌<◌, List, [], ◌∷◌, ◌++◌, map, filter, flat_map, Bool, true, false, cond, inl, inr, Some, slice_get, IsTrue, nat_eq, refl, sym, ap, subst, subst₂, ◌∙◌, arith, true≢false}
 use Rattle.herm_model.specs.Lists.{IsIn, list_of}
 use Rattle.herm_model.specs.Paths.{Path, are_apart}
 use Rattle.herm_model.specs.Types.{Mode, by_in, by_inout, by_out, Parameter, Raised, TypeTable, callmessage, is_within_depth, greatest_depth}
 use Rattle.herm_model.specs.Expressions.{Atom, literal, path}
 use Rattle.herm_model.specs.FlowLaws.{Rise}
-use Rattle.herm_model.specs.Calls.{call_parameters, call_raises, kept_for, is_returned, arguments_by, argument_path}
-use Rattle.herm_model.specs.WellFormedTables.{IsWellFormedTable}
-use Rattle.herm_model.specs.TypedStatements.{AreApart, IsTarget, IsArgument, AreArguments, IsTypedForm}
-use Rattle.herm_model.specs.laws.ArgumentLaws.{AreTargetsOf, types_by, types_at, ArgumentsFit, TypedArgumentsFit}
+use Rattle.herm_model.specs.Calls.{kept_for, is_returned, arguments_by, argument_path}
+use Rattle.herm_model.specs.TypedStatements.{AreApart, IsTarget, IsArgument, AreArguments}
+use Rattle.herm_model.specs.laws.ArgumentLaws.{AreTargetsOf, types_by, types_at, TypedArgumentsFit}
 use Rattle.herm_model.proofs.Lists.{in-map, in-flat_map_from}
 use Rattle.herm_model.proofs.Options.{none-not_some}
 use Rattle.herm_model.proofs.FactTests.{got-IsIn}

@@ -1,8 +1,8 @@
 -- What is proved of the arguments of typed calls: their types, and that they are apart.
-use Rattle.std.specs.Prelude.{ℕ, List, [], ◌∷◌, map, filter, flat_map, Bool, true, Some, slice_get, IsTrue, ⊤, ◌≡◌}
-use Rattle.herm_model.specs.Lists.{IsIn, list_of}
+use Rattle.std.specs.Prelude.{ℕ, List, [], ◌∷◌, map, filter, flat_map, Bool, true, slice_get, IsTrue, ⊤, ◌≡◌}
+use Rattle.herm_model.specs.Lists.{list_of}
 use Rattle.herm_model.specs.Paths.{Path}
-use Rattle.herm_model.specs.Types.{Mode, Parameter, TypeTable, type_at, passes_component, is_within_depth, greatest_depth}
+use Rattle.herm_model.specs.Types.{Mode, Parameter, TypeTable, is_within_depth, greatest_depth}
 use Rattle.herm_model.specs.Expressions.{Atom}
 use Rattle.herm_model.specs.Statements.{Call, Process}
 use Rattle.herm_model.specs.Calls.{call_parameters, call_raises, kept_for, is_returned, arguments_by}

@@ -1,5 +1,5 @@
 -- Tests of bodies, processes and programs, rule by rule. A law says that they decide which are typed.
-use Rattle.std.specs.Prelude.{ℕ, List, [], ◌∷◌, ◌++◌, map, filter, length, Bool, true, false, not, cond, ◌&&◌, ◌||◌, nat_eq, nat_lt, nat_le, is_some, slice_get}
+use Rattle.std.specs.Prelude.{ℕ, zero, suc, List, [], ◌∷◌, ◌++◌, map, filter, length, Bool, true, false, not, cond, ◌&&◌, ◌||◌, nat_eq, nat_lt, nat_le, is_some, slice_get}
 use Rattle.herm_model.specs.Lists.{with_some, every, some_of, numbered, range}
 use Rattle.herm_model.specs.Types.{TypeTable, predefined, all_parts, variable_paths}
 use Rattle.herm_model.specs.Statements.{Form, Case, Statement, simple, choosing, repeating, leaving, trying, Block, no_statements, statement, Blocks, no_blocks, block, Handlers, no_handlers, handler, Process, Branching, goes_on, repeats, leaves, chooses, branching_of, count_blocks, numbers_of_block}
@@ -74,20 +74,29 @@ module _ (table : TypeTable) (p : Process) where
   abbrev pub places_behind : Node → List ℕ
   places_behind n = places_of (map (λ (e : Exit). e.target) (exits table p.variables n))
 
-  -- One sweep over the nodes in order marks what is behind what is marked. That is all that control reaches, since it goes
-  -- back only to loops; where the marks are not settled, nothing is judged.
+  -- One sweep over the nodes in order marks what is behind what is marked. Most often that is all that control reaches,
+  -- since it goes back only to loops.
   abbrev pub sweep : List (ℕ × Node) → List ℕ → List ℕ
   sweep [] marked = marked
   sweep (n ∷ ns) marked = sweep ns (cond (some_of (nat_eq n.0) marked) (places_behind n.1 ++ marked) marked)
 
+  -- the entry is marked, and with each node what is behind it
+  abbrev pub are_settled : List ℕ → Bool
+  are_settled marked =
+      every (λ i. some_of (nat_eq i) marked) (places_of (entry_of p ∷ []))
+      && every (λ n. not (some_of (nat_eq n.0) marked) || every (λ i. some_of (nat_eq i) marked) (places_behind n.1)) (numbered 0 (process_nodes p))
+
+  -- sweeps until the marks are settled, at most so many
+  abbrev pub settle : ℕ → List ℕ → List ℕ
+  settle zero marked = marked
+  settle (suc n) marked = elim (are_settled marked) [ true ↦ marked | false ↦ settle n (sweep (numbered 0 (process_nodes p)) marked) ]
+
+  -- what control reaches: a law says that the marks are settled
   abbrev pub marked_places : List ℕ
-  marked_places = sweep (numbered 0 (process_nodes p)) (places_of (entry_of p ∷ []))
+  marked_places = settle (suc (length (process_nodes p))) (places_of (entry_of p ∷ []))
 
   abbrev pub is_marked : ℕ → Bool
   is_marked i = some_of (nat_eq i) marked_places
-
-  abbrev pub are_settled : Bool
-  are_settled = every is_marked (places_of (entry_of p ∷ [])) && every (λ n. not (is_marked n.0) || every is_marked (places_behind n.1)) (numbered 0 (process_nodes p))
 
 -- The rules of processes, by the names of the parts of a typed process.
 pub data ProcessRule : Type 0 where
@@ -120,10 +129,7 @@ abbrev pub is_empty : {X : Type 0} → List X → Bool
 is_empty [] = true
 is_empty (x ∷ xs) = false
 
--- whether a program is typed, and whether that can be judged so
+-- whether a program is typed
 abbrev pub is_typed_program : (exceptions : ℕ) → (defined : TypeTable) → List Process → (main : ℕ) → Bool
 is_typed_program exceptions defined processes main =
     is_empty (broken_table_rules exceptions defined) && (every (λ p. is_empty (broken_process_rules exceptions (predefined ++ defined) processes p)) processes && is_number (port_type processes main) main_start)
-
-abbrev pub is_judged : (defined : TypeTable) → List Process → Bool
-is_judged defined processes = every (are_settled (predefined ++ defined)) processes
