@@ -1,7 +1,8 @@
 // Laws of typed programs at examples: what is typed, and for each rule what breaks it alone.
 
 ghost use Rattle.std.specs.Prelude.{◌≡◌, [], ◌∷◌, ◌++◌, map, replicate, true, false};
-ghost use Rattle.herm_model.specs.Types.{predefined};
+ghost use Rattle.herm_model.specs.Types.{predefined, fields, inport, outport};
+ghost use Rattle.herm_model.specs.WellFormedTables.{Reaches};
 ghost use Rattle.herm_model.specs.Examples.{calls, denies, on_busy};
 ghost use Rattle.herm_model.specs.judged.TypedExamples.{item_types, items_in_a_table, keeping_types, ring_main, ring_node, ring_types, sender, sender_types, two_senders, with_statements, with_variables};
 ghost use Rattle.herm_model.specs.TypedPrograms.{IsTypedProgram};
@@ -15,6 +16,12 @@ ghost use Rattle.herm_model.specs.judged.UntypedStatementExamples.{untyped_state
 /// Tables that are well formed, and for each rule of definitions tables that break it.
 pub fn tables_break_their_rules()
     ensures { BreakTheseTableRules table_examples }
+{}
+
+/// Types that reach themselves: a record of itself, and a record with an outport to an inport of itself.
+pub fn types_reach_themselves()
+    ensures itself { Reaches (predefined ++ fields (8 ∷ []) ∷ []) 8 8 }
+    ensures by_port { Reaches (predefined ++ inport 9 [] ∷ fields (10 ∷ []) ∷ outport 8 ∷ []) 9 9 }
 {}
 
 /// Statements of each form that are typed.
