@@ -11,7 +11,7 @@ use Rattle.herm_model.specs.TypedExpressions.{takes, shape_given, passes_out, Ha
 use Rattle.herm_model.specs.WellFormedTables.{is_definable, BeginsPredefined, IsWellFormedTable}
 use Rattle.herm_model.specs.TypedStatements.{can_be_new, AreApart, port_type, IsComponent, IsLookedAt, IsTarget, IsTypedAtom, IsArgument, AreArguments, AreKeysOf, IsTableOf, IsFound, GoesTo, ComesFrom, IsReceived, IsReturned, IsTypedForm}
 use Rattle.herm_model.specs.tests.TableTests.{are_different, on_fields, on_cases, on_rows, on_inport, on_outport, on_callmessage}
-use Rattle.herm_model.specs.tests.TypingTests.{number_of_shape, given_if, is_number, on_names, is_polymorph, are_all_apart, literal_type, seen_type, own_type, copied_type, is_table, expression_type, atom_type, is_argument, are_arguments, are_keys, at_table, at_outport, at_inport, at_component, is_found, is_received, at_returned, is_test, is_typed_form}
+use Rattle.herm_model.specs.tests.TypingTests.{number_of_shape, given_if, is_number, on_names, is_polymorph, are_all_apart, literal_type, seen_type, own_type, copied_type, is_table, expression_type, atom_type, is_argument, are_arguments, are_keys, at_table, at_outport, at_inport, at_component_type, is_found, is_received, at_returned, is_test, is_typed_form}
 use Rattle.herm_model.proofs.Lists.{not_true, every-in}
 use Rattle.herm_model.proofs.Options.{some-injective, none-not_some}
 use Rattle.herm_model.proofs.FactTests.{got-IsIn}
@@ -267,7 +267,7 @@ module _ (table : TypeTable) (regular : IsRegular table) where
           through _ (λ h. (h.2.0, (h.0, h.2.1, h.1, h.2.2), h.2.3)) (λ h. ((h.1).0, (h.1).2, (h.0, (h.1).1, (h.1).3, h.2)))
           (at-seen (λ t. on_inport (λ message declared. test message) (slice_get table t)) (λ t. (message : ℕ) × (declared : List Fact) × HasShape table t (inport message declared) × P message) inport_at-decides i)
 
-      component-decides : (t c : ℕ) → Decides (at_component table variables t c test) ((u : ℕ) × IsComponent table t c u × P u)
+      component-decides : (t c : ℕ) → Decides (at_component_type table variables t c test) ((u : ℕ) × IsComponent table t c u × P u)
       component-decides t c =
           through _ (λ h. (h.2.0, (h.0, h.1, h.2.1), h.2.2)) (λ h. ((h.1).0, (h.1).1, (h.0, (h.1).2, h.2)))
           (cases-decide (λ ts. with_some false test (slice_get ts c)) (λ ts. (u : ℕ) × (slice_get ts c ≡ Some u) × P u) (λ ts. chosen-decides test P each (slice_get ts c)) (slice_get table t))
@@ -317,13 +317,13 @@ module _ (table : TypeTable) (regular : IsRegular table) where
       form-decides (Discard x) = through _ (λ h. (h.0, (own x h.0).0 h.1)) (λ h. (h.0, (own x h.0).1 h.1)) (there-decides (own_type table variables x))
       form-decides (Unite v c y) =
           through _ (λ h. (h.0.0, h.0.2.0, h.0.1, h.0.2.1, h.0.2.2, h.1)) (λ h. ((h.0, h.2, (h.1, h.3, h.4)), h.5))
-          (both-decide _ (are_apart y v) (at-own (λ t. at_component table variables t c (is_number (own_type table variables y))) (λ t. (u : ℕ) × IsComponent table t c u × IsTarget table variables y u) (λ t. component-decides (is_number (own_type table variables y)) (IsTarget table variables y) (number-own y) t c) v) (itself (are_apart y v)))
+          (both-decide _ (are_apart y v) (at-own (λ t. at_component_type table variables t c (is_number (own_type table variables y))) (λ t. (u : ℕ) × IsComponent table t c u × IsTarget table variables y u) (λ t. component-decides (is_number (own_type table variables y)) (IsTarget table variables y) (number-own y) t c) v) (itself (are_apart y v)))
       form-decides (Dissolve v c y) =
           through _ (λ h. (h.0.0, h.0.2.0, h.0.1, h.0.2.1, h.0.2.2, h.1)) (λ h. ((h.0, h.2, (h.1, h.3, h.4)), h.5))
-          (both-decide _ (are_apart v y) (at-own (λ t. at_component table variables t c (is_number (own_type table variables y))) (λ t. (u : ℕ) × IsComponent table t c u × IsTarget table variables y u) (λ t. component-decides (is_number (own_type table variables y)) (IsTarget table variables y) (number-own y) t c) v) (itself (are_apart v y)))
+          (both-decide _ (are_apart v y) (at-own (λ t. at_component_type table variables t c (is_number (own_type table variables y))) (λ t. (u : ℕ) × IsComponent table t c u × IsTarget table variables y u) (λ t. component-decides (is_number (own_type table variables y)) (IsTarget table variables y) (number-own y) t c) v) (itself (are_apart v y)))
       form-decides (Reveal v c) =
           through _ (λ h. (h.0, h.2.0, h.1, h.2.1)) (λ h. (h.0, h.2, (h.1, h.3, tt)))
-          (at-seen (λ t. at_component table variables t c (λ u. true)) (λ t. (u : ℕ) × IsComponent table t c u × Unit {0}) (λ t. component-decides (λ u. true) (λ u. Unit {0}) (λ u. true-decides tt) t c) v)
+          (at-seen (λ t. at_component_type table variables t c (λ u. true)) (λ t. (u : ℕ) × IsComponent table t c u × Unit {0}) (λ t. component-decides (λ u. true) (λ u. Unit {0}) (λ u. true-decides tt) t c) v)
       form-decides (Case v cs) =
           through _ (λ h. (h.0, h.2.0, h.1, h.2.1, h.2.2.0, h.2.2.1)) (λ h. (h.0, h.2, (h.1, h.3, (h.4, h.5))))
           (at-seen (λ t. on_cases (λ ts. are_different nat_eq cs && (every (λ c. nat_lt c (length ts)) cs && every (λ c. some_of (nat_eq c) cs) (range 0 (length ts)))) (slice_get table t)) (λ t. (ts : List ℕ) × HasShape table t (cases ts) × (Differ cs × ((c : ℕ) → IsIn c cs ↔ (c < length ts))))

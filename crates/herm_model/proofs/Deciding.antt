@@ -107,7 +107,7 @@ rise-decides [] = ((λ h. tt), λ h. refl)
 rise-decides (n ∷ ns) = both-decide (every (nat_lt n) ns) (do_rise ns) (all-decide (nat_lt n) (λ m. n < m) (below-decides n) ns) (rise-decides ns)
 
 -- numbers below a bound
-below-in : (k n i : ℕ) → k ≤ i → i < k + n → IsIn i (range k n)
+pub below-in : (k n i : ℕ) → k ≤ i → i < k + n → IsIn i (range k n)
 below-in k zero i l h = let z : ⊥ = omega arith in absurd z
 below-in k (suc n) i l h = by (nat_eq i k) refl (below-in (suc k) n i)
   where

@@ -1,14 +1,14 @@
 -- The examples are judged by the tests.
-use Rattle.std.proofs.Common.{◌≡◌, ◌↔◌, List, [], ◌∷◌, map, IsTrue, inl, inr, refl, sym, subst, ◌∙◌}
-use Rattle.herm_model.specs.Lists.{IsIn, every}
+use Rattle.std.proofs.Common.{◌≡◌, ◌↔◌, List, [], ◌∷◌, map, inl, inr, refl, sym, subst, ◌∙◌}
+use Rattle.herm_model.specs.Lists.{IsIn}
 use Rattle.herm_model.specs.Statements.{Statement}
 use Rattle.herm_model.specs.WellFormedTables.{IsWellFormedTable}
 use Rattle.herm_model.specs.tests.TableTests.{broken_table_rules}
-use Rattle.herm_model.specs.tests.BodyTests.{ProcessRule, typed, are_settled}
+use Rattle.herm_model.specs.tests.BodyTests.{ProcessRule, typed}
 use Rattle.herm_model.specs.judged.StatementTypes.{statement_types, helper, main_of}
 use Rattle.herm_model.specs.judged.TableRuleExamples.{TableExample}
 use Rattle.herm_model.specs.laws.TypedExampleLaws.{example_exceptions, example_table, broken_by, IsTypedBody, AreTyped, BreakTheirFormAlone, BreakTheseRules, BreakTheseTableRules}
-use Rattle.herm_model.proofs.Lists.{every-in, cons-not_nil}
+use Rattle.herm_model.proofs.Lists.{cons-not_nil}
 use Rattle.herm_model.proofs.DecidedTables.{none-well_formed}
 use Rattle.herm_model.proofs.DecidedPrograms.{none-process}
 
@@ -21,22 +21,22 @@ map-same f g (y ∷ ys) e x (inr i) = map-same f g ys (cc e) x i
 table-formed : IsWellFormedTable example_exceptions example_table
 table-formed = (none-well_formed example_exceptions statement_types).0 refl
 
-body-judged : (body : List Statement) → IsTrue (are_settled example_table (main_of body)) → (broken_by body ≡ []) ↔ IsTypedBody body
-body-judged body settled = none-process example_exceptions example_table (helper ∷ main_of body ∷ []) (main_of body) table-formed settled
+body-judged : (body : List Statement) → (broken_by body ≡ []) ↔ IsTypedBody body
+body-judged body = none-process example_exceptions example_table (helper ∷ main_of body ∷ []) (main_of body) table-formed
 
-pub judge-typed : (ss : List Statement) → map (λ s. broken_by (s ∷ [])) ss ≡ map (λ s. []) ss → IsTrue (every (λ s. are_settled example_table (main_of (s ∷ []))) ss) → AreTyped ss
-judge-typed ss e settled s i =
-    (body-judged (s ∷ []) (every-in (λ s. are_settled example_table (main_of (s ∷ []))) s ss settled i)).0 (map-same (λ s. broken_by (s ∷ [])) (λ s. []) ss e s i)
+pub judge-typed : (ss : List Statement) → map (λ s. broken_by (s ∷ [])) ss ≡ map (λ s. []) ss → AreTyped ss
+judge-typed ss e s i =
+    (body-judged (s ∷ [])).0 (map-same (λ s. broken_by (s ∷ [])) (λ s. []) ss e s i)
 
-pub judge-untyped : (ss : List Statement) → map (λ s. broken_by (s ∷ [])) ss ≡ map (λ s. typed ∷ []) ss → IsTrue (every (λ s. are_settled example_table (main_of (s ∷ []))) ss) → BreakTheirFormAlone ss
-judge-untyped ss e settled s i =
+pub judge-untyped : (ss : List Statement) → map (λ s. broken_by (s ∷ [])) ss ≡ map (λ s. typed ∷ []) ss → BreakTheirFormAlone ss
+judge-untyped ss e s i =
     let broken = map-same (λ s. broken_by (s ∷ [])) (λ s. typed ∷ []) ss e s i in
-    (broken, λ t. cons-not_nil typed [] (sym broken ∙ (body-judged (s ∷ []) (every-in (λ s. are_settled example_table (main_of (s ∷ []))) s ss settled i)).1 t))
+    (broken, λ t. cons-not_nil typed [] (sym broken ∙ (body-judged (s ∷ [])).1 t))
 
-pub judge-bodies : (bs : List (List Statement × List ProcessRule)) → map (λ (b : List Statement × List ProcessRule). broken_by b.0) bs ≡ map (λ (b : List Statement × List ProcessRule). b.1) bs → IsTrue (every (λ (b : List Statement × List ProcessRule). are_settled example_table (main_of b.0)) bs) → BreakTheseRules bs
-judge-bodies bs e settled b i =
+pub judge-bodies : (bs : List (List Statement × List ProcessRule)) → map (λ (b : List Statement × List ProcessRule). broken_by b.0) bs ≡ map (λ (b : List Statement × List ProcessRule). b.1) bs → BreakTheseRules bs
+judge-bodies bs e b i =
     let broken = map-same (λ (b : List Statement × List ProcessRule). broken_by b.0) (λ (b : List Statement × List ProcessRule). b.1) bs e b i in
-    let judged = body-judged b.0 (every-in (λ (b : List Statement × List ProcessRule). are_settled example_table (main_of b.0)) b bs settled i) in
+    let judged = body-judged b.0 in
     (broken, (λ n. judged.0 (broken ∙ n), λ t. sym broken ∙ judged.1 t))
 
 pub judge-tables : (ts : List TableExample) → map (λ (t : TableExample). broken_table_rules t.exceptions t.defined) ts ≡ map (λ (t : TableExample). t.broken) ts → BreakTheseTableRules ts

@@ -50,3 +50,4 @@ pub mod BoundedPaths
 pub mod ThereFacts
 pub mod InRange
 pub mod JudgedExamples
+pub mod TypedArguments

@@ -1,11 +1,12 @@
 // Laws of typed programs at examples: what is typed, and for each rule what breaks it alone.
 
 ghost use Rattle.std.specs.Prelude.{◌≡◌, [], ◌∷◌, ◌++◌, map, replicate, true, false};
-ghost use Rattle.herm_model.specs.Types.{predefined};
+ghost use Rattle.herm_model.specs.Types.{predefined, fields, inport, outport};
+ghost use Rattle.herm_model.specs.WellFormedTables.{Reaches};
 ghost use Rattle.herm_model.specs.Examples.{calls, denies, on_busy};
 ghost use Rattle.herm_model.specs.judged.TypedExamples.{item_types, items_in_a_table, keeping_types, ring_main, ring_node, ring_types, sender, sender_types, two_senders, with_statements, with_variables};
 ghost use Rattle.herm_model.specs.TypedPrograms.{IsTypedProgram};
-ghost use Rattle.herm_model.specs.tests.BodyTests.{broken_process_rules, few_paths, few_statements, keeps_process_rule, port, variables_known};
+ghost use Rattle.herm_model.specs.tests.BodyTests.{broken_process_rules, few_variable_paths, few_statements, keeps_process_rule, port, variables_known};
 ghost use Rattle.herm_model.specs.judged.BodyExamples.{body_examples};
 ghost use Rattle.herm_model.specs.judged.TableRuleExamples.{table_examples};
 ghost use Rattle.herm_model.specs.laws.TypedExampleLaws.{AreTyped, BreakTheirFormAlone, BreakTheseRules, BreakTheseTableRules};
@@ -15,6 +16,12 @@ ghost use Rattle.herm_model.specs.judged.UntypedStatementExamples.{untyped_state
 /// Tables that are well formed, and for each rule of definitions tables that break it.
 pub fn tables_break_their_rules()
     ensures { BreakTheseTableRules table_examples }
+{}
+
+/// Types that reach themselves: a record of itself, and a record with an outport to an inport of itself.
+pub fn types_reach_themselves()
+    ensures itself { Reaches (predefined ++ fields (8 ∷ []) ∷ []) 8 8 }
+    ensures by_port { Reaches (predefined ++ inport 9 [] ∷ fields (10 ∷ []) ∷ outport 8 ∷ []) 9 9 }
 {}
 
 /// Statements of each form that are typed.
@@ -47,6 +54,6 @@ pub fn programs_are_typed()
 pub fn processes_break_their_rules()
     ensures port { map (λ p. broken_process_rules 7 predefined [] (with_variables p)) ([] ∷ (1 ∷ []) ∷ (7 ∷ []) ∷ []) ≡ (port ∷ []) ∷ (port ∷ []) ∷ [] ∷ [] }
     ensures unknown { map (λ p. broken_process_rules 7 predefined [] (with_variables p)) ((7 ∷ 8 ∷ []) ∷ (7 ∷ 5 ∷ []) ∷ []) ≡ (variables_known ∷ []) ∷ [] ∷ [] }
-    ensures paths { map (λ n. broken_process_rules 7 predefined [] (with_variables (7 ∷ replicate n 1))) (4095 ∷ 4096 ∷ []) ≡ [] ∷ (few_paths ∷ []) ∷ [] }
+    ensures paths { map (λ n. broken_process_rules 7 predefined [] (with_variables (7 ∷ replicate n 1))) (4095 ∷ 4096 ∷ []) ≡ [] ∷ (few_variable_paths ∷ []) ∷ [] }
     ensures statements { map (λ n. keeps_process_rule 7 predefined [] (with_statements n) few_statements) (1024 ∷ 1025 ∷ []) ≡ true ∷ false ∷ [] }
 {}

@@ -1,5 +1,6 @@
 // Laws of well-formed tables and typed programs.
 
+ghost use Rattle.herm_model.specs.laws.ArgumentLaws.{TypedArgumentsFit};
 ghost use Rattle.herm_model.specs.laws.ExcessLaws.{FactsHaveTheirExcess, ValuesHaveTheirExcess};
 ghost use Rattle.herm_model.specs.laws.TypedFactLaws.{CallmessagesTravelFull, DeclaredFactsAreThere, FullFactsAreThere, HeldFactsAreThere, ListedFactsAreThere, TypedCallsDeclare, TypedFormsAreInRange, TypedFormsHaveTheirFacts, TypedPathsAreBounded};
 ghost use Rattle.herm_model.specs.laws.TypedLaws.{NoneBrokenIsTyped, NoneBrokenIsWellFormed, TestDecidesPrograms, TestsDecideProcesses, TestsDecideTables};
@@ -34,10 +35,11 @@ pub fn typed_facts_are_there()
 {}
 
 /// The exceptions that a call declares differ and keep only what the call sets, nothing with Disconnected. Callmessages
-/// travel full.
+/// travel full. The arguments that come back are targets of the types of their parameters, and apart.
 pub fn typed_calls_declare()
     ensures exceptions { TypedCallsDeclare }
     ensures messages { CallmessagesTravelFull }
+    ensures arguments { TypedArgumentsFit }
 {}
 
 /// Every number in a typed statement is in range.

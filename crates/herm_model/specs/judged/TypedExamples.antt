@@ -11,8 +11,8 @@ use Rattle.herm_model.specs.Examples.{in_order}
 abbrev pub variable : ℕ → Path
 variable i = i ∷ []
 
-abbrev pub part_of : ℕ → ℕ → Path
-part_of i j = i ∷ j ∷ []
+abbrev pub field_in : ℕ → ℕ → Path
+field_in i j = i ∷ j ∷ []
 
 abbrev pub number : ℕ → Expression
 number n = literal (Literal.integer (pos n))
@@ -20,8 +20,8 @@ number n = literal (Literal.integer (pos n))
 abbrev pub string : List ℕ → Expression
 string bytes = literal (Literal.text bytes)
 
-abbrev pub process : List ℕ → List Statement → Process
-process variables body = record { variables = variables; body = in_order body }
+abbrev pub process_with : List ℕ → List Statement → Process
+process_with variables body = record { variables = variables; body = in_order body }
 
 abbrev pub receives : Statement
 receives = simple (Receive (variable 1) (variable 0))
@@ -67,22 +67,22 @@ ring_types = inport 1 [] ∷ outport 8 ∷ fields (8 ∷ 9 ∷ 5 ∷ []) ∷ inp
 --   }
 -- }
 abbrev pub ring_node : Process
-ring_node = process (11 ∷ 10 ∷ 1 ∷ 2 ∷ []) (
+ring_node = process_with (11 ∷ 10 ∷ 1 ∷ 2 ∷ []) (
     receives
     ∷ while_do (literal (Literal.boolean true)) (
-    simple (Receive (variable 2) (part_of 1 0))
-    ∷ if_then (operation equal (copy (variable 2)) (number 0)) (set_to (variable 3) (string (codes "token home")) ∷ simple (Send (variable 3) (part_of 1 2)) ∷ [])
+    simple (Receive (variable 2) (field_in 1 0))
+    ∷ if_then (operation equal (copy (variable 2)) (number 0)) (set_to (variable 3) (string (codes "token home")) ∷ simple (Send (variable 3) (field_in 1 2)) ∷ [])
     ∷ if_then (operation less (copy (variable 2)) (number 1)) (
-    trying (in_order (set_to (variable 2) (one_less (variable 2)) ∷ simple (Send (variable 2) (part_of 1 1)) ∷ [])) (handler disconnected no_statements no_handlers)
+    trying (in_order (set_to (variable 2) (one_less (variable 2)) ∷ simple (Send (variable 2) (field_in 1 1)) ∷ [])) (handler disconnected no_statements no_handlers)
     ∷ leaving ∷ [])
     ∷ set_to (variable 2) (one_less (variable 2))
-    ∷ simple (Send (variable 2) (part_of 1 1)) ∷ [])
+    ∷ simple (Send (variable 2) (field_in 1 1)) ∷ [])
     ∷ [])
 
 -- `new c; move x to c.inp; c.next := next; c.out := m.out; create p of node; send c to p;`
 abbrev pub begin_node : Path → List Statement
 begin_node x =
-    simple (New (variable 7)) ∷ simple (Move x (part_of 7 0)) ∷ set_to (part_of 7 1) (copy (variable 4)) ∷ set_to (part_of 7 2) (copy (part_of 1 1))
+    simple (New (variable 7)) ∷ simple (Move x (field_in 7 0)) ∷ set_to (field_in 7 1) (copy (variable 4)) ∷ set_to (field_in 7 2) (copy (field_in 1 1))
     ∷ simple (Create (variable 8) 0) ∷ simple (Send (variable 7) (variable 8)) ∷ []
 
 -- process main(start: main_start) {
@@ -99,7 +99,7 @@ begin_node x =
 --   send k to head;
 -- }
 abbrev pub ring_main : Process
-ring_main = process (7 ∷ 6 ∷ 8 ∷ 9 ∷ 9 ∷ 8 ∷ 9 ∷ 10 ∷ 12 ∷ 1 ∷ []) (
+ring_main = process_with (7 ∷ 6 ∷ 8 ∷ 9 ∷ 9 ∷ 8 ∷ 9 ∷ 10 ∷ 12 ∷ 1 ∷ []) (
     receives ∷ simple (New (variable 2)) ∷ simple (Connect (variable 3) (variable 2)) ∷ set_to (variable 4) (copy (variable 3)) ∷ set_to (variable 9) (number 1)
     ∷ while_do (operation less (copy (variable 9)) (number 3)) (
     simple (New (variable 5)) ∷ simple (Connect (variable 6) (variable 5))
@@ -124,20 +124,20 @@ sender_types = fields (1 ∷ 1 ∷ []) ∷ inport 8 [] ∷ outport 9 ∷ fields 
 --   while k <= 100 { new x; x.who := j.who; x.n := k; send x to j.dest; k := k + 1; }
 -- }
 abbrev pub sender : Process
-sender = process (12 ∷ 11 ∷ 8 ∷ 1 ∷ []) (
+sender = process_with (12 ∷ 11 ∷ 8 ∷ 1 ∷ []) (
     receives ∷ set_to (variable 3) (number 1)
     ∷ while_do (operation at_most (copy (variable 3)) (number 100)) (
-    simple (New (variable 2)) ∷ set_to (part_of 2 0) (copy (part_of 1 0)) ∷ set_to (part_of 2 1) (copy (variable 3))
-    ∷ simple (Send (variable 2) (part_of 1 1)) ∷ set_to (variable 3) (one_more (variable 3)) ∷ [])
+    simple (New (variable 2)) ∷ set_to (field_in 2 0) (copy (field_in 1 0)) ∷ set_to (field_in 2 1) (copy (variable 3))
+    ∷ simple (Send (variable 2) (field_in 1 1)) ∷ set_to (variable 3) (one_more (variable 3)) ∷ [])
     ∷ [])
 
 -- `create p of sender; new j; j.who := ..; j.dest := o; send j to p;`
 abbrev pub begin_sender : ℕ → List Statement
-begin_sender who = simple (Create (variable 4) 0) ∷ simple (New (variable 5)) ∷ set_to (part_of 5 0) (number who) ∷ set_to (part_of 5 1) (copy (variable 3)) ∷ simple (Send (variable 5) (variable 4)) ∷ []
+begin_sender who = simple (Create (variable 4) 0) ∷ simple (New (variable 5)) ∷ set_to (field_in 5 0) (number who) ∷ set_to (field_in 5 1) (copy (variable 3)) ∷ simple (Send (variable 5) (variable 4)) ∷ []
 
 -- `if x.n = a + 1 { a := x.n; }`
 abbrev pub count_next : ℕ → Statement
-count_next a = if_then (operation equal (copy (part_of 6 1)) (one_more (variable a))) (set_to (variable a) (copy (part_of 6 1)) ∷ [])
+count_next a = if_then (operation equal (copy (field_in 6 1)) (one_more (variable a))) (set_to (variable a) (copy (field_in 6 1)) ∷ [])
 
 -- process main(start: main_start) {
 --   var m: main_message, i: item_in, o: item_out, p: job_out, j: job,
@@ -156,16 +156,16 @@ count_next a = if_then (operation equal (copy (part_of 6 1)) (one_more (variable
 --   send s to m.out;
 -- }
 abbrev pub two_senders : Process
-two_senders = process (7 ∷ 6 ∷ 9 ∷ 10 ∷ 13 ∷ 11 ∷ 8 ∷ 1 ∷ 1 ∷ 1 ∷ 2 ∷ []) (
+two_senders = process_with (7 ∷ 6 ∷ 9 ∷ 10 ∷ 13 ∷ 11 ∷ 8 ∷ 1 ∷ 1 ∷ 1 ∷ 2 ∷ []) (
     receives ∷ simple (New (variable 2)) ∷ simple (Connect (variable 3) (variable 2))
     ∷ (begin_sender 1 ++ (begin_sender 2 ++ (
     set_to (variable 7) (number 0) ∷ set_to (variable 8) (number 0) ∷ set_to (variable 9) (number 0)
     ∷ while_do (operation less (copy (variable 9)) (number 200)) (
     simple (Receive (variable 6) (variable 2))
-    ∷ if_else (operation equal (copy (part_of 6 0)) (number 1)) (count_next 7 ∷ []) (count_next 8 ∷ [])
+    ∷ if_else (operation equal (copy (field_in 6 0)) (number 1)) (count_next 7 ∷ []) (count_next 8 ∷ [])
     ∷ set_to (variable 9) (one_more (variable 9)) ∷ [])
     ∷ set_to (variable 10) (operation concatenated (operation concatenated (decimal (copy (variable 7))) (string (codes " "))) (decimal (copy (variable 8))))
-    ∷ simple (Send (variable 10) (part_of 1 1)) ∷ []))))
+    ∷ simple (Send (variable 10) (field_in 1 1)) ∷ []))))
 
 -- definitions d {
 --   exception Busy;
@@ -202,22 +202,22 @@ item_types = cases (1 ∷ 2 ∷ []) ∷ fields (1 ∷ 8 ∷ []) ∷ rows 9 (0 �
 --   }
 -- }
 abbrev pub items_in_a_table : Process
-items_in_a_table = process (7 ∷ 6 ∷ 10 ∷ 9 ∷ 1 ∷ 2 ∷ 3 ∷ 8 ∷ []) (
+items_in_a_table = process_with (7 ∷ 6 ∷ 10 ∷ 9 ∷ 1 ∷ 2 ∷ 3 ∷ 8 ∷ []) (
     receives ∷ simple (New (variable 2)) ∷ set_to (variable 4) (number 1) ∷ simple (Unite (variable 7) 0 (variable 4))
-    ∷ simple (New (variable 3)) ∷ set_to (part_of 3 0) (number 1) ∷ simple (Move (variable 7) (part_of 3 1))
+    ∷ simple (New (variable 3)) ∷ set_to (field_in 3 0) (number 1) ∷ simple (Move (variable 7) (field_in 3 1))
     ∷ trying (in_order (simple (Insert (variable 3) (variable 2)) ∷ [])) (handler duplicate_key (in_order (simple (Discard (variable 3)) ∷ [])) no_handlers)
     ∷ simple (Wrap (variable 2) (variable 6))
     ∷ trying (in_order (simple (Unwrap (variable 6) 10 (variable 2)) ∷ [])) (handler polymorph_mismatch (in_order (simple (New (variable 2)) ∷ [])) no_handlers)
     ∷ repeating (For (variable 3) (variable 2)) (in_order (
-    choosing (Case (part_of 3 1) (0 ∷ 1 ∷ [])) (
+    choosing (Case (field_in 3 1) (0 ∷ 1 ∷ [])) (
     block (in_order (set_to (variable 5) (decimal (copy (3 ∷ 1 ∷ 0 ∷ []))) ∷ []))
     (block (in_order (set_to (variable 5) (copy (3 ∷ 1 ∷ 1 ∷ [])) ∷ [])) no_blocks))
-    ∷ simple (Send (variable 5) (part_of 1 1)) ∷ []))
+    ∷ simple (Send (variable 5) (field_in 1 1)) ∷ []))
     ∷ [])
 
 -- a process of these variables with an empty body, and one of so many statements
 abbrev pub with_variables : List ℕ → Process
-with_variables variables = process variables []
+with_variables variables = process_with variables []
 
 abbrev pub with_statements : ℕ → Process
-with_statements n = process (7 ∷ 1 ∷ []) (replicate n (set_to (variable 1) (number 1)))
+with_statements n = process_with (7 ∷ 1 ∷ []) (replicate n (set_to (variable 1) (number 1)))

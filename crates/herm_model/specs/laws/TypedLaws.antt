@@ -11,7 +11,7 @@ use Rattle.herm_model.specs.WellFormedTables.{predefined_exceptions, greatest_pa
 use Rattle.herm_model.specs.TypedStatements.{IsTypedForm}
 use Rattle.herm_model.specs.TypedPrograms.{greatest_statements, greatest_variable_paths, HasArms, HasHandlers, HasDifferentHandlers, HandlesKnown, LeavesLoop, OfEachStatement, IsTypedProcess, IsTypedProgram}
 use Rattle.herm_model.specs.tests.TableTests.{TableRule, predefined_types, enough_exceptions, types_known, exceptions_known, exceptions_differ, shallow, few_paths, keys, outports, inputs_copyable, facts_of_fields, one_case, kept_returned, kept_rising, kept_disconnected, keeps_table_rule, broken_table_rules}
-use Rattle.herm_model.specs.tests.BodyTests.{ProcessRule, port, variables_known, few_statements, blocks, arms, handlers, handlers_differ, handlers_known, leaves_in_loops, typed, reached, keeps_process_rule, broken_process_rules, are_settled, is_judged, is_typed_program}
+use Rattle.herm_model.specs.tests.BodyTests.{ProcessRule, port, variables_known, few_variable_paths, few_statements, blocks, arms, handlers, handlers_differ, handlers_known, leaves_in_loops, typed, reached, keeps_process_rule, broken_process_rules, is_typed_program}
 
 -- what each rule of tables says
 abbrev pub TableKeeps : (exceptions : ℕ) → TypeTable → TableRule → Type 0
@@ -44,7 +44,7 @@ NoneBrokenIsWellFormed = (exceptions : ℕ) (defined : TypeTable) → (broken_ta
 abbrev pub ProcessKeeps : (exceptions : ℕ) → TypeTable → List Process → Process → ProcessRule → Type 0
 ProcessKeeps exceptions table processes p port = (t message : ℕ) × (declared : List Fact) × (slice_get p.variables 0 ≡ Some t) × HasShape table t (inport message declared)
 ProcessKeeps exceptions table processes p variables_known = (t : ℕ) → IsIn t p.variables → IsType table t
-ProcessKeeps exceptions table processes p ProcessRule.few_paths = length (variable_paths all_parts table p.variables) ≤ greatest_variable_paths
+ProcessKeeps exceptions table processes p few_variable_paths = length (variable_paths all_parts table p.variables) ≤ greatest_variable_paths
 ProcessKeeps exceptions table processes p few_statements = numbers_of_block p.body ≤ greatest_statements
 ProcessKeeps exceptions table processes p blocks = IsWellFormedBlock p.body
 ProcessKeeps exceptions table processes p arms = OfEachStatement p (λ l s. HasArms s)
@@ -55,18 +55,17 @@ ProcessKeeps exceptions table processes p leaves_in_loops = OfEachStatement p Le
 ProcessKeeps exceptions table processes p typed = (n : Node) → IsIn n (process_nodes p) → IsTypedForm table p.variables exceptions processes n.form
 ProcessKeeps exceptions table processes p reached = (i : ℕ) → i < length (process_nodes p) → IsReached (flow_of table p) (node i)
 
--- The test of each rule of processes decides it, in a well-formed table, where the body's blocks belong to their forms and
--- the marks of what is reached are settled.
+-- The test of each rule of processes decides it, in a well-formed table, where the body's blocks belong to their forms.
 abbrev pub TestsDecideProcesses : Type 0
-TestsDecideProcesses = (exceptions : ℕ) (table : TypeTable) (processes : List Process) (p : Process) → IsWellFormedTable exceptions table → IsTrue (are_settled table p)
+TestsDecideProcesses = (exceptions : ℕ) (table : TypeTable) (processes : List Process) (p : Process) → IsWellFormedTable exceptions table
     → IsTrue (keeps_process_rule exceptions table processes p blocks) → (rule : ProcessRule) → IsTrue (keeps_process_rule exceptions table processes p rule) ↔ ProcessKeeps exceptions table processes p rule
 
 -- A process is typed exactly where no test finds a broken rule.
 abbrev pub NoneBrokenIsTyped : Type 0
-NoneBrokenIsTyped = (exceptions : ℕ) (table : TypeTable) (processes : List Process) (p : Process) → IsWellFormedTable exceptions table → IsTrue (are_settled table p)
+NoneBrokenIsTyped = (exceptions : ℕ) (table : TypeTable) (processes : List Process) (p : Process) → IsWellFormedTable exceptions table
     → (broken_process_rules exceptions table processes p ≡ []) ↔ IsTypedProcess exceptions table processes p
 
--- The test of programs decides which are typed, where it can judge.
+-- The test of programs decides which are typed.
 abbrev pub TestDecidesPrograms : Type 0
-TestDecidesPrograms = (exceptions : ℕ) (defined : TypeTable) (processes : List Process) (main : ℕ) → IsTrue (is_judged defined processes)
+TestDecidesPrograms = (exceptions : ℕ) (defined : TypeTable) (processes : List Process) (main : ℕ)
     → IsTrue (is_typed_program exceptions defined processes main) ↔ IsTypedProgram exceptions (predefined ++ defined) processes main

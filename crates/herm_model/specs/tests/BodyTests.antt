@@ -1,5 +1,5 @@
 -- Tests of bodies, processes and programs, rule by rule. A law says that they decide which are typed.
-use Rattle.std.specs.Prelude.{ℕ, List, [], ◌∷◌, ◌++◌, map, filter, length, Bool, true, false, not, cond, ◌&&◌, ◌||◌, nat_eq, nat_lt, nat_le, is_some, slice_get}
+use Rattle.std.specs.Prelude.{ℕ, zero, suc, List, [], ◌∷◌, ◌++◌, map, filter, length, Bool, true, false, not, cond, ◌&&◌, ◌||◌, nat_eq, nat_lt, nat_le, is_some, slice_get}
 use Rattle.herm_model.specs.Lists.{with_some, every, some_of, numbered, range}
 use Rattle.herm_model.specs.Types.{TypeTable, predefined, all_parts, variable_paths}
 use Rattle.herm_model.specs.Statements.{Form, Case, Statement, simple, choosing, repeating, leaving, trying, Block, no_statements, statement, Blocks, no_blocks, block, Handlers, no_handlers, handler, Process, Branching, goes_on, repeats, leaves, chooses, branching_of, count_blocks, numbers_of_block}
@@ -74,34 +74,43 @@ module _ (table : TypeTable) (p : Process) where
   abbrev pub places_behind : Node → List ℕ
   places_behind n = places_of (map (λ (e : Exit). e.target) (exits table p.variables n))
 
-  -- One sweep over the nodes in order marks what is behind what is marked. That is all that control reaches, since it goes
-  -- back only to loops; where the marks are not settled, nothing is judged.
+  -- One sweep over the nodes in order marks what is behind what is marked. Most often that is all that control reaches,
+  -- since it goes back only to loops.
   abbrev pub sweep : List (ℕ × Node) → List ℕ → List ℕ
   sweep [] marked = marked
   sweep (n ∷ ns) marked = sweep ns (cond (some_of (nat_eq n.0) marked) (places_behind n.1 ++ marked) marked)
 
+  -- the entry is marked, and with each node what is behind it
+  abbrev pub are_settled : List ℕ → Bool
+  are_settled marked =
+      every (λ i. some_of (nat_eq i) marked) (places_of (entry_of p ∷ []))
+      && every (λ n. not (some_of (nat_eq n.0) marked) || every (λ i. some_of (nat_eq i) marked) (places_behind n.1)) (numbered 0 (process_nodes p))
+
+  -- sweeps until the marks are settled, at most so many
+  abbrev pub settle : ℕ → List ℕ → List ℕ
+  settle zero marked = marked
+  settle (suc n) marked = elim (are_settled marked) [ true ↦ marked | false ↦ settle n (sweep (numbered 0 (process_nodes p)) marked) ]
+
+  -- what control reaches: a law says that the marks are settled
   abbrev pub marked_places : List ℕ
-  marked_places = sweep (numbered 0 (process_nodes p)) (places_of (entry_of p ∷ []))
+  marked_places = settle (suc (length (process_nodes p))) (places_of (entry_of p ∷ []))
 
   abbrev pub is_marked : ℕ → Bool
   is_marked i = some_of (nat_eq i) marked_places
 
-  abbrev pub are_settled : Bool
-  are_settled = every is_marked (places_of (entry_of p ∷ [])) && every (λ n. not (is_marked n.0) || every is_marked (places_behind n.1)) (numbered 0 (process_nodes p))
-
 -- The rules of processes, by the names of the parts of a typed process.
 pub data ProcessRule : Type 0 where
-  port variables_known few_paths few_statements : ProcessRule
+  port variables_known few_variable_paths few_statements : ProcessRule
   blocks arms handlers handlers_differ handlers_known leaves_in_loops typed reached : ProcessRule
 
 abbrev pub process_rules : List ProcessRule
-process_rules = port ∷ variables_known ∷ few_paths ∷ few_statements ∷ blocks ∷ arms ∷ handlers ∷ handlers_differ ∷ handlers_known ∷ leaves_in_loops ∷ typed ∷ reached ∷ []
+process_rules = port ∷ variables_known ∷ few_variable_paths ∷ few_statements ∷ blocks ∷ arms ∷ handlers ∷ handlers_differ ∷ handlers_known ∷ leaves_in_loops ∷ typed ∷ reached ∷ []
 
 -- whether a process keeps a rule
 abbrev pub keeps_process_rule : (exceptions : ℕ) → TypeTable → List Process → Process → ProcessRule → Bool
 keeps_process_rule exceptions table processes p port = with_some false (λ t. on_inport (λ message declared. true) (slice_get table t)) (slice_get p.variables 0)
 keeps_process_rule exceptions table processes p variables_known = every (λ t. is_some (slice_get table t)) p.variables
-keeps_process_rule exceptions table processes p few_paths = nat_le (length (variable_paths all_parts table p.variables)) greatest_variable_paths
+keeps_process_rule exceptions table processes p few_variable_paths = nat_le (length (variable_paths all_parts table p.variables)) greatest_variable_paths
 keeps_process_rule exceptions table processes p few_statements = nat_le (numbers_of_block p.body) greatest_statements
 keeps_process_rule exceptions table processes p blocks = is_well_formed_block p.body
 keeps_process_rule exceptions table processes p arms = of_each_statement p has_arms
@@ -116,14 +125,11 @@ keeps_process_rule exceptions table processes p reached = every (is_marked table
 abbrev pub broken_process_rules : (exceptions : ℕ) → TypeTable → List Process → Process → List ProcessRule
 broken_process_rules exceptions table processes p = filter (λ rule. not (keeps_process_rule exceptions table processes p rule)) process_rules
 
-abbrev pub is_none : {X : Type 0} → List X → Bool
-is_none [] = true
-is_none (x ∷ xs) = false
+abbrev pub is_empty : {X : Type 0} → List X → Bool
+is_empty [] = true
+is_empty (x ∷ xs) = false
 
--- whether a program is typed, and whether that can be judged so
+-- whether a program is typed
 abbrev pub is_typed_program : (exceptions : ℕ) → (defined : TypeTable) → List Process → (main : ℕ) → Bool
 is_typed_program exceptions defined processes main =
-    is_none (broken_table_rules exceptions defined) && (every (λ p. is_none (broken_process_rules exceptions (predefined ++ defined) processes p)) processes && is_number (port_type processes main) main_start)
-
-abbrev pub is_judged : (defined : TypeTable) → List Process → Bool
-is_judged defined processes = every (are_settled (predefined ++ defined)) processes
+    is_empty (broken_table_rules exceptions defined) && (every (λ p. is_empty (broken_process_rules exceptions (predefined ++ defined) processes p)) processes && is_number (port_type processes main) main_start)

@@ -105,8 +105,8 @@ module _ (table : TypeTable) where
     at_inport i test = with_some false (λ t. on_inport (λ message declared. test message) (slice_get table t)) (seen_type i)
 
     -- a test of a component's type
-    abbrev pub at_component : ℕ → ℕ → (ℕ → Bool) → Bool
-    at_component t c test = on_cases (λ ts. with_some false test (slice_get ts c)) (slice_get table t)
+    abbrev pub at_component_type : ℕ → ℕ → (ℕ → Bool) → Bool
+    at_component_type t c test = on_cases (λ ts. with_some false test (slice_get ts c)) (slice_get table t)
 
     abbrev pub is_found : Path → Path → List Atom → (ℕ → Bool) → Bool
     is_found r t keys test = at_table t (λ row key. is_number (own_type r) row && test row && on_fields (λ ts. are_keys ts key keys) (slice_get table row))
@@ -126,9 +126,9 @@ module _ (table : TypeTable) where
       is_typed_form (Move y x) = with_some false (is_number (own_type x)) (own_type y) && are_apart y x
       is_typed_form (New x) = with_some false (λ t. with_some false can_be_new (slice_get table t)) (own_type x)
       is_typed_form (Discard x) = is_some (own_type x)
-      is_typed_form (Unite v c y) = with_some false (λ t. at_component t c (is_number (own_type y))) (own_type v) && are_apart y v
-      is_typed_form (Dissolve v c y) = with_some false (λ t. at_component t c (is_number (own_type y))) (own_type v) && are_apart v y
-      is_typed_form (Reveal v c) = with_some false (λ t. at_component t c (λ u. true)) (seen_type v)
+      is_typed_form (Unite v c y) = with_some false (λ t. at_component_type t c (is_number (own_type y))) (own_type v) && are_apart y v
+      is_typed_form (Dissolve v c y) = with_some false (λ t. at_component_type t c (is_number (own_type y))) (own_type v) && are_apart v y
+      is_typed_form (Reveal v c) = with_some false (λ t. at_component_type t c (λ u. true)) (seen_type v)
       is_typed_form (Case v cs) = with_some false (λ t. on_cases (λ ts. are_different nat_eq cs && (every (λ c. nat_lt c (length ts)) cs && every (λ c. some_of (nat_eq c) cs) (range 0 (length ts)))) (slice_get table t)) (seen_type v)
       is_typed_form (Wrap y p) = (is_some (own_type y) && with_some false (λ t. is_polymorph (slice_get table t)) (own_type p)) && are_apart y p
       is_typed_form (Unwrap p t y) = (is_number (own_type y) t && with_some false (λ u. is_polymorph (slice_get table u)) (own_type p)) && are_apart p y

@@ -4,4 +4,4 @@ use Rattle.herm_model.proofs.JudgedExamples.{judge-typed}
 use Rattle.herm_model.proofs.typed_examples.statements_are_typed.Goals as goal
 
 pub returns : goal.returns
-returns c = judge-typed typed_statements refl refl
+returns c = judge-typed typed_statements refl
