@@ -1,5 +1,5 @@
 -- What is due to the words, from what a shelf answers.
-use Rattle.std.proofs.Common.{◌≡◌, ◌≢◌, ◌≤◌, ◌⊎◌, inl, inr, ℕ, List, [], ◌∷◌, ◌++◌, Option, Some, None, length, take, refl, ap, subst, IfSome, MatchOption, option_map, arith}
+use Rattle.std.proofs.Common.{◌≡◌, ◌≤◌, ◌⊎◌, inl, inr, ℕ, List, [], ◌∷◌, ◌++◌, Option, Some, None, length, take, refl, ap, subst, IfSome, MatchOption, option_map, arith}
 use Rattle.herm_edge.specs.Faults.{Rose}
 use Rattle.herm_edge.specs.Shelf.{File, Load, FileAnswer, given, not_there, not_read, no_memory, answer_of, IfHere, file_at}
 use Rattle.herm_edge.specs.declared.shelf.Loaded.{Loaded}

@@ -1,6 +1,6 @@
 -- The loads of a call: which files it asks a shelf for, and what the shelf answers. `loads` is what the shelf says of a load.
 -- (Language reference, "The outside", "Statuses and texts")
-use Rattle.std.specs.Prelude.{◌≡◌, ℕ, ◌≤◌, List, [], ◌∷◌, Option, Some, None, IfSome, length, take, option_map}
+use Rattle.std.specs.Prelude.{◌≡◌, ℕ, ◌≤◌, List, [], ◌∷◌, Option, Some, None, length, take, option_map}
 use Rattle.herm_edge.specs.Faults.{Rose}
 use Rattle.herm_edge.specs.Shelf.{File, Load, FileAnswer, given, not_there, not_read, no_memory, file_at}
 

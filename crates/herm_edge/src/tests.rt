@@ -9,6 +9,7 @@ use std::fs::Permissions;
 use std::io::{self, ErrorKind, Write};
 use std::os::unix::fs::{PermissionsExt, symlink};
 use std::process::Abort;
+use std::rt::Files;
 use std::test::Fail;
 use std::{env, fs};
 
@@ -195,28 +196,34 @@ fn a_shelf_over_the_system_reads_files_by_their_names(rt: HostRuntime) -> Result
     Ok(())
 }
 
+// Writes a file with so many bytes, loads it, and compares.
+fn reads_length<R: Files + AllocGlobal + Abort>(
+    rt: &R,
+    name: &str,
+    length: usize,
+    limit: usize,
+) -> Result<(), Fail> {
+    let text = vec![in rt.alloc(); b'y'; length]?;
+    fs::write(rt, name, &text)?;
+    let mut shelf = DirShelf::new(rt);
+    loads(
+        rt,
+        &mut shelf,
+        name,
+        limit,
+        Want::Bytes(&text[..length.min(limit)]),
+    );
+    Ok(())
+}
+
 // The largest source file, and one byte more, are read whole.
 #[test]
 fn a_shelf_over_the_system_reads_a_mib_and_a_byte(rt: HostRuntime) -> Result<(), Fail> {
-    let alloc = rt.alloc();
     let folder = env::temp_dir(&rt)?;
     let folder = folder.to_string_lossy();
-    let name = format!(in alloc; "{folder}/herm_edge_a_mib")?;
-    let text = vec![in alloc; b'y'; 1_048_578]?;
-    let mut shelf = DirShelf::new(&rt);
-    for (length, read) in [
-        (1_048_576, 1_048_576),
-        (1_048_577, 1_048_577),
-        (1_048_578, 1_048_577),
-    ] {
-        fs::write(&rt, &name, &text[..length])?;
-        loads(
-            &rt,
-            &mut shelf,
-            &name,
-            1_048_577,
-            Want::Bytes(&text[..read]),
-        );
+    let name = format!(in rt.alloc(); "{folder}/herm_edge_a_mib")?;
+    for more in 0..3 {
+        reads_length(&rt, &name, (1 << 20) + more, (1 << 20) + 1)?;
     }
     fs::remove_file(&rt, &name)?;
     Ok(())

@@ -1,7 +1,8 @@
 //! The program over the system's files: its text and its status.
 use super::run;
 use std::alloc::{AllocError, Global};
-use std::process::ExitCode;
+use std::process::{Abort, ExitCode};
+use std::rt::Files;
 use std::test::Fail;
 use std::{env, fs};
 
@@ -13,15 +14,32 @@ const GREETING: &str = "process main(start: main_start) {
 }
 ";
 
-fn words_of(alloc: Global, words: &[&str]) -> Result<Vec<String>, AllocError> {
-    let mut strings = Vec::new(alloc);
-    for word in words {
-        strings.push(String::from_str(alloc, word)?)?;
-    }
-    Ok(strings)
+const USAGE: &str = "usage: hermes check FILE.. | hermes run OPTIONS FILE.. | hermes make N\n";
+
+/// The words of a command and a file's name.
+fn words_of(alloc: Global, command: &str, name: &str) -> Result<Vec<String>, AllocError> {
+    let mut words = Vec::new(alloc);
+    words.push(String::from_str(alloc, command)?)?;
+    words.push(String::from_str(alloc, name)?)?;
+    Ok(words)
 }
 
-// Names with a blank, files that are refused, missing or no files, a writer without room, and words that took too much memory.
+/// Runs a command over a file, and compares the status and the text.
+fn ends<R: Files + AllocGlobal + Abort>(
+    rt: &R,
+    command: &str,
+    name: &str,
+    status: u8,
+    text: &str,
+) -> Result<(), AllocError> {
+    let mut written = Vec::new(rt.alloc());
+    let code = run(rt, words_of(rt.alloc(), command, name), &mut written);
+    assert!(rt; code == ExitCode::from(status), "status {status}");
+    assert_eq!(rt; written.as_slice(), text.as_bytes(), "status {status}");
+    Ok(())
+}
+
+// A name with a blank, a file that is refused, words that are not taken, a folder, and a file that is not there.
 #[test]
 fn the_program_ends_with_the_status_of_its_call(rt: HostRuntime) -> Result<(), Fail> {
     let alloc = rt.alloc();
@@ -29,38 +47,29 @@ fn the_program_ends_with_the_status_of_its_call(rt: HostRuntime) -> Result<(), F
     let folder = folder.to_string_lossy();
     let name = format!(in alloc; "{folder}/hermes a greeting.hm")?;
     let gone = format!(in alloc; "{folder}/hermes_gone.hm")?;
-    let refused = format!(in alloc; "{folder}/hermes_refused.hm")?;
     fs::write(&rt, &name, GREETING.as_bytes())?;
-    fs::write(&rt, &refused, b"process 00")?;
-    let usage = "usage: hermes check FILE.. | hermes run OPTIONS FILE.. | hermes make N\n";
-    let missing = format!(in alloc; "hermes: {gone}: not found\n")?;
+    ends(&rt, "run", &name, 0, "hi\n")?;
+    ends(&rt, "ran", &name, 2, USAGE)?;
+    ends(&rt, "run", "-", 2, USAGE)?;
     let unread = format!(in alloc; "hermes: {folder}: read fault\n")?;
-    let token = format!(in alloc; "{refused}:1:9: F2 token\n")?;
-    let rows: [(&[&str], u8, &str); 6] = [
-        (&["run", name.as_str()], 0, "hi\n"),
-        (&["run", refused.as_str()], 1, token.as_str()),
-        (&["run"], 2, usage),
-        (&["ran", name.as_str()], 2, usage),
-        (&["run", folder], 3, unread.as_str()),
-        (&["run", gone.as_str()], 10, missing.as_str()),
-    ];
-    for (words, status, text) in rows {
-        let mut written = Vec::new(alloc);
-        let code = run(&rt, words_of(alloc, words), &mut written);
-        assert!(rt; code == ExitCode::from(status), "status {status}");
-        assert_eq!(rt; written.as_slice(), text.as_bytes(), "status {status}");
-    }
-    let mut room = [0u8; 2];
-    let code = run(
-        &rt,
-        words_of(alloc, &["run", name.as_str()]),
-        room.as_mut_slice(),
-    );
-    assert!(rt; code == ExitCode::from(4), "status 4");
-    assert_eq!(rt; room, *b"hi");
-    let code = run(&rt, Err(AllocError), room.as_mut_slice());
-    assert!(rt; code == ExitCode::from(5), "status 5");
+    ends(&rt, "run", folder, 3, &unread)?;
+    let missing = format!(in alloc; "hermes: {gone}: not found\n")?;
+    ends(&rt, "run", &gone, 10, &missing)?;
+    fs::write(&rt, &name, b"process 00")?;
+    let token = format!(in alloc; "{name}:1:9: F2 token\n")?;
+    ends(&rt, "run", &name, 1, &token)?;
     fs::remove_file(&rt, &name)?;
-    fs::remove_file(&rt, &refused)?;
+    Ok(())
+}
+
+// A writer without room, and words that took too much memory.
+#[test]
+fn the_program_ends_with_a_fault_of_its_writer(rt: HostRuntime) -> Result<(), Fail> {
+    let mut room = [0u8; 2];
+    let code = run(&rt, words_of(rt.alloc(), "run", "-"), room.as_mut_slice());
+    assert!(rt; code == ExitCode::from(4));
+    assert_eq!(rt; room, *b"us");
+    let code = run(&rt, Err(AllocError), room.as_mut_slice());
+    assert!(rt; code == ExitCode::from(5));
     Ok(())
 }
