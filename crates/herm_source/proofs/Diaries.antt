@@ -14,12 +14,16 @@ use Rattle.herm_journal.specs.Actions.{values, raised, gone, new_port, new_proce
 use Rattle.herm_journal.specs.Places.{Limits, Book, after, first_of, Holding, a_port, replies, a_book, left_in}
 use Rattle.herm_journal.specs.Entries.{Text, Place, port, reply_cell, book, same_place, Entry, map_reply, texts_of, more_texts_of, recorded}
 use Rattle.herm_journal.specs.Journals.{part_of_process, entry_behind}
-use Rattle.herm_source.specs.Bodies.{Name, Body}
-use Rattle.herm_source.specs.Exchanges.{CellReply, CellWant, CellAction, born}
-use Rattle.herm_source.specs.Edges.{Code}
-use Rattle.herm_source.specs.States.{State, begin, item_or, call_or_statement, node_at, is_action, wanted, local_step, answered, Standing, ended, out_of_steps, out_of_actions, waiting, local, acting, standing, standing_at, standing_to_act, greatest_actions}
+use Rattle.herm_forms.specs.Bodies.{Name, Body}
+use Rattle.herm_journal.specs.Messages.{CellReply, CellWant, CellAction}
+use Rattle.herm_forms.specs.Exchanges.{born}
+use Rattle.herm_forms.specs.Edges.{Code}
+use Rattle.herm_source.specs.States.{State, begin, item_or, call_or_statement, node_at, wanted, local_step, answered, Standing, ended, out_of_steps, out_of_actions, waiting, local, acting, standing, standing_at, standing_to_act, greatest_actions}
+use Rattle.herm_forms.specs.Acts.{is_action}
 use Rattle.herm_source.specs.Systems.{Modules, System, Moved, Event, steps, acts, Run, run, run_on, step, start, opening, main_port, with_entry, with_made, set_process, set_holding, holding_at, local_event, act_at, action_event, behind_action, own_name, is_local, is_acting, can, stands, numbered_from_one, set_from_one, places_for, done_at, number_of}
-use Rattle.herm_source.specs.Renaming.{rename_body, rename_reply, rename_action, rename_want, forget_name, forget_state}
+use Rattle.herm_forms.specs.Renaming.{rename_body}
+use Rattle.herm_journal.specs.Renaming.{rename_reply, rename_action, rename_want, forget_name}
+use Rattle.herm_source.specs.Renaming.{forget_state}
 use Rattle.herm_source.specs.Along.{Forgetful, Suits, has_local_step, local_steps, Answers, IsToldBy, IsBehind, IsAfter, after_steps, after_entry}
 use Rattle.herm_source.specs.Sound.{IsNumbered}
 use Rattle.herm_source.specs.DiaryLaws.{EventSuits, SuitsAlong, IsBorn, first_state, DiariesTell}

@@ -6,8 +6,8 @@ use Rattle.herm_journal.specs.Actions.{Want, new_port, new_process, to_put, to_t
 use Rattle.herm_journal.specs.Places.{Port, number_for, first_of, Holding, a_port, replies, a_book, behind_first, Fits, after, Limits}
 use Rattle.herm_journal.specs.Entries.{Text, Entry, map_port, map_action, map_holding}
 use Rattle.herm_journal.specs.Journals.{IsStampedFrom, IsStamped, next_stamp, entry_behind}
-use Rattle.herm_source.specs.Exchanges.{CellAction}
-use Rattle.herm_source.specs.Bodies.{Name}
+use Rattle.herm_journal.specs.Messages.{CellAction}
+use Rattle.herm_forms.specs.Bodies.{Name}
 use Rattle.herm_source.specs.Systems.{Modules, Event, steps, acts, Moved, Run, run, run_on, step, with_entry, start, done_at}
 use Rattle.herm_source.specs.Rounds.{Round, rounds, one_round, turns, turn, after_turn}
 pub use Rattle.herm_model.proofs.Options.{some-injective, none-not_some, chain-some, map-some}

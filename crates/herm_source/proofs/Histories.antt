@@ -11,8 +11,8 @@ use Rattle.herm_journal.specs.Places.{Limits, empty_port, port_with, Holding, a_
 use Rattle.herm_journal.specs.Entries.{Text, Place, port, reply_cell, book, same_place, Entry, map_reply, texts_of, recorded, told}
 use Rattle.herm_journal.specs.Journals.{part_of_place, last_stamp, clock_of_place, clock_of_process, entry_behind, first_told, Replayed, at_start, after_entry, replay, IsLegal}
 use Rattle.herm_journal.proofs.Rising.{same-true}
-use Rattle.herm_source.specs.Bodies.{Name, Body}
-use Rattle.herm_source.specs.Exchanges.{CellReply, CellAction}
+use Rattle.herm_forms.specs.Bodies.{Name, Body}
+use Rattle.herm_journal.specs.Messages.{CellReply, CellAction}
 use Rattle.herm_source.specs.States.{State, wanted, local_step, answered}
 use Rattle.herm_source.proofs.Numbered.{more-length, lengths-stay}
 use Rattle.herm_source.proofs.Events.{filter-kept, filter-passed, done-fits, fits-map, after-map}

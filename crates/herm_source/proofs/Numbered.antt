@@ -9,11 +9,13 @@ use Rattle.herm_model.proofs.Options.{some-injective, none-not_some, chain-some,
 use Rattle.herm_journal.specs.Actions.{new_port, new_process, to_put, to_take, to_close, to_answer, to_hear, make_port, make_process, take, hear}
 use Rattle.herm_journal.specs.Places.{Book, Limits, Port, empty_port, first_of, Replies, Holding, a_port, replies, a_book, after, next_port, next_process, after_port, after_process}
 use Rattle.herm_journal.specs.Entries.{Text, Place, port, reply_cell, book}
-use Rattle.herm_source.specs.Bodies.{Name, Body}
-use Rattle.herm_source.specs.Exchanges.{CellReply, CellWant, CellAction, born}
-use Rattle.herm_source.specs.Edges.{Code}
+use Rattle.herm_forms.specs.Bodies.{Name, Body}
+use Rattle.herm_journal.specs.Messages.{CellReply, CellWant, CellAction}
+use Rattle.herm_forms.specs.Exchanges.{born}
+use Rattle.herm_forms.specs.Edges.{Code}
 use Rattle.herm_source.specs.States.{State, begin, wanted, local_step, answered}
-use Rattle.herm_source.specs.Weights.{only, weigh_serials, made}
+use Rattle.herm_journal.specs.Weights.{only, weigh_serials}
+use Rattle.herm_forms.specs.Weights.{made}
 use Rattle.herm_source.specs.Systems.{Modules, System, Moved, Event, steps, acts, Run, run, run_on, step, start, opening, main_port, own_name, done_at, holding_at, set_holding, numbered_from_one, set_from_one, with_made, set_process, local_event, act_at, action_event, behind_action, number_of}
 use Rattle.herm_source.specs.Ledger.{made_in, IsMadeOnce}
 use Rattle.herm_source.specs.Sound.{IsNumbered}

@@ -6,10 +6,10 @@ use Rattle.herm_model.specs.Lists.{some_of, list_of}
 use Rattle.herm_model.specs.Values.{Cell}
 use Rattle.herm_model.proofs.Options.{some-injective, none-not_some, chain-some, map-some}
 use Rattle.herm_journal.specs.Actions.{make_port, make_process, put, take, close, answer, hear}
-use Rattle.herm_source.specs.Bodies.{Name, Body}
-use Rattle.herm_source.specs.Exchanges.{CellReply, CellAction}
+use Rattle.herm_forms.specs.Bodies.{Name, Body}
+use Rattle.herm_journal.specs.Messages.{CellReply, CellAction}
 use Rattle.herm_journal.specs.Entries.{Text, Place, port, reply_cell, book, same_place}
-use Rattle.herm_source.specs.Edges.{Code}
+use Rattle.herm_forms.specs.Edges.{Code}
 use Rattle.herm_source.specs.States.{State, Standing, standing, wanted, local_step, answered}
 use Rattle.herm_journal.specs.Places.{Book, Limits, Holding, a_port, replies, a_book, after}
 use Rattle.herm_source.specs.Systems.{Modules, System, Moved, Event, steps, acts, Run, run, run_on, step, start, own_name, can, done_at, holding_at, set_holding, set_process, with_made, with_entry, act_at, behind_action, number_of, numbered_from_one, stands, is_local, is_acting, can_step, IsFinal}

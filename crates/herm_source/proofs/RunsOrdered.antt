@@ -8,9 +8,9 @@ use Rattle.herm_journal.specs.Actions.{make_port, make_process, put, take, close
 use Rattle.herm_journal.specs.Places.{Book, Limits, after}
 use Rattle.herm_journal.specs.Entries.{Text, Place, same_place, Entry, recorded}
 use Rattle.herm_journal.specs.Journals.{IsJournalOf, part_of_process, part_of_place, clock_of_process, clock_of_place, is_maker_of, next_stamp, entry_behind, ordered}
-use Rattle.herm_source.specs.Bodies.{Name}
-use Rattle.herm_source.specs.Exchanges.{CellAction}
-use Rattle.herm_source.specs.Edges.{Code}
+use Rattle.herm_forms.specs.Bodies.{Name}
+use Rattle.herm_journal.specs.Messages.{CellAction}
+use Rattle.herm_forms.specs.Edges.{Code}
 use Rattle.herm_source.specs.States.{wanted, local_step, answered}
 use Rattle.herm_source.specs.Systems.{Modules, System, Moved, Event, steps, acts, Run, run, run_on, step, start, with_entry, with_made, set_process, set_holding, holding_at, act_at, behind_action, own_name, numbered_from_one, done_at, number_of}
 use Rattle.herm_source.specs.Sound.{IsNumbered}

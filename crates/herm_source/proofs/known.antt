@@ -1,5 +1,3 @@
 -- That a process knows only ports and callers that are there.
-pub mod HeldKinds
-pub mod KindsKept
-pub mod KindsExchanged
+pub mod KindsStepped
 pub mod KnownPlaces

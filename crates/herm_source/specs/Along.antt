@@ -7,14 +7,15 @@ use Rattle.herm_model.specs.Statements.{Form, Receive, Select, Arm}
 use Rattle.herm_model.specs.Nodes.{Node}
 use Rattle.herm_journal.specs.Actions.{Want, new_port, new_process, to_put, to_take, to_close, to_answer, to_hear, Action, make_port, make_process, put, take, close, answer, hear}
 use Rattle.herm_journal.specs.Entries.{same_place, Entry, recorded}
-use Rattle.herm_source.specs.Bodies.{counted_action}
-use Rattle.herm_source.specs.Exchanges.{CellWant, CellAction, inport_at}
-use Rattle.herm_source.specs.Edges.{Code}
+use Rattle.herm_forms.specs.Bodies.{counted_action}
+use Rattle.herm_journal.specs.Messages.{CellWant, CellAction, IsMessage}
+use Rattle.herm_forms.specs.Exchanges.{inport_at}
+use Rattle.herm_forms.specs.Edges.{Code}
 use Rattle.herm_source.specs.States.{State, node_at, wanted, local_step, answered, standing}
 use Rattle.herm_source.specs.Systems.{places_for, number_of, is_local}
-use Rattle.herm_source.specs.Renaming.{forget_name}
-use Rattle.herm_source.specs.Local.{Calling, calling}
-use Rattle.herm_source.specs.Messages.{IsMessage, IsReply}
+use Rattle.herm_journal.specs.Renaming.{forget_name}
+use Rattle.herm_forms.specs.Callings.{Calling, IsReply}
+use Rattle.herm_source.specs.Local.{calling}
 
 -- a process between actions, whose values have no names
 abbrev pub Forgetful : Type 0

@@ -6,12 +6,13 @@ use Rattle.herm_journal.specs.Actions.{make_process}
 use Rattle.herm_journal.specs.Places.{Limits}
 use Rattle.herm_journal.specs.Entries.{Text, Entry}
 use Rattle.herm_journal.specs.Journals.{part_of_process}
-use Rattle.herm_source.specs.Bodies.{Name}
-use Rattle.herm_source.specs.Exchanges.{CellAction}
-use Rattle.herm_source.specs.Edges.{Code}
+use Rattle.herm_forms.specs.Bodies.{Name}
+use Rattle.herm_journal.specs.Messages.{CellAction}
+use Rattle.herm_forms.specs.Edges.{Code}
 use Rattle.herm_source.specs.States.{State, begin}
 use Rattle.herm_source.specs.Systems.{Modules, System, Moved, Event, steps, acts, Run, run, run_on, step, start, number_of, numbered_from_one}
-use Rattle.herm_source.specs.Renaming.{rename_action, forget_name, forget_state}
+use Rattle.herm_journal.specs.Renaming.{rename_action, forget_name}
+use Rattle.herm_source.specs.Renaming.{forget_state}
 use Rattle.herm_source.specs.Along.{Forgetful, Suits, IsAfter}
 
 -- What comes in with an event suits the process: its message or reply is one that it waits for.

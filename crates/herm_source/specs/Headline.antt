@@ -11,8 +11,8 @@ use Rattle.herm_model.specs.Values.{tells}
 use Rattle.herm_journal.specs.Places.{Limits}
 use Rattle.herm_journal.specs.Entries.{Text, Entry}
 use Rattle.herm_journal.specs.Journals.{IsRising, IsStamped}
-use Rattle.herm_source.specs.Bodies.{Name}
-use Rattle.herm_source.specs.Edges.{Code, code_of}
+use Rattle.herm_forms.specs.Bodies.{Name}
+use Rattle.herm_forms.specs.Edges.{Code, code_of}
 use Rattle.herm_source.specs.States.{State, node_at}
 use Rattle.herm_source.specs.Systems.{Program, Modules, System, opening, Event, run, numbered_from_one, IsFinal}
 use Rattle.herm_source.specs.Ledger.{HasLedger, IsMadeOnce}

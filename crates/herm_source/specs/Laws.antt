@@ -5,9 +5,9 @@ use Rattle.herm_model.specs.Texts.{text_of}
 use Rattle.herm_journal.specs.Places.{Limits, Holding, Fits, after}
 use Rattle.herm_journal.specs.Entries.{Text, Place, Entry, recorded, told}
 use Rattle.herm_journal.specs.Journals.{IsStamped, IsJournalOf, ordered, part_of_process, part_of_place, first_told, at_start, replay, IsLegal}
-use Rattle.herm_source.specs.Bodies.{Name}
-use Rattle.herm_source.specs.Exchanges.{CellReply, CellWant, CellAction}
-use Rattle.herm_source.specs.Edges.{Code}
+use Rattle.herm_forms.specs.Bodies.{Name}
+use Rattle.herm_journal.specs.Messages.{CellReply, CellWant, CellAction}
+use Rattle.herm_forms.specs.Edges.{Code}
 use Rattle.herm_source.specs.Ledger.{HasLedger, IsMadeOnce}
 use Rattle.herm_source.specs.States.{State, local_step, answered}
 use Rattle.herm_source.specs.Sound.{IsNumbered}

@@ -3,10 +3,11 @@ use Rattle.std.specs.Prelude.{ℕ, ◌+◌, ◌≤◌, ◌≡◌}
 use Rattle.herm_model.specs.Lists.{total}
 use Rattle.herm_model.specs.Values.{Cell}
 use Rattle.herm_journal.specs.Places.{Port, left_in, Replies}
-use Rattle.herm_source.specs.Bodies.{Name}
-use Rattle.herm_source.specs.Exchanges.{CellReply}
+use Rattle.herm_forms.specs.Bodies.{Name}
+use Rattle.herm_journal.specs.Messages.{CellReply}
 use Rattle.herm_source.specs.States.{State}
-use Rattle.herm_source.specs.Weights.{only, weigh, weigh_all, weigh_reply, weigh_serials, held, made}
+use Rattle.herm_journal.specs.Weights.{only, weigh, weigh_all, weigh_reply, weigh_serials}
+use Rattle.herm_forms.specs.Weights.{held, made}
 use Rattle.herm_source.specs.Systems.{System, own_name, opening_name, console_port}
 
 module _ (w : Name → ℕ) where

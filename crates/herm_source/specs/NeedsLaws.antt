@@ -5,8 +5,8 @@ use Rattle.herm_model.specs.Statements.{Process, IsWellFormedBlock}
 use Rattle.herm_model.specs.Control.{flow_of, IsReached}
 use Rattle.herm_journal.specs.Places.{Limits}
 use Rattle.herm_journal.specs.Entries.{Text, Entry}
-use Rattle.herm_source.specs.Bodies.{Name}
-use Rattle.herm_source.specs.Edges.{Code}
+use Rattle.herm_forms.specs.Bodies.{Name}
+use Rattle.herm_forms.specs.Edges.{Code}
 use Rattle.herm_source.specs.States.{State}
 use Rattle.herm_source.specs.Systems.{Program, Modules, System, opening, Event, Run, run, start, numbered_from_one}
 use Rattle.herm_source.specs.Local.{IsLocallySound}

@@ -3,7 +3,7 @@ use Rattle.std.specs.Prelude.{List, Some, ◌≡◌, slice_get}
 use Rattle.herm_journal.specs.Places.{Limits}
 use Rattle.herm_journal.specs.Entries.{Text}
 use Rattle.herm_journal.specs.Journals.{ordered}
-use Rattle.herm_source.specs.Edges.{Code}
+use Rattle.herm_forms.specs.Edges.{Code}
 use Rattle.herm_source.specs.Systems.{Modules, Event, Run, run, start, opening}
 use Rattle.herm_source.specs.Headline.{IsRunTo}
 

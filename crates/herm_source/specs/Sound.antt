@@ -6,15 +6,15 @@ use Rattle.herm_model.specs.Calls.{led_to}
 use Rattle.herm_model.specs.Values.{Kind, a_variant, a_polymorph, a_callmessage, an_inport, an_outport, Cell, cell, Parts, no_parts, gap, part}
 use Rattle.herm_journal.specs.Actions.{values, raised, gone}
 use Rattle.herm_journal.specs.Places.{Port, left_in, Replies}
-use Rattle.herm_source.specs.Bodies.{Name, Loop}
-use Rattle.herm_source.specs.Exchanges.{CellReply}
-use Rattle.herm_source.specs.Edges.{Code}
-use Rattle.herm_source.specs.States.{State, is_inport}
+use Rattle.herm_forms.specs.Bodies.{Name, Loop}
+use Rattle.herm_journal.specs.Messages.{CellReply, is_inport, message_of_port, IsMessage, types_of_reply, cells_in}
+use Rattle.herm_forms.specs.Edges.{Code}
+use Rattle.herm_source.specs.States.{State}
 use Rattle.herm_source.specs.Systems.{Modules, System, numbered_from_one, console_port}
 use Rattle.herm_source.specs.Ledger.{HasLedger, IsMadeOnce}
 use Rattle.herm_source.specs.Statuses.{how_many}
-use Rattle.herm_source.specs.Local.{Calling, calling, row_type, IsLocallySound}
-use Rattle.herm_source.specs.Messages.{message_of_port, IsMessage, IsReply, reply_types, call_type}
+use Rattle.herm_forms.specs.Callings.{Calling, IsReply, call_type}
+use Rattle.herm_source.specs.Local.{calling, row_type, IsLocallySound}
 
 -- the kinds of cells, in the order of a walk
 abbrev mutual
@@ -25,12 +25,6 @@ abbrev mutual
   kinds_in no_parts = []
   kinds_in (gap ps) = kinds_in ps
   kinds_in (part c ps) = kinds_of c ++ kinds_in ps
-
--- the values of a reply
-abbrev pub cells_in : {N : Type 0} → CellReply N → List (Cell N)
-cells_in (values cs) = cs
-cells_in (raised e cs) = cs
-cells_in gone = []
 
 -- the kinds of all cells that are not finalised: those that the console, a process, a port or a reply cell has
 abbrev pub kinds_by : {N : Type 0} → State N → List Kind
@@ -86,7 +80,7 @@ typed_loop c l = list_of (λ t. typed_in c.types (all_of t) l.rows) (row_type c 
 abbrev pub typed_by : {N : Type 0} → Code → State N → Replies (CellReply N) → List (ℕ × Kind)
 typed_by c s rs =
     typed_in c.types (each c.variables) s.body.variables ++ flat_map (typed_loop c) s.body.loops
-    ++ list_of (λ k. flat_map (λ r. typed_list c.types (reply_types c k r.1) (cells_in r.1)) rs) (calling c s)
+    ++ list_of (λ k. flat_map (λ r. typed_list c.types (types_of_reply c.types (call_type c k) r.1) (cells_in r.1)) rs) (calling c s)
 
 abbrev pub replies_of : System → ℕ → Replies (CellReply Name)
 replies_of s p = list_of (λ rs. rs) (numbered_from_one p s.replies)

@@ -8,9 +8,8 @@ use Rattle.herm_journal.specs.Actions.{to_take}
 use Rattle.herm_journal.specs.Places.{Port, left_in, first_of}
 use Rattle.herm_journal.specs.Entries.{Text, and_number, name_in, Entry, entry_text}
 use Rattle.herm_journal.specs.Journals.{ordered}
-use Rattle.herm_model.specs.Texts.{text_of}
-use Rattle.herm_source.specs.Bodies.{Name}
-use Rattle.herm_source.specs.Exchanges.{CellWant}
+use Rattle.herm_forms.specs.Bodies.{Name}
+use Rattle.herm_journal.specs.Messages.{CellWant}
 use Rattle.herm_source.specs.States.{State, wanted, Standing, ended, out_of_steps, out_of_actions, waiting, local, acting, greatest_actions}
 use Rattle.herm_source.specs.Systems.{Modules, System, own_name, with_process, standing_of, Run}
 use Rattle.herm_source.specs.Ledger.{made_in, held_in, queued_in, finalised_in}

@@ -3,8 +3,8 @@ use Rattle.std.specs.Prelude.{ℕ, List, ◌++◌, Some, ◌≡◌, slice_get}
 use Rattle.herm_journal.specs.Places.{Limits}
 use Rattle.herm_journal.specs.Entries.{Text}
 use Rattle.herm_journal.specs.Journals.{part_of_process}
-use Rattle.herm_source.specs.Bodies.{Name}
-use Rattle.herm_source.specs.Edges.{Code}
+use Rattle.herm_forms.specs.Bodies.{Name}
+use Rattle.herm_forms.specs.Edges.{Code}
 use Rattle.herm_source.specs.States.{State}
 use Rattle.herm_source.specs.Systems.{Program, Modules, System, Event, Run, run, start, numbered_from_one}
 use Rattle.herm_source.specs.Renaming.{forget_state}

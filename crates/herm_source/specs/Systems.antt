@@ -8,9 +8,10 @@ use Rattle.herm_journal.specs.Actions.{Want, new_port, new_process, to_put, to_t
 use Rattle.herm_journal.specs.Places.{Port, empty_port, port_with, number_for, first_of, left_in, Replies, Limits, Book, first_book, next_port, next_process, Holding, a_port, replies, a_book, after}
 use Rattle.herm_journal.specs.Entries.{Text, Place, port, reply_cell, book, same_place, Entry, recorded}
 use Rattle.herm_journal.specs.Journals.{entry_behind}
-use Rattle.herm_source.specs.Bodies.{Name, Body}
-use Rattle.herm_source.specs.Exchanges.{CellReply, CellWant, CellAction, born}
-use Rattle.herm_source.specs.Edges.{Code}
+use Rattle.herm_forms.specs.Bodies.{Name, Body}
+use Rattle.herm_journal.specs.Messages.{CellReply, CellWant, CellAction}
+use Rattle.herm_forms.specs.Exchanges.{born}
+use Rattle.herm_forms.specs.Edges.{Code}
 use Rattle.herm_source.specs.States.{State, begin, wanted, local_step, answered, Standing, local, acting, standing}
 
 -- a program's types, and its processes by their numbers, with the number of main

@@ -4,15 +4,10 @@
 #![tactic(auto)]
 
 pub mod arrival;
-pub mod calls;
-pub mod components;
 pub mod examples;
-pub mod exceptions;
-pub mod expressions;
 pub mod forgetting;
 pub mod journals;
 pub mod ledger;
 pub mod needs;
 pub mod runs;
 pub mod suits;
-pub mod targets;

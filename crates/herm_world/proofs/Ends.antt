@@ -11,8 +11,8 @@ use Rattle.herm_journal.specs.Places.{Limits}
 use Rattle.herm_journal.specs.Entries.{Text, Entry, port}
 use Rattle.herm_journal.specs.Journals.{entry_behind}
 use Rattle.herm_journal.specs.Actions.{close}
-use Rattle.herm_source.specs.Bodies.{Name, Body, drop, drop_at}
-use Rattle.herm_source.specs.Edges.{Code, arrive, leave_loops, keeps, keeps_loop}
+use Rattle.herm_forms.specs.Bodies.{Name, Body, drop, drop_at}
+use Rattle.herm_forms.specs.Edges.{Code, arrive, leave_loops, keeps, keeps_loop}
 use Rattle.herm_source.specs.States.{greatest_actions}
 use Rattle.herm_source.specs.Systems.{run_on, acts, main_port}
 use Rattle.herm_world.proofs.Slots.{Made, Slots, string_cell, strings_of, slot_at, part-slot}

@@ -4,40 +4,32 @@ use Rattle.std.specs.Prelude.{⊤}
 use Rattle.std.proofs.Common.{◌≡◌, ◌<◌, ◌≤◌, ℕ, zero, suc, ◌+◌, List, [], ◌∷◌, ◌++◌, map, Bool, true, false, Option, Some, length, nat_lt, slice_get, refl, sym, ap, subst, ◌∙◌, arith}
 use Rattle.std.proofs.lemmas.Bool.{lt-ltb}
 use Rattle.herm_model.specs.Paths.{Fact}
-use Rattle.herm_model.specs.Nodes.{node, end, Node}
-use Rattle.herm_model.specs.Values.{Cell, Parts}
+use Rattle.herm_model.specs.Nodes.{node, end, Node, Target}
+use Rattle.herm_model.specs.Values.{Cell, Parts, gap, gaps, tells}
 use Rattle.herm_journal.specs.Actions.{to_put}
 use Rattle.herm_journal.specs.Places.{Limits}
 use Rattle.herm_journal.specs.Entries.{Text, Entry, port, reply_cell, book}
-use Rattle.herm_source.specs.Bodies.{Name}
-use Rattle.herm_source.specs.States.{is_action, wants, greatest_actions}
-use Rattle.herm_source.specs.Systems.{Modules, Run, run, run_on, Event, steps, acts, own_name}
+use Rattle.herm_forms.specs.Bodies.{Name}
+use Rattle.herm_forms.specs.Acts.{is_action, wants}
+use Rattle.herm_source.specs.States.{greatest_actions}
+use Rattle.herm_source.specs.Systems.{Modules, Run, run, run_on, Event, steps, acts, own_name, System, start}
 use Rattle.herm_source.proofs.Events.{chain-some, some-injective, none-not_some}
 use Rattle.std.specs.List.{AllByRecursion}
-use Rattle.herm_model.specs.Nodes.{Target}
-use Rattle.herm_model.specs.Values.{gap, gaps}
-use Rattle.herm_source.specs.Edges.{Code, arrive}
+use Rattle.herm_forms.specs.Edges.{Code, arrive}
 use Rattle.herm_compile.specs.Form.{IsLine}
 use Rattle.herm_compile.specs.declared.compiled.Line.{Line}
 use Rattle.herm_compile.specs.declared.compiled.Line.TheVariants
-use Rattle.herm_world.specs.Lines.{FindsStrings}
-use Rattle.herm_world.proofs.Slots.{string_cell, values_of, slot-found}
-use Rattle.herm_world.proofs.Progress.{Progress, node_for, variables_with, body_at, run_at, arrived, event_of, after_line, wants-send}
+use Rattle.herm_world.specs.Lines.{FindsStrings, sent_from}
+use Rattle.herm_world.proofs.Slots.{string_cell, values_of, slot-found, empty_slots, length-empty}
+use Rattle.herm_world.proofs.Progress.{Progress, node_for, variables_with, body_at, run_at, arrived, event_of, after_line, wants-send, code_with, modules_with, body_of, run_with}
 use Rattle.herm_world.proofs.Ends.{arrive-end, ending, close-run}
-use Rattle.herm_world.proofs.StraightRun.{HaveNodes, HaveLabels, Able, able, behind-line, line-step, arrived-kept, first_run}
-use Rattle.herm_world.proofs.StraightDone.{final_system, final_journal}
-use Rattle.herm_model.specs.Values.{tells}
-use Rattle.herm_source.specs.Systems.{System, start}
-use Rattle.herm_world.specs.Lines.{sent_from}
+use Rattle.herm_world.proofs.StraightRun.{HaveNodes, HaveLabels, Able, able, behind-line, line-step, arrived-kept, first_run, after_lines, received, start-is, take-run}
+use Rattle.herm_world.proofs.StraightDone.{final_system, final_journal, AreSet, all_events, lines-end, none-steps, by-lines}
 use Rattle.herm_world.specs.StraightRuns.{journal_of, GoesOnTo, StraightLinesHaveOneRun}
-use Rattle.herm_world.proofs.Slots.{empty_slots, length-empty}
-use Rattle.herm_world.proofs.StraightRun.{after_lines, received, start-is, take-run}
 use Rattle.herm_world.proofs.StraightFacts.{before_receive}
 use Rattle.herm_world.proofs.Apart.{not-zero, far-one}
 use Rattle.herm_world.proofs.HeldTexts.{AreTexts, AreQueued}
 use Rattle.herm_world.proofs.KeptTexts.{texts-empty, texts-kept, queued-kept}
-use Rattle.herm_world.proofs.StraightDone.{AreSet, all_events, lines-end, none-steps, by-lines}
-use Rattle.herm_world.proofs.Progress.{code_with, modules_with, body_of, run_with}
 
 -- no event but this one can be
 abbrev pub Only : Modules → Event → Run → Type 0

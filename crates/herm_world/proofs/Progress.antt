@@ -8,12 +8,13 @@ use Rattle.herm_model.specs.Values.{Cell, Parts, part}
 use Rattle.herm_model.specs.Texts.{text_of}
 use Rattle.herm_journal.specs.Actions.{to_put, put}
 use Rattle.herm_journal.specs.Places.{Limits, Port, first_book, Holding, a_port, after}
-use Rattle.herm_source.specs.Exchanges.{CellReply, CellAction}
+use Rattle.herm_journal.specs.Messages.{CellReply, CellAction}
 use Rattle.herm_journal.specs.Entries.{Text, Entry, Place, port}
 use Rattle.herm_journal.specs.Journals.{entry_behind}
-use Rattle.herm_source.specs.Bodies.{Name, Body, goes, let_go_old}
-use Rattle.herm_source.specs.Edges.{Code, arrive, beyond_declared}
-use Rattle.herm_source.specs.States.{State, act, wants, settle, leads_to, is_action, greatest_actions, answered}
+use Rattle.herm_forms.specs.Bodies.{Name, Body, goes, let_go_old}
+use Rattle.herm_forms.specs.Edges.{Code, arrive, beyond_declared}
+use Rattle.herm_source.specs.States.{State, greatest_actions, answered}
+use Rattle.herm_forms.specs.Acts.{act, wants, settle, leads_to, is_action}
 use Rattle.herm_source.specs.Systems.{Modules, System, Run, run_on, with_made, set_process, set_holding, behind_action, number_of, Event, steps, acts, own_name, main_port, first_message}
 use Rattle.herm_compile.specs.Straight.{variable, console, form_of}
 use Rattle.herm_compile.specs.declared.compiled.Line.{Line}

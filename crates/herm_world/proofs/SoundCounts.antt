@@ -3,7 +3,7 @@ use Rattle.std.proofs.Common.{◌≡◌, ℕ, zero, suc, ◌+◌, List, [], ◌�
 use Rattle.herm_model.specs.Nodes.{Target}
 use Rattle.herm_model.specs.Values.{Kind, Scalar, a_scalar, a_text, an_inport, Cell, Parts, gap, gaps}
 use Rattle.herm_journal.specs.Places.{Limits, Port, left_in}
-use Rattle.herm_source.specs.Bodies.{Name}
+use Rattle.herm_forms.specs.Bodies.{Name}
 use Rattle.herm_source.specs.Sound.{kinds_of, kinds_in, unfinalised, is_inport_of, one_if, is_open_port}
 use Rattle.herm_source.specs.Statuses.{how_many}
 use Rattle.herm_source.specs.Systems.{console_port}

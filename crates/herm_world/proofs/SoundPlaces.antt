@@ -10,8 +10,9 @@ use Rattle.herm_model.specs.Nodes.{Target, Node}
 use Rattle.herm_model.specs.Values.{Kind, a_callmessage, an_inport, an_outport, Cell, Parts, gap, gaps}
 use Rattle.herm_journal.specs.Entries.{Text}
 use Rattle.herm_journal.specs.Places.{Limits, Port, left_in}
-use Rattle.herm_source.specs.Bodies.{Name}
-use Rattle.herm_source.specs.Local.{Calling, calling}
+use Rattle.herm_forms.specs.Bodies.{Name}
+use Rattle.herm_forms.specs.Callings.{Calling}
+use Rattle.herm_source.specs.Local.{calling}
 use Rattle.herm_source.specs.Sound.{each, typed_of, typed_in, typed_by, typed_cells}
 use Rattle.herm_source.specs.Systems.{first_message}
 use Rattle.herm_world.proofs.Slots.{Slots, strings_of, empty_slots, gaps-empty}

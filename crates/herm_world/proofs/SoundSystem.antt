@@ -8,14 +8,13 @@ use Rattle.herm_model.specs.Nodes.{Target, node, end, Node}
 use Rattle.herm_model.specs.Values.{Cell, Parts, gap, part, gaps}
 use Rattle.herm_journal.specs.Entries.{Text, Entry}
 use Rattle.herm_journal.specs.Places.{Limits, Port, empty_port, port_with, left_in, Replies}
-use Rattle.herm_source.specs.Bodies.{Name}
-use Rattle.herm_source.specs.Edges.{Code}
-use Rattle.herm_source.specs.Exchanges.{CellReply}
+use Rattle.herm_forms.specs.Bodies.{Name}
+use Rattle.herm_forms.specs.Edges.{Code}
+use Rattle.herm_journal.specs.Messages.{CellReply, IsMessage, is_inport}
 use Rattle.herm_source.specs.Ledger.{HasLedger, IsMadeOnce}
 use Rattle.herm_source.specs.Local.{IsLocallySound}
-use Rattle.herm_source.specs.Messages.{IsMessage}
 use Rattle.herm_source.specs.Sound.{kinds_of, kinds_in, unfinalised, replies_of, typed_cells, is_inport_of, is_callmessage_of, one_if, has_open, is_open_port, IsSoundWith}
-use Rattle.herm_source.specs.States.{State, is_inport}
+use Rattle.herm_source.specs.States.{State}
 use Rattle.herm_source.specs.Statuses.{how_many}
 use Rattle.herm_source.specs.Systems.{Modules, System, numbered_from_one, main_port, first_message}
 use Rattle.herm_source.proofs.Events.{some-injective, none-not_some}

@@ -12,8 +12,8 @@ use Rattle.herm_journal.specs.Actions.{close}
 use Rattle.herm_journal.specs.Places.{Limits}
 use Rattle.herm_journal.specs.Entries.{Text, Entry, port}
 use Rattle.herm_journal.specs.Journals.{entry_behind}
-use Rattle.herm_source.specs.Bodies.{Name}
-use Rattle.herm_source.specs.Edges.{Code, code_of, arrive}
+use Rattle.herm_forms.specs.Bodies.{Name}
+use Rattle.herm_forms.specs.Edges.{Code, code_of, arrive}
 use Rattle.herm_source.specs.States.{greatest_actions}
 use Rattle.herm_source.specs.Ledger.{HasLedger, made_in, held_in, queued_in, finalised_in, IsMadeOnce}
 use Rattle.herm_source.specs.Statuses.{counts, one, cut, line, bytes_of}

@@ -6,8 +6,8 @@ use Rattle.herm_model.specs.Typed.{is_text}
 use Rattle.herm_model.specs.Values.{Cell}
 use Rattle.herm_journal.specs.Places.{Limits}
 use Rattle.herm_journal.specs.Entries.{Text, Entry}
-use Rattle.herm_source.specs.Bodies.{Name}
-use Rattle.herm_source.specs.Edges.{Code}
+use Rattle.herm_forms.specs.Bodies.{Name}
+use Rattle.herm_forms.specs.Edges.{Code}
 use Rattle.herm_source.specs.Systems.{Modules, System, Run}
 use Rattle.herm_source.specs.Headline.{AreAccepted, Describes}
 use Rattle.herm_source.specs.Statuses.{line, bytes_of, plainly}

@@ -12,8 +12,8 @@ use Rattle.herm_journal.specs.Actions.{take}
 use Rattle.herm_journal.specs.Places.{Limits, empty_port, port_with, a_port}
 use Rattle.herm_journal.specs.Entries.{Text, port}
 use Rattle.herm_journal.specs.Journals.{entry_behind}
-use Rattle.herm_source.specs.Bodies.{Name, Body}
-use Rattle.herm_source.specs.Edges.{arrive}
+use Rattle.herm_forms.specs.Bodies.{Name, Body}
+use Rattle.herm_forms.specs.Edges.{arrive}
 use Rattle.herm_source.specs.States.{greatest_actions, answered}
 use Rattle.herm_source.specs.Systems.{Modules, Run, run, run_on, acts, start, own_name, main_port, first_message}
 use Rattle.herm_compile.specs.Form.{IsLine}

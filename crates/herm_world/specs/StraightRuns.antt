@@ -7,7 +7,7 @@ use Rattle.herm_model.specs.Values.{a_text}
 use Rattle.herm_model.specs.Texts.{text_of}
 use Rattle.herm_journal.specs.Actions.{put, take, close}
 use Rattle.herm_journal.specs.Entries.{Text, Entry, Place, Record, port}
-use Rattle.herm_source.specs.Evaluate.{scalar_value}
+use Rattle.herm_forms.specs.Evaluate.{scalar_value}
 use Rattle.herm_source.specs.Systems.{Program, Modules, System, opening, first_message, IsFinal, Event, Run, run, start}
 use Rattle.herm_journal.specs.Places.{Limits}
 use Rattle.herm_source.specs.Statuses.{Counts, ended_normally, fates, queues, counts, status_of, text_of_run, plainly, line}

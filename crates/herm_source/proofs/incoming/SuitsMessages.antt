@@ -10,11 +10,10 @@ use Rattle.herm_model.specs.Typed.{whole, partly}
 use Rattle.herm_model.proofs.Renaming.{has_value-rename, tells-rename}
 use Rattle.herm_model.proofs.Typing.{IsOf-renamed}
 use Rattle.herm_journal.specs.Actions.{values, raised, gone}
-use Rattle.herm_source.specs.Exchanges.{CellReply}
-use Rattle.herm_source.specs.Edges.{Code}
-use Rattle.herm_source.specs.Local.{Calling}
-use Rattle.herm_source.specs.Messages.{message_of_port, OfType, IsMessage, AreFull, returned_types, kept_types, IsReply}
-use Rattle.herm_source.specs.Renaming.{rename_reply}
+use Rattle.herm_journal.specs.Messages.{CellReply, message_of_port, OfType, IsMessage, AreFull}
+use Rattle.herm_forms.specs.Edges.{Code}
+use Rattle.herm_forms.specs.Callings.{Calling, returned_types, kept_types, IsReply}
+use Rattle.herm_journal.specs.Renaming.{rename_reply}
 
 module _ {N M : Type 0} (f : N → M) where
   exactly-renamed : (ps : Parts N) (facts : Fact → Type 0) → HasExactly ps facts → HasExactly (rename_in f ps) facts

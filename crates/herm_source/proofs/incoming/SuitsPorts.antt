@@ -17,18 +17,22 @@ use Rattle.herm_model.proofs.Options.{some-injective, none-not_some, chain-some,
 use Rattle.herm_journal.specs.Actions.{values, new_port, new_process, to_put, to_take, to_close, to_answer, to_hear}
 use Rattle.herm_journal.specs.Actions
 use Rattle.herm_journal.proofs.Rising.{same-true}
-use Rattle.herm_source.specs.Bodies.{Name, Body}
-use Rattle.herm_source.specs.Bodies
-use Rattle.herm_source.specs.Forms.{inport_number}
-use Rattle.herm_source.specs.Exchanges.{CellWant, CellReply, inport_at, outport_at, ports_at}
-use Rattle.herm_source.specs.Exchanges
-use Rattle.herm_source.specs.Edges.{Code}
-use Rattle.herm_source.specs.States.{State, node_at, item_or, call_or_statement, is_action, wants, wanted, wanted_next}
+use Rattle.herm_forms.specs.Bodies.{Name, Body}
+use Rattle.herm_forms.specs.Bodies
+use Rattle.herm_forms.specs.Forms.{inport_number}
+use Rattle.herm_journal.specs.Messages.{CellWant, CellReply}
+use Rattle.herm_forms.specs.Exchanges.{inport_at, outport_at, ports_at}
+use Rattle.herm_forms.specs.Exchanges
+use Rattle.herm_forms.specs.Edges.{Code}
+use Rattle.herm_source.specs.States.{State, node_at, item_or, call_or_statement, wanted, wanted_next}
+use Rattle.herm_forms.specs.Acts.{is_action, wants}
 use Rattle.herm_source.specs.Systems.{own_name}
-use Rattle.herm_source.specs.Renaming.{rename_body, forget_name, forget_state}
+use Rattle.herm_forms.specs.Renaming.{rename_body}
+use Rattle.herm_journal.specs.Renaming.{forget_name}
+use Rattle.herm_source.specs.Renaming.{forget_state}
 use Rattle.herm_source.specs.Along.{ports_of, looks_at, port_type}
 use Rattle.herm_source.specs.Sound.{each, typed_in}
-use Rattle.herm_source.proofs.renamed.RenamedForms.{inport_number-renamed}
+use Rattle.herm_forms.proofs.renamed.RenamedForms.{inport_number-renamed}
 use Rattle.herm_source.proofs.Diaries.{cond-both}
 use Rattle.herm_source.proofs.incoming.SuitsReading.{type-read}
 

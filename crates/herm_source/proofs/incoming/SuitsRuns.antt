@@ -7,9 +7,9 @@ use Rattle.herm_model.proofs.Options.{some-injective, none-not_some, chain-some,
 use Rattle.herm_journal.specs.Places.{after}
 use Rattle.herm_journal.specs.Entries.{Place, same_place, Entry, recorded}
 use Rattle.herm_journal.specs.Journals.{entry_behind}
-use Rattle.herm_source.specs.Bodies.{Name}
-use Rattle.herm_source.specs.Exchanges.{CellAction}
-use Rattle.herm_source.specs.Edges.{Code}
+use Rattle.herm_forms.specs.Bodies.{Name}
+use Rattle.herm_journal.specs.Messages.{CellAction}
+use Rattle.herm_forms.specs.Edges.{Code}
 use Rattle.herm_source.specs.States.{State, wanted, answered}
 use Rattle.herm_source.specs.Systems.{Program, Modules, System, Moved, Event, steps, acts, Run, run, run_on, step, start, opening, with_entry, own_name, is_acting, stands, numbered_from_one, with_process, with_made, set_process, set_holding, holding_at, places_for, done_at, number_of, act_at, behind_action}
 use Rattle.herm_source.specs.Headline.{AreCodesOf, IsAlong}

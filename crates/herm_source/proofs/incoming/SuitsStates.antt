@@ -13,15 +13,15 @@ use Rattle.herm_journal.specs.Actions.{new_port, new_process, to_put, to_take, t
 use Rattle.herm_journal.specs.Places.{Port, first_of, Replies, Holding, a_port, replies, a_book}
 use Rattle.herm_journal.specs.Entries.{Place, port, reply_cell, book, same_place}
 use Rattle.herm_journal.proofs.Rising.{same-true}
-use Rattle.herm_source.specs.Bodies.{Name}
-use Rattle.herm_source.specs.Exchanges.{CellReply, CellWant, CellAction}
-use Rattle.herm_source.specs.Edges.{Code}
+use Rattle.herm_forms.specs.Bodies.{Name}
+use Rattle.herm_journal.specs.Messages.{CellReply, CellWant, CellAction, IsMessage}
+use Rattle.herm_forms.specs.Edges.{Code}
 use Rattle.herm_source.specs.States.{State, wanted}
 use Rattle.herm_source.specs.Systems.{Modules, System, own_name, numbered_from_one, holding_at, places_for, done_at, number_of}
-use Rattle.herm_source.specs.Renaming.{rename_action, forget_name, forget_state}
+use Rattle.herm_journal.specs.Renaming.{rename_action, forget_name}
+use Rattle.herm_source.specs.Renaming.{forget_state}
 use Rattle.herm_source.specs.Along.{Suits}
 use Rattle.herm_source.specs.Statuses.{how_many}
-use Rattle.herm_source.specs.Messages.{IsMessage}
 use Rattle.herm_source.specs.Sound.{each, typed_in, typed_loop, typed_by, typed_process, typed_port, typed_cells, replies_of, one_if, has_open, is_callmessage_of, unfinalised, IsSoundWith}
 use Rattle.herm_source.proofs.incoming.SuitsMessages.{message-renamed, reply-renamed}
 use Rattle.herm_source.proofs.incoming.SuitsPorts.{is-some_of, port-typed}

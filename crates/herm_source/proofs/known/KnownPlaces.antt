@@ -6,17 +6,19 @@ use Rattle.herm_model.proofs.Options.{some-injective, none-not_some, chain-some,
 use Rattle.herm_journal.specs.Actions.{new_port, new_process, to_put, to_take, to_close, to_answer, to_hear, make_port, make_process, put, take, close, answer, hear}
 use Rattle.herm_journal.specs.Places.{Book, Port, empty_port, first_of, behind_first, Replies, Holding, a_port, replies, a_book, after, next_port, next_process}
 use Rattle.herm_journal.specs.Entries.{Place, port, reply_cell, book}
-use Rattle.herm_source.specs.Bodies.{Name, Body}
-use Rattle.herm_source.specs.Exchanges.{CellReply, CellWant, CellAction, born}
+use Rattle.herm_forms.specs.Bodies.{Name, Body}
+use Rattle.herm_journal.specs.Messages.{CellReply, CellWant, CellAction}
+use Rattle.herm_forms.specs.Exchanges.{born}
 use Rattle.herm_source.specs.States.{State, begin, wanted, local_step, answered}
 use Rattle.herm_source.specs.Systems.{Modules, System, Moved, Event, steps, acts, Run, run, run_on, step, with_entry, with_made, set_process, set_holding, holding_at, act_at, behind_action, own_name, numbered_from_one, set_from_one, done_at, number_of}
 use Rattle.herm_source.proofs.SystemLedger.{cond-some, process-some, processes-stay}
 use Rattle.herm_source.proofs.Histories.{held-with_process}
 use Rattle.herm_source.proofs.RoundsEnd.{made-book}
 use Rattle.herm_source.proofs.Numbered.{BookMoves, book-moves, set-found, more-found, set-found_from_one, more-found_from_one}
-use Rattle.herm_source.proofs.known.HeldKinds.{HasKinds, AllKinds, more-kinds, more-kinds_in, more-kinds_all}
-use Rattle.herm_source.proofs.known.KindsKept.{AllowsPlain, LoopKinds, BodyKinds}
-use Rattle.herm_source.proofs.known.KindsExchanged.{ReplyKinds, AllPorts, WantKinds, IfWant, ActionKinds, wanted-kinds, local-kinds, answer-kinds_kept, begin-kinds}
+use Rattle.herm_journal.specs.Kinds.{HasKinds, AllKinds, ReplyKinds, AllPorts, WantKinds, IfWant, ActionKinds}
+use Rattle.herm_journal.proofs.MoreKinds.{more-kinds, more-kinds_in, more-kinds_all}
+use Rattle.herm_forms.proofs.known.KindsKept.{AllowsPlain, LoopKinds, BodyKinds}
+use Rattle.herm_source.proofs.known.KindsStepped.{wanted-kinds, local-kinds, answer-kinds_kept, begin-kinds}
 
 -- a port or a caller whose number the book has counted
 abbrev pub IsKnown : Book → Kind → Type 0

@@ -6,8 +6,8 @@ use Rattle.herm_model.specs.Values.{Cell}
 use Rattle.herm_model.proofs.Options.{none-not_some, map-some}
 use Rattle.herm_journal.specs.Places.{empty_port, Holding, a_port, replies, a_book}
 use Rattle.herm_journal.specs.Entries.{Place, port, reply_cell, book, same_place}
-use Rattle.herm_source.specs.Bodies.{Name}
-use Rattle.herm_source.specs.Exchanges.{CellReply}
+use Rattle.herm_forms.specs.Bodies.{Name}
+use Rattle.herm_journal.specs.Messages.{CellReply}
 use Rattle.herm_source.specs.States.{State}
 use Rattle.herm_source.specs.Systems.{System, holding_at, set_holding, numbered_from_one, set_from_one, set_process}
 use Rattle.herm_source.proofs.SystemLedger.{processes-stay}

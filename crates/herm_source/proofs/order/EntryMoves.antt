@@ -6,10 +6,12 @@ use Rattle.herm_model.proofs.Options.{some-injective, none-not_some, chain-some,
 use Rattle.herm_journal.specs.Actions.{to_put, to_take, to_close, to_answer, to_hear, make_port, make_process}
 use Rattle.herm_journal.specs.Places.{Holding, a_port, replies, Port, Replies, first_of, after}
 use Rattle.herm_journal.specs.Entries.{Place, port, reply_cell, book, same_place, Entry, recorded}
-use Rattle.herm_source.specs.Bodies.{Name, Body}
-use Rattle.herm_source.specs.Exchanges.{CellReply, CellWant, CellAction, born}
-use Rattle.herm_source.specs.Edges.{Code}
-use Rattle.herm_source.specs.States.{State, Next, an_item, a_reply, a_statement, nothing, next_of, begin, wanted, wanted_next, is_action, wants, local_step, answered, out_of_steps, out_of_actions, waiting, local, acting, can_be_done, standing_at, standing, greatest_actions}
+use Rattle.herm_forms.specs.Bodies.{Name, Body}
+use Rattle.herm_journal.specs.Messages.{CellReply, CellWant, CellAction}
+use Rattle.herm_forms.specs.Exchanges.{born}
+use Rattle.herm_forms.specs.Edges.{Code}
+use Rattle.herm_source.specs.States.{State, Next, an_item, a_reply, a_statement, nothing, next_of, begin, wanted, wanted_next, local_step, answered, out_of_steps, out_of_actions, waiting, local, acting, can_be_done, standing_at, standing, greatest_actions}
+use Rattle.herm_forms.specs.Acts.{is_action, wants}
 use Rattle.herm_source.specs.Systems.{Modules, System, Moved, acts, step, with_made, set_process, set_holding, holding_at, act_at, behind_action, own_name, numbered_from_one, places_for, done_at, can, number_of, is_local, is_acting, stands}
 use Rattle.std.specs.Prelude.{nat_lt}
 use Rattle.herm_source.proofs.SystemLedger.{process-some}

@@ -6,8 +6,8 @@ use Rattle.herm_model.proofs.Options.{some-injective, chain-some, map-some}
 use Rattle.herm_journal.specs.Places.{after, Book, Limits}
 use Rattle.herm_journal.specs.Entries.{Entry, recorded}
 use Rattle.herm_journal.specs.Journals.{entry_behind, IsStampedFrom, next_stamp}
-use Rattle.herm_source.specs.Bodies.{Name}
-use Rattle.herm_source.specs.Edges.{Code}
+use Rattle.herm_forms.specs.Bodies.{Name}
+use Rattle.herm_forms.specs.Edges.{Code}
 use Rattle.herm_source.specs.States.{State, local_step, standing, next_of}
 use Rattle.herm_source.specs.Systems.{Modules, System, Moved, Event, steps, acts, Run, run, run_on, step, with_entry, set_process, set_holding, holding_at, own_name, numbered_from_one, can, is_local, stands}
 use Rattle.herm_source.proofs.SystemLedger.{process-some}

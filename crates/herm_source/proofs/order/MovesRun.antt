@@ -6,9 +6,9 @@ use Rattle.herm_model.proofs.Options.{some-injective}
 use Rattle.herm_journal.specs.Places.{Holding, after}
 use Rattle.herm_journal.specs.Entries.{Place, same_place, Entry, recorded}
 use Rattle.herm_journal.specs.Journals.{entry_behind}
-use Rattle.herm_source.specs.Bodies.{Name}
-use Rattle.herm_source.specs.Exchanges.{CellReply, CellWant, CellAction}
-use Rattle.herm_source.specs.Edges.{Code}
+use Rattle.herm_forms.specs.Bodies.{Name}
+use Rattle.herm_journal.specs.Messages.{CellReply, CellWant, CellAction}
+use Rattle.herm_forms.specs.Edges.{Code}
 use Rattle.herm_source.specs.States.{State, next_of, wanted, local_step, answered, standing}
 use Rattle.herm_source.specs.Systems.{Modules, System, Moved, Event, steps, acts, run_on, step, with_entry, with_process, with_made, set_process, set_holding, holding_at, act_at, behind_action, own_name, numbered_from_one, set_from_one, places_for, done_at, done_in, can, number_of, is_local, is_acting, stands}
 use Rattle.herm_source.proofs.Numbers.{local-stays}

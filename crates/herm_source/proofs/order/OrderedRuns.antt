@@ -7,17 +7,18 @@ use Rattle.herm_journal.specs.Actions.{new_port, new_process, to_put, to_take, t
 use Rattle.herm_journal.specs.Places.{Limits, first_book, Holding, a_port, replies, a_book}
 use Rattle.herm_journal.specs.Entries.{Text, Place, port, reply_cell, book, same_place, Entry}
 use Rattle.herm_journal.specs.Journals.{entry_behind, ordered}
-use Rattle.herm_source.specs.Bodies.{Name}
-use Rattle.herm_source.specs.Exchanges.{CellReply, CellWant}
-use Rattle.herm_source.specs.Edges.{Code}
+use Rattle.herm_forms.specs.Bodies.{Name}
+use Rattle.herm_journal.specs.Messages.{CellReply, CellWant}
+use Rattle.herm_forms.specs.Edges.{Code}
 use Rattle.herm_source.specs.States.{State, begin, wanted}
 use Rattle.herm_source.specs.Sound.{IsNumbered}
 use Rattle.herm_source.specs.Systems.{Modules, System, Run, opening, main_port, own_name, holding_at, numbered_from_one, places_for}
 use Rattle.herm_source.specs.OrderLaws.{OrderedJournalsAreRuns}
 use Rattle.herm_source.proofs.Histories.{place-same}
 use Rattle.herm_source.proofs.Numbered.{run-numbered, opening-numbered}
-use Rattle.herm_source.proofs.known.KindsKept.{BodyKinds}
-use Rattle.herm_source.proofs.known.KindsExchanged.{AllPorts, WantKinds, wanted-kinds, local-kinds, begin-kinds}
+use Rattle.herm_forms.proofs.known.KindsKept.{BodyKinds}
+use Rattle.herm_journal.specs.Kinds.{AllPorts, WantKinds}
+use Rattle.herm_source.proofs.known.KindsStepped.{wanted-kinds, local-kinds, begin-kinds}
 use Rattle.herm_source.proofs.known.KnownPlaces.{IsKnown, known-allows, HoldingKinds, Knows, want-of, run-knows}
 use Rattle.herm_source.proofs.order.EntryMoves.{Walks, IsMove}
 use Rattle.herm_source.proofs.order.MovesRun.{move-run}

@@ -4,8 +4,8 @@ use Rattle.herm_model.specs.Values.{Cell}
 use Rattle.herm_journal.specs.Places.{Holding}
 use Rattle.herm_journal.specs.Entries.{Entry}
 use Rattle.herm_journal.specs.Journals.{IsStampedFrom, is_before, with_next, ordered}
-use Rattle.herm_source.specs.Bodies.{Name}
-use Rattle.herm_source.specs.Exchanges.{CellReply}
+use Rattle.herm_forms.specs.Bodies.{Name}
+use Rattle.herm_journal.specs.Messages.{CellReply}
 use Rattle.herm_source.specs.Sound.{IsNumbered}
 use Rattle.herm_source.specs.Systems.{Modules, System, holding_at, numbered_from_one}
 use Rattle.herm_source.proofs.order.EntryMoves.{IsMove}

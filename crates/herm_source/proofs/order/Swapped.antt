@@ -9,8 +9,8 @@ use Rattle.herm_journal.specs.Places.{Book, Holding, after}
 use Rattle.herm_journal.specs.Entries.{Place, book, same_place, Entry, recorded}
 use Rattle.herm_journal.specs.Journals.{IsStampedFrom, clock_of_process, clock_of_place, is_maker_of, next_stamp, is_before}
 use Rattle.herm_journal.proofs.Rising.{same-true}
-use Rattle.herm_source.specs.Bodies.{Name, Body}
-use Rattle.herm_source.specs.Exchanges.{CellReply, CellAction}
+use Rattle.herm_forms.specs.Bodies.{Name, Body}
+use Rattle.herm_journal.specs.Messages.{CellReply, CellAction}
 use Rattle.herm_source.specs.States.{State}
 use Rattle.herm_source.specs.Sound.{IsNumbered}
 use Rattle.herm_source.specs.Systems.{Modules, System, with_made, set_process, set_holding, holding_at, numbered_from_one}

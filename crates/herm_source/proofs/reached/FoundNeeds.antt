@@ -14,11 +14,12 @@ use Rattle.herm_model.proofs.Lists.{in-map, in-flat_map, slice_get-map}
 use Rattle.herm_model.proofs.FactTests.{at-numbered}
 use Rattle.herm_model.proofs.Options.{none-not_some}
 use Rattle.herm_model.proofs.DeterminedRefusals.{accepted-held}
-use Rattle.herm_source.specs.Bodies.{Name}
-use Rattle.herm_source.specs.Edges.{Code, code_of}
+use Rattle.herm_forms.specs.Bodies.{Name}
+use Rattle.herm_forms.specs.Edges.{Code, code_of}
 use Rattle.herm_source.specs.States.{State, node_at}
 use Rattle.herm_source.specs.Systems.{Program}
-use Rattle.herm_source.specs.Local.{IsLabelled, lent, lent_by, calling, HasFact}
+use Rattle.herm_source.specs.Local.{IsLabelled, lent, calling, HasFact}
+use Rattle.herm_forms.specs.Callings.{lent_by}
 use Rattle.herm_source.specs.Headline.{IsCodeOf, AreCodesOf}
 use Rattle.herm_source.specs.NeedsLaws.{SoundStatesFindNeeds}
 

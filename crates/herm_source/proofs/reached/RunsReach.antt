@@ -10,9 +10,10 @@ use Rattle.herm_model.proofs.Options.{some-injective, none-not_some, chain-some,
 use Rattle.herm_journal.specs.Actions.{make_port, make_process}
 use Rattle.herm_journal.specs.Places.{Limits, after}
 use Rattle.herm_journal.specs.Entries.{Text, Place}
-use Rattle.herm_source.specs.Bodies.{Name, Body}
-use Rattle.herm_source.specs.Exchanges.{CellAction, born}
-use Rattle.herm_source.specs.Edges.{Code, code_of}
+use Rattle.herm_forms.specs.Bodies.{Name, Body}
+use Rattle.herm_journal.specs.Messages.{CellAction}
+use Rattle.herm_forms.specs.Exchanges.{born}
+use Rattle.herm_forms.specs.Edges.{Code, code_of}
 use Rattle.herm_source.specs.States.{State, begin, wanted, local_step, answered}
 use Rattle.herm_source.specs.Systems.{Program, Modules, System, Moved, Event, steps, acts, Run, run, run_on, step, start, opening, main_port, own_name, done_at, holding_at, set_holding, numbered_from_one, set_from_one, with_made, set_process, local_event, act_at, action_event, behind_action, number_of}
 use Rattle.herm_source.specs.Headline.{AreAccepted}
