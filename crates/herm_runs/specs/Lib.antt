@@ -1,0 +1,5 @@
+pub mod OneProcess
+pub mod DiaryLaws
+pub mod OrderLaws
+pub mod SuitsLaws
+pub mod RunLaws
