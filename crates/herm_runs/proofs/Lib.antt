@@ -13,3 +13,4 @@ pub mod SuitsMessages
 pub mod SuitsStates
 pub mod SuitsRuns
 pub mod LedgerAlong
+pub mod StayingSo

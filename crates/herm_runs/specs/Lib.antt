@@ -3,3 +3,4 @@ pub mod DiaryLaws
 pub mod OrderLaws
 pub mod SuitsLaws
 pub mod RunLaws
+pub mod Throughout

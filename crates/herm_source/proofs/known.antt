@@ -1,3 +1,2 @@
--- That a process knows only ports and callers that are there.
+-- That a process wants and learns only what is known.
 pub mod KindsStepped
-pub mod KnownPlaces

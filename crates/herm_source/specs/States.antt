@@ -19,7 +19,12 @@ use Rattle.herm_forms.specs.Exchanges
 use Rattle.herm_journal.specs.Messages.{CellWant, CellAction}
 use Rattle.herm_forms.specs.Exchanges.{Composed}
 use Rattle.herm_forms.specs.Edges.{Code, arrive, beyond_full, beyond_declared}
+use Rattle.herm_system.specs.Machines.{Standing, ended, out_of_steps, local, to_act, greatest_actions}
 use Rattle.herm_forms.specs.Acts.{is_action, leads_to, settle_reply, act, settle, wants}
+
+-- names as they are
+abbrev pub own_name : Name → Name
+own_name n = n
 
 -- The state of a process: the number of its module, its point and its body. Language reference, "Processes".
 pub record State (N : Type 0) : Type 0 where
@@ -113,38 +118,14 @@ settle_next name c s at action nothing = None
 abbrev pub answered : {N : Type 0} → (Name → N) → Code → State N → (at : ℕ) → CellAction N → Option (State N)
 answered name c s at action = settle_next name c s at action (next_of c s)
 
--- how a process stands; of the two limits the one that it has reached
-pub data Standing : Type 0 where
-  ended : Standing
-  out_of_steps : Standing
-  out_of_actions : Standing
-  waiting : Standing
-  local : Standing
-  acting : Standing
+-- How a process stands under a limit of steps, without a look at the places. Of a next thing that is a step and an action
+-- the limit of steps is looked at first. Language reference, "Processes".
+abbrev pub ready_for : {N : Type 0} → Code → (limit : ℕ) → Body N → Next N → Standing
+ready_for c limit b nothing = ended
+ready_for c limit b (an_item item work) = to_act (nat_lt b.actions greatest_actions)
+ready_for c limit b (a_reply call n) = to_act (nat_lt b.actions greatest_actions)
+ready_for c limit b (a_statement n) =
+    cond (nat_lt b.steps limit) (cond (is_action c n.form) (to_act (nat_lt b.actions greatest_actions)) local) out_of_steps
 
-abbrev pub greatest_actions : ℕ
-greatest_actions = 16384
-
--- whether what is wanted can be done, by a test
-abbrev pub can_be_done : {N : Type 0} → (CellWant N → Bool) → Option (CellWant N) → Bool
-can_be_done can None = true
-can_be_done can (Some w) = can w
-
--- an action is next: its limit is looked at first, and then whether it can be done
-abbrev pub standing_to_act : (actions : ℕ) → Bool → Standing
-standing_to_act actions can = cond (nat_lt actions greatest_actions) (cond can acting waiting) out_of_actions
-
--- How a process stands, where the limit of steps is this, and a test says of a take whether one of its ports has a
--- message, of a hearing whether the reply is there, and holds of every other want. Of a next thing that is a step
--- and an action the limit of steps is looked at first. Language reference, "Processes".
-abbrev pub standing_at : {N : Type 0} → (Name → N) → Code → (limit : ℕ) → (CellWant N → Bool) → Body N → Next N → Standing
-standing_at name c limit can b nothing = ended
-standing_at name c limit can b (an_item item work) = standing_to_act b.actions true
-standing_at name c limit can b (a_reply call n) = standing_to_act b.actions (can to_hear)
-standing_at name c limit can b (a_statement n) =
-    cond (nat_lt b.steps limit)
-    (cond (is_action c n.form) (standing_to_act b.actions (can_be_done can (wants name c n.form b))) local)
-    out_of_steps
-
-abbrev pub standing : {N : Type 0} → (Name → N) → Code → (limit : ℕ) → (CellWant N → Bool) → State N → Standing
-standing name c limit can s = standing_at name c limit can s.body (next_of c s)
+abbrev pub ready_in : {N : Type 0} → Code → (limit : ℕ) → State N → Standing
+ready_in c limit s = ready_for c limit s.body (next_of c s)

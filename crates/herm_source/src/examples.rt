@@ -1,7 +1,7 @@
 // Runs of small programs, computed from the definitions. The comments on the programs have them as they are written.
 
 ghost use Rattle.std.specs.Prelude.{◌≡◌, List, [], ◌∷◌, Some, codes};
-ghost use Rattle.herm_source.specs.Statuses.{plainly, with_summary, the_journal};
+ghost use Rattle.herm_system.specs.Statuses.{plainly, with_summary, the_journal};
 ghost use Rattle.herm_source.specs.Programs.{calls_both_ways, deep_polymorph, discarded_call, empty_body, greeting, idle_process, kept_parameter, left_loop, one_branch, one_too_many, own_queue, port_in_message, ports_until_full, refused_insert, returned_call, two_senders, untaken_call, waiting_select};
 ghost use Rattle.herm_source.specs.Examples.{ending, limited, in_lines};
 

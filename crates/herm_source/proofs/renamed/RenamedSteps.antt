@@ -44,7 +44,7 @@ module _ {N M : Type 0} (f : N → M) (name : Name → N) where
   behind-renamed c s n (stays b) = refl
   behind-renamed c s n stuck = refl
 
-  abbrev rename_next : Next N → Next M
+  abbrev pub rename_next : Next N → Next M
   rename_next (an_item item work) = an_item (rename f item) (map (rename f) work)
   rename_next (a_reply call n) = a_reply call n
   rename_next (a_statement n) = a_statement n
@@ -59,7 +59,7 @@ module _ {N M : Type 0} (f : N → M) (name : Name → N) where
   item_or-renamed [] call n = call_or_statement-renamed call n
   item_or-renamed (item ∷ list) call n = refl
 
-  next_of-renamed : (c : Code) (s : State N) → next_of c (rename_state f s) ≡ rename_next (next_of c s)
+  pub next_of-renamed : (c : Code) (s : State N) → next_of c (rename_state f s) ≡ rename_next (next_of c s)
   next_of-renamed c s = item_or-renamed s.body.work s.body.call (node_at c s.point)
 
   wanted_if : (b : Bool) (o : Option (CellWant N)) (o' : Option (CellWant M)) → o' ≡ option_map (rename_want f) o → cond b o' None ≡ option_map (rename_want f) (cond b o None)
