@@ -15,7 +15,7 @@ use Rattle.herm_model.proofs.Lists.{in-map, in-flat_map}
 use Rattle.herm_forms.specs.Bodies.{Name}
 use Rattle.herm_journal.specs.Entries.{Text}
 use Rattle.herm_forms.specs.Edges.{code_of}
-use Rattle.herm_source.specs.Systems.{Modules}
+use Rattle.herm_source.specs.Modules.{Modules}
 use Rattle.herm_source.specs.Headline.{AreAccepted}
 use Rattle.herm_compile.specs.Form.{IsLine, IsBody, IsProgram}
 use Rattle.herm_compile.specs.Reading.{IsNumbered}

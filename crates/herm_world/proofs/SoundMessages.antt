@@ -10,7 +10,7 @@ use Rattle.herm_model.proofs.FactTests.{listed-IsIn, IsIn-listed}
 use Rattle.herm_journal.specs.Entries.{Text}
 use Rattle.herm_forms.specs.Bodies.{Name}
 use Rattle.herm_journal.specs.Messages.{IsMessage}
-use Rattle.herm_source.specs.Systems.{first_message}
+use Rattle.herm_system.specs.Systems.{first_message}
 use Rattle.herm_world.proofs.Slots.{Made, string_cell}
 use Rattle.herm_world.proofs.Apart.{not-zero, far-one}
 use Rattle.herm_model.proofs.NothingThere.{nothing-there}

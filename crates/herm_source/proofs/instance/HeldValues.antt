@@ -1,5 +1,5 @@
 -- The values that a process holds, one by one, weigh and are of the kinds of its variables, loops and work list together.
-use Rattle.std.proofs.Common.{◌≡◌, ℕ, ◌+◌, List, [], ◌∷◌, ◌++◌, map, flat_map, Option, Some, None, refl, sym, ap, ◌∙◌, arith}
+use Rattle.std.proofs.Common.{◌≡◌, ℕ, ◌+◌, List, [], ◌∷◌, ◌++◌, map, flat_map, Option, Some, None, refl, sym, ap, ap₂, ◌∙◌, arith, append_assoc, append-nil}
 use Rattle.std.specs.Prelude.{slice_get}
 use Rattle.herm_model.specs.Lists.{total, list_of}
 use Rattle.herm_model.specs.Types.{TypeTable}
@@ -12,7 +12,7 @@ use Rattle.herm_forms.specs.Weights.{held, weigh_loops}
 use Rattle.herm_forms.specs.Edges.{Code}
 use Rattle.herm_forms.proofs.known.KindsKept.{LoopKinds}
 use Rattle.herm_system.specs.Machines.{Held}
-use Rattle.herm_system.specs.Kinds.{each, typed_in, typed_held}
+use Rattle.herm_system.specs.Kinds.{kinds_of, kinds_in, each, all_of, typed_of, typed_in, typed_held}
 use Rattle.herm_runs.specs.OneProcess.{HeldKinds}
 use Rattle.herm_source.specs.States.{State}
 use Rattle.herm_source.specs.Local.{row_type}
@@ -129,4 +129,84 @@ typed-variables types (t ∷ ts) no_parts = refl
 typed-variables types [] (gap ps) = typed-variables types [] ps
 typed-variables types (t ∷ ts) (gap ps) = typed-variables types ts ps
 typed-variables types [] (part c ps) = typed-variables types [] ps
-typed-variables types (t ∷ ts) (part c ps) = ap (Rattle.herm_system.specs.Kinds.typed_of types t c ++◌) (typed-variables types ts ps)
+typed-variables types (t ∷ ts) (part c ps) = ap (typed_of types t c ++◌) (typed-variables types ts ps)
+
+flat-append : {X Y : Type 0} (f : X → List Y) (xs ys : List X) → flat_map f (xs ++ ys) ≡ flat_map f xs ++ flat_map f ys
+flat-append f [] ys = refl
+flat-append f (x ∷ xs) ys = ap (f x ++◌) (flat-append f xs ys) ∙ sym (append_assoc (f x) (flat_map f xs) (flat_map f ys))
+
+-- the kinds of all that a process holds are those of its variables, its loops' rows and its work list
+module _ {N : Type 0} where
+  kinds-variables : (ts : List ℕ) (ps : Parts N) → flat_map (λ (h : Held N). kinds_of h.value) (in_variables ts ps) ≡ kinds_in ps
+  kinds-variables ts no_parts = refl
+  kinds-variables [] (gap ps) = kinds-variables [] ps
+  kinds-variables (t ∷ ts) (gap ps) = kinds-variables ts ps
+  kinds-variables [] (part c ps) = ap (kinds_of c ++◌) (kinds-variables [] ps)
+  kinds-variables (t ∷ ts) (part c ps) = ap (kinds_of c ++◌) (kinds-variables ts ps)
+
+  kinds-rows : (t : Option ℕ) (ps : Parts N) → flat_map (λ (h : Held N). kinds_of h.value) (in_rows t ps) ≡ kinds_in ps
+  kinds-rows t no_parts = refl
+  kinds-rows t (gap ps) = kinds-rows t ps
+  kinds-rows t (part c ps) = ap (kinds_of c ++◌) (kinds-rows t ps)
+
+  kinds-loops : (type : ℕ → Option ℕ) (loops : List (Loop N)) → flat_map (λ (h : Held N). kinds_of h.value) (flat_map (λ (l : Loop N). in_rows (type l.statement) l.rows) loops) ≡ flat_map (λ (l : Loop N). kinds_in l.rows) loops
+  kinds-loops type [] = refl
+  kinds-loops type (l ∷ loops) =
+      flat-append (λ (h : Held N). kinds_of h.value) (in_rows (type l.statement) l.rows) (flat_map (λ (l : Loop N). in_rows (type l.statement) l.rows) loops)
+      ∙ ap₂ (λ (xs ys : List Kind). xs ++ ys) (kinds-rows (type l.statement) l.rows) (kinds-loops type loops)
+
+  kinds-items : (cs : List (Cell N)) → flat_map (λ (h : Held N). kinds_of h.value) (map untyped cs) ≡ flat_map kinds_of cs
+  kinds-items [] = refl
+  kinds-items (c ∷ cs) = ap (kinds_of c ++◌) (kinds-items cs)
+
+  pub kinds-values : (c : Code) (s : State N) → flat_map (λ (h : Held N). kinds_of h.value) (values_held c s)
+      ≡ kinds_in s.body.variables ++ flat_map (λ (l : Loop N). kinds_in l.rows) s.body.loops ++ flat_map kinds_of s.body.work
+  kinds-values c s =
+      let variables = in_variables c.variables s.body.variables in
+      let loops = flat_map (λ (l : Loop N). in_rows (row_type c l.statement) l.rows) s.body.loops in
+      let items : List (Held N) = map untyped s.body.work in
+      flat-append (λ (h : Held N). kinds_of h.value) (variables ++ loops) items
+      ∙ ap₂ (λ (xs ys : List Kind). xs ++ ys)
+      (flat-append (λ (h : Held N). kinds_of h.value) variables loops ∙ ap₂ (λ (xs ys : List Kind). xs ++ ys) (kinds-variables c.variables s.body.variables) (kinds-loops (row_type c) s.body.loops))
+      (kinds-items s.body.work)
+
+-- and those at places with types are those of its variables and its loops' rows, by their types
+module _ {N : Type 0} (types : TypeTable) where
+  typed-rows : (t : ℕ) (ps : Parts N) → flat_map (typed_held types) (in_rows (Some t) ps) ≡ typed_in types (all_of t) ps
+  typed-rows t no_parts = refl
+  typed-rows t (gap ps) = typed-rows t ps
+  typed-rows t (part c ps) = ap (typed_of types t c ++◌) (typed-rows t ps)
+
+  untyped-rows : (ps : Parts N) → flat_map (typed_held types) (in_rows None ps) ≡ []
+  untyped-rows no_parts = refl
+  untyped-rows (gap ps) = untyped-rows ps
+  untyped-rows (part c ps) = untyped-rows ps
+
+  rows-typed : (t : Option ℕ) (ps : Parts N) → flat_map (typed_held types) (in_rows t ps) ≡ list_of (λ t. typed_in types (all_of t) ps) t
+  rows-typed None ps = untyped-rows ps
+  rows-typed (Some t) ps = typed-rows t ps
+
+  loops-typed : (type : ℕ → Option ℕ) (loops : List (Loop N)) → flat_map (typed_held types) (flat_map (λ (l : Loop N). in_rows (type l.statement) l.rows) loops)
+      ≡ flat_map (λ (l : Loop N). list_of (λ t. typed_in types (all_of t) l.rows) (type l.statement)) loops
+  loops-typed type [] = refl
+  loops-typed type (l ∷ loops) =
+      flat-append (typed_held types) (in_rows (type l.statement) l.rows) (flat_map (λ (l : Loop N). in_rows (type l.statement) l.rows) loops)
+      ∙ ap₂ (λ (xs ys : List (ℕ × Kind)). xs ++ ys) (rows-typed (type l.statement) l.rows) (loops-typed type loops)
+
+  items-untyped : (cs : List (Cell N)) → flat_map (typed_held types) (map untyped cs) ≡ []
+  items-untyped [] = refl
+  items-untyped (c ∷ cs) = items-untyped cs
+
+  pub typed-values : (c : Code) (s : State N) → flat_map (typed_held types) (values_held c s)
+      ≡ typed_in types (each c.variables) s.body.variables ++ flat_map (λ (l : Loop N). list_of (λ t. typed_in types (all_of t) l.rows) (row_type c l.statement)) s.body.loops
+  typed-values c s =
+      let variables = in_variables c.variables s.body.variables in
+      let loops = flat_map (λ (l : Loop N). in_rows (row_type c l.statement) l.rows) s.body.loops in
+      let items : List (Held N) = map untyped s.body.work in
+      let own = typed_in types (each c.variables) s.body.variables in
+      let rows = flat_map (λ (l : Loop N). list_of (λ t. typed_in types (all_of t) l.rows) (row_type c l.statement)) s.body.loops in
+      flat-append (typed_held types) (variables ++ loops) items
+      ∙ ap₂ (λ (xs ys : List (ℕ × Kind)). xs ++ ys)
+      (flat-append (typed_held types) variables loops ∙ ap₂ (λ (xs ys : List (ℕ × Kind)). xs ++ ys) (typed-variables types c.variables s.body.variables) (loops-typed (row_type c) s.body.loops))
+      (items-untyped s.body.work)
+      ∙ append-nil (own ++ rows)

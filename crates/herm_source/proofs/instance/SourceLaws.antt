@@ -45,7 +45,7 @@ module _ (modules : Modules) where
   }
 
   -- what a process holds weighs as much together
-  held-weighs : (w : Name → ℕ) (x : State Name) (c : Code) → code_at modules x ≡ Some c → held_by w (source modules) x ≡ held w x.body
+  pub held-weighs : (w : Name → ℕ) (x : State Name) (c : Code) → code_at modules x ≡ Some c → held_by w (source modules) x ≡ held w x.body
   held-weighs w x c is = ap (λ o. total (λ (h : Held Name). weigh w h.value) (list_of (λ c. values_held c x) o)) is ∙ weigh-values w c x
 
   goes : (w : Name → ℕ) (x : State Name) (want : CellWant Name) (a : CellAction Name) → goes_out w (source modules) x want a ≡ gone_out w own_name x.body want a
