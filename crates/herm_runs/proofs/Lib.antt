@@ -14,3 +14,4 @@ pub mod SuitsStates
 pub mod SuitsRuns
 pub mod LedgerAlong
 pub mod StayingSo
+pub mod joined

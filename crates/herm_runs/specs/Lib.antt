@@ -4,3 +4,5 @@ pub mod OrderLaws
 pub mod SuitsLaws
 pub mod RunLaws
 pub mod Throughout
+pub mod Joining
+pub mod Countdowns

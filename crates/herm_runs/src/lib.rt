@@ -3,5 +3,6 @@
 #![tactic(auto)]
 
 pub mod diaries;
+pub mod joining;
 pub mod places;
 pub mod runs;

@@ -2,7 +2,7 @@
 use Rattle.std.specs.Prelude.{ℕ, zero, suc, List, [], ◌∷◌, Bool, cond, Option, Some, None, option_and_then, length, ◌≡◌, ⊤, IsTrue, IsFalse}
 use Rattle.herm_model.specs.Lists.{some_of}
 use Rattle.herm_journal.specs.Actions.{Want, new_port, new_process, to_put, to_take, to_close, to_answer, to_hear, Action, make_port, make_process, put, take, close, answer, hear}
-use Rattle.herm_journal.specs.Entries.{same_place, Entry, recorded}
+use Rattle.herm_journal.specs.Entries.{Place, same_place, Entry, recorded}
 use Rattle.herm_journal.specs.Messages.{CellWant, CellAction, IsMessage, IsReplyTo}
 use Rattle.herm_system.specs.Machines.{OpenCall, Machine, is_local}
 use Rattle.herm_system.specs.Systems.{places_for, number_of}
@@ -36,14 +36,14 @@ Suits machine x at (hear k r) = (call : OpenCall) × (machine.open_call x ≡ So
 Suits machine x at a = ⊤
 
 -- what is wanted is done at a place where that may be done
-abbrev pub Fulfils : {N P : Type 0} → Machine N P → P → Entry → CellAction N → Type 0
-Fulfils {N} machine x e a = (w : CellWant N) × (machine.wanted x ≡ Some w) × IsTrue (some_of (same_place e.place) (places_for (machine.number x) w)) × Answers w a
+abbrev pub Fulfils : {N P : Type 0} → Machine N P → P → Place → CellAction N → Type 0
+Fulfils {N} machine x place a = (w : CellWant N) × (machine.wanted x ≡ Some w) × IsTrue (some_of (same_place place) (places_for (machine.number x) w)) × Answers w a
 
 -- The action that an entry tells of: its values have the entry's texts, it answers what is wanted at a place where
 -- that may be done, and what comes in suits. Language reference, "Diaries".
 pub record IsToldBy {P : Type 0} (machine : Machine ⊤ P) (x : P) (e : Entry) (a : CellAction ⊤) : Type 0 where
   pub text : recorded a ≡ e.action
-  pub answers : Fulfils machine x e a
+  pub answers : Fulfils machine x e.place a
   pub suits : Suits machine x (number_of e.place) a
 
 -- The state behind an entry, from one without local steps. An entry that tells of no such action is put aside: it counts as

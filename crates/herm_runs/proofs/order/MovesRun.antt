@@ -33,7 +33,7 @@ pub runs-join : {P : Type 0} (machine : Machine Name P) (s t u : System P) (i j 
 runs-join machine s t u i j k a b = both-runs machine (record { system = s; journal = i }) (record { system = t; journal = j }) (record { system = u; journal = k }) a b
 
 module _ {P : Type 0} (machine : Machine Name P) (limit : ℕ) where
-  local-happens : (p : ℕ) (s : System P) (x y : P) → s.book.limits.steps ≡ limit → numbered_from_one p s.processes ≡ Some x →
+  pub local-happens : (p : ℕ) (s : System P) (x y : P) → s.book.limits.steps ≡ limit → numbered_from_one p s.processes ≡ Some x →
       is_local (machine.ready limit x) ≡ true → machine.local_step x ≡ Some y → step machine (steps p) s ≡ Some (record { system = set_process p y s; done = None })
   local-happens p s x y same is locals does =
       let stays : stands is_local machine s p ≡ true =
@@ -42,7 +42,7 @@ module _ {P : Type 0} (machine : Machine Name P) (limit : ℕ) where
       ∙ ap (option_and_then (λ x. option_map (λ y. record { system = set_process p y s; done = None }) (machine.local_step x))) is
       ∙ ap (option_map (λ y. record { system = set_process p y s; done = None })) does
 
-  action-happens : (p : ℕ) (place : Place) (s : System P) (x y : P) (w : CellWant Name) (h : Holding (Cell Name) (CellReply Name)) (a : CellAction Name) (g : Growth P) → s.book.limits.steps ≡ limit →
+  pub action-happens : (p : ℕ) (place : Place) (s : System P) (x y : P) (w : CellWant Name) (h : Holding (Cell Name) (CellReply Name)) (a : CellAction Name) (g : Growth P) → s.book.limits.steps ≡ limit →
       numbered_from_one p s.processes ≡ Some x → machine.ready limit x ≡ acting → machine.wanted x ≡ Some w →
       some_of (same_place place) (places_for p w) ≡ true → holding_at place s ≡ Some h → done_at w h ≡ Some a → machine.answered x (number_of place) a ≡ Some y →
       ((u : System P) → with_made machine x a u ≡ Some (grown g u)) → step machine (acts p place) s ≡ Some (record { system = changed p y place (after a h) g s; done = Some a })
