@@ -10,7 +10,7 @@ use Rattle.herm_model.proofs.Options.{none-not_some}
 use Rattle.herm_journal.specs.Actions.{values, raised, gone, new_process, make_port, make_process, put, take, close, answer, hear}
 use Rattle.herm_forms.specs.Bodies.{Name, Body, goes, stuck, let_go_all, end_cell, cleared, drop, putting, Taken, take_all}
 use Rattle.herm_forms.specs.Exchanges
-use Rattle.herm_journal.specs.Messages.{CellReply, CellWant, CellAction}
+use Rattle.herm_journal.specs.Messages.{CellReply, CellAction}
 use Rattle.herm_forms.specs.Exchanges.{born, place_of_port, ports_at, receive_at, assemble, Composed, with_message, compose, hear_reply, hear_call, give_back, outport_at, caller_of}
 use Rattle.herm_journal.specs.Weights.{weigh, weigh_in, weigh_all, weigh_reply, come_in}
 use Rattle.herm_forms.specs.Weights.{made, gone_out}

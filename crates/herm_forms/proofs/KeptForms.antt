@@ -1,33 +1,31 @@
 -- Edges, what a statement does and what an answer leaves keep the ledger's equation.
-use Rattle.std.proofs.Common.{◌≡◌, ℕ, suc, ◌+◌, List, [], ◌∷◌, Bool, true, false, cond, Option, Some, None, refl, ap, sym, ◌∙◌, arith, length}
-use Rattle.std.specs.Prelude.{pred, filter, flat_map, map, option_map, option_and_then, ⊤}
-use mathlib.Core.Bool.{false≢true}
+use Rattle.std.proofs.Common.{◌≡◌, ℕ, ◌+◌, List, [], ◌∷◌, Bool, true, false, cond, Option, Some, None, refl, ap, sym, ◌∙◌, arith}
+use Rattle.std.specs.Prelude.{filter, flat_map, map, option_map, option_and_then, ⊤}
 use Rattle.herm_model.specs.Paths.{Path}
 use Rattle.herm_model.specs.Types.{type_at, Parameter}
 use Rattle.herm_model.specs.Expressions.{Atom}
 use Rattle.herm_model.specs.Statements.{Form, Assign, Move, New, Discard, Unite, Dissolve, Reveal, Case, Wrap, Unwrap, Insert, Remove, Get, For, Connect, Send, Receive, Select, Call, Return, ReturnBy, Create, If, While, Raise, Leave, Arm}
 use Rattle.herm_model.specs.Calls.{shape_at, call_parameters}
 use Rattle.herm_model.specs.StatementTable.{set_by_call}
-use Rattle.herm_model.specs.Nodes.{Target, Node}
+use Rattle.herm_model.specs.Nodes.{Target}
 use Rattle.herm_model.specs.Finalising.{excess}
-use Rattle.herm_model.specs.Values.{a_callmessage, an_inport, Cell, cell, Parts, gaps, part, has_value, cell_at}
-use Rattle.herm_model.proofs.Options.{some-injective, none-not_some, chain-some, map-some}
+use Rattle.herm_model.specs.Values.{Cell, Parts, has_value, cell_at}
+use Rattle.herm_model.proofs.Options.{some-injective, chain-some, map-some}
 use Rattle.herm_forms.specs.Evaluate.{evaluate, key_values}
 use Rattle.herm_journal.specs.Actions.{values, raised, to_put, to_take, to_answer}
-use Rattle.herm_forms.specs.Bodies.{Name, Loop, Body, Result, goes, stays, stuck, let_go_parts, drop, Taken, take_all, counted_step, counted_action}
+use Rattle.herm_forms.specs.Bodies.{Name, Loop, Body, let_go_parts, drop, Taken, take_all}
 use Rattle.herm_forms.specs.Forms
 use Rattle.herm_forms.specs.Exchanges
 use Rattle.herm_journal.specs.Messages.{CellReply, CellWant, CellAction}
 use Rattle.herm_forms.specs.Exchanges.{Composed, compose}
 use Rattle.herm_forms.specs.Edges.{Code, arrive, keeps, keeps_loop, let_go_loops, leave_loops, beyond_full, beyond_declared}
-use Rattle.herm_forms.specs.Acts.{is_action, key_at, act, arguments_at, is_inout, is_out, inputs_of, composed, kept_at, left_at, given_back, given_at, given_by, wants, settle, settle_reply, leads_to}
+use Rattle.herm_forms.specs.Acts.{key_at, act, arguments_at, is_inout, is_out, inputs_of, composed, kept_at, left_at, given_back, given_at, given_by, wants, settle, settle_reply}
 use Rattle.herm_journal.specs.Weights.{weigh, weigh_in, weigh_all, weigh_reply, come_in}
 use Rattle.herm_forms.specs.Weights.{weigh_loops, kept, made, gone_out}
 use Rattle.herm_forms.specs.Kept.{EdgesKeep}
-use Rattle.herm_forms.proofs.Weights.{weigh-gaps}
 use Rattle.herm_forms.proofs.Balance.{Balanced, AllBalanced, balanced-let_go_parts, balanced-drop, balanced-if_there, balanced-take_all}
 use Rattle.herm_forms.proofs.KeptLocal.{balanced-with_value, kept-assign, kept-move, kept-new_value, kept-discard, kept-unite, kept-dissolve, kept-reveal, kept-choose, kept-wrap, kept-unwrap, kept-insert, kept-remove, kept-get, kept-visit, kept-connect, kept-tested}
-use Rattle.herm_forms.proofs.KeptActions.{kept-new_inport, kept-send, kept-receive, kept-select, kept-work_done, kept-hear_call, kept-create, balanced-compose, kept-call, kept-return}
+use Rattle.herm_forms.proofs.KeptActions.{kept-new_inport, kept-send, kept-receive, kept-select, kept-hear_call, kept-create, balanced-compose, kept-call, kept-return}
 use Rattle.herm_forms.proofs.Counting.{recount, recount_taken, recount_composed, recount-drop, recount-take_all, recount-compose}
 
 module _ {N : Type 0} (w : N → ℕ) (name : Name → N) (m k : ℕ) where

@@ -1,6 +1,6 @@
 -- Edges, what a statement does and what an answer leaves keep the process's number.
-use Rattle.std.proofs.Common.{◌≡◌, ℕ, suc, ◌+◌, List, [], ◌∷◌, Bool, true, false, cond, Option, Some, None, option_map, option_and_then, refl, sym, ap, ◌∙◌}
-use Rattle.std.specs.Prelude.{pred, length, ⊤, nat_eq, nat_lt, filter, flat_map, map}
+use Rattle.std.proofs.Common.{◌≡◌, ℕ, suc, ◌+◌, List, [], ◌∷◌, Bool, true, false, cond, Option, Some, None, option_and_then, refl, sym, ap, ◌∙◌}
+use Rattle.std.specs.Prelude.{⊤, nat_eq, nat_lt, filter, flat_map, map}
 use Rattle.herm_model.specs.Paths.{Path}
 use Rattle.herm_model.specs.Types.{Mode, Shape, fields, rows, type_at}
 use Rattle.herm_model.specs.Outcomes.{Outcome, ok, arm, turn, raised, depletion, disconnected, duplicate_key, polymorph_mismatch}
@@ -8,9 +8,9 @@ use Rattle.herm_model.specs.Statements.{Form, Assign, Move, New, Discard, Unite,
 use Rattle.herm_model.specs.Expressions.{Atom}
 use Rattle.herm_model.specs.Calls.{shape_at, call_parameters}
 use Rattle.herm_model.specs.StatementTable.{set_by_call}
-use Rattle.herm_model.specs.Nodes.{Target, Node}
+use Rattle.herm_model.specs.Nodes.{Target}
 use Rattle.herm_model.specs.Finalising.{excess}
-use Rattle.herm_model.specs.Values.{gaps, has_place, Scalar, a_boolean, Kind, a_scalar, a_variant, a_polymorph, an_outport, an_inport, Cell, cell, Parts, no_parts, gap, part, part_at, parts_of, size, has_value, cell_at, read_at, put_at, copy_from, copy_in, count, count_in, polymorph_depth, Value}
+use Rattle.herm_model.specs.Values.{has_place, Scalar, a_boolean, Kind, a_scalar, a_variant, a_polymorph, an_outport, an_inport, Cell, cell, Parts, no_parts, gap, part, part_at, parts_of, size, has_value, cell_at, read_at, put_at, copy_from, copy_in, count, count_in, polymorph_depth, Value}
 use Rattle.herm_model.specs.Tables.{has_key, key_of, place_of_key, without_part}
 use Rattle.herm_model.specs.Typed.{greatest_rows, greatest_polymorph}
 use Rattle.herm_model.proofs.Options.{none-not_some, some-injective, chain-some, map-some}
@@ -25,7 +25,7 @@ use Rattle.herm_forms.specs.Exchanges
 use Rattle.herm_journal.specs.Messages.{CellReply, CellAction}
 use Rattle.herm_forms.specs.Exchanges.{Composed, compose, assemble, with_message, receive_at, place_of_port, ports_at}
 use Rattle.herm_forms.specs.Edges.{Code, arrive, keeps, keeps_loop, let_go_loops, leave_loops, beyond_full, beyond_declared}
-use Rattle.herm_forms.specs.Acts.{is_action, key_at, new_value, act, arguments_at, is_inout, is_out, inputs_of, composed, kept_at, left_at, given_back, given_at, given_by, settle, settle_reply, leads_to}
+use Rattle.herm_forms.specs.Acts.{key_at, new_value, act, arguments_at, is_inout, is_out, inputs_of, composed, kept_at, left_at, given_back, given_at, given_by, settle, settle_reply}
 
 module _ {N : Type 0} (name : Name → N) (n : ℕ) where
   abbrev pub Is : Body N → Type 0

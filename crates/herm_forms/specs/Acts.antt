@@ -1,24 +1,24 @@
 -- What a statement of each form does, wants and leaves, and where its outcomes lead.
-use Rattle.std.specs.Prelude.{ℕ, pred, List, [], ◌∷◌, map, filter, flat_map, find, Bool, true, false, cond, not, nat_lt, Option, Some, None, option_map, option_and_then, slice_get, length, ⊤}
+use Rattle.std.specs.Prelude.{ℕ, List, [], ◌∷◌, map, filter, flat_map, find, Bool, true, false, not, Option, Some, None, option_map, option_and_then, length, ⊤}
 use Rattle.herm_model.specs.Lists.{some_of}
 use Rattle.herm_model.specs.Paths.{Path, same_path}
-use Rattle.herm_model.specs.Types.{Shape, fields, rows, inport, Mode, by_in, by_inout, by_out, Parameter, type_at}
+use Rattle.herm_model.specs.Types.{Shape, fields, rows, Mode, by_in, by_inout, by_out, Parameter, type_at}
 use Rattle.herm_model.specs.Expressions.{Atom}
 use Rattle.herm_model.specs.Statements.{Form, Assign, Move, New, Discard, Unite, Dissolve, Reveal, Case, Wrap, Unwrap, Insert, Remove, Get, For, Connect, Send, Receive, Select, Call, Return, ReturnBy, Create, If, While, Raise, Leave}
 use Rattle.herm_model.specs.Calls.{shape_at, call_parameters, arguments_by}
 use Rattle.herm_model.specs.StatementTable.{set_by_call, kept_by_call, returned, returned_by}
 use Rattle.herm_model.specs.Outcomes.{Outcome, same_outcome}
-use Rattle.herm_model.specs.Nodes.{Target, node, end, end_by, Node, exits}
-use Rattle.herm_model.specs.Values.{a_record, a_table, Cell, Parts, no_parts, gaps, part}
+use Rattle.herm_model.specs.Nodes.{Target, Node, exits}
+use Rattle.herm_model.specs.Values.{a_record, a_table, Parts, no_parts, gaps, part}
 use Rattle.herm_forms.specs.Evaluate.{Evaluated, gives, raises, no_value, evaluate, atom_value, key_values}
 use Rattle.herm_journal.specs.Actions.{values, Want, to_hear, new_port, new_process}
 use Rattle.herm_journal.specs.Actions
-use Rattle.herm_forms.specs.Bodies.{Name, Body, Result, goes, stays, stuck, if_there, Taken, counted_step, counted_action}
+use Rattle.herm_forms.specs.Bodies.{Name, Body, Result, stuck, if_there, Taken}
 use Rattle.herm_forms.specs.Forms
 use Rattle.herm_forms.specs.Exchanges
 use Rattle.herm_journal.specs.Messages.{CellWant, CellAction, is_inport}
 use Rattle.herm_forms.specs.Exchanges.{Composed}
-use Rattle.herm_forms.specs.Edges.{Code, arrive, beyond_full, beyond_declared}
+use Rattle.herm_forms.specs.Edges.{Code, beyond_full, beyond_declared}
 
 -- A statement of these forms is an action, and of the others a local step. Language reference, "Actions".
 abbrev pub is_action : Code → Form → Bool

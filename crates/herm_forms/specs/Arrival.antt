@@ -1,18 +1,18 @@
 -- What is claimed of edges: behind an edge there is a value exactly where the facts of its target say so.
-use Rattle.std.specs.Prelude.{◌≡◌, ℕ, List, ◌∷◌, Bool, false, not, ◌&&◌, ◌||◌, Some, slice_get, IsTrue}
+use Rattle.std.specs.Prelude.{◌≡◌, ℕ, List, ◌∷◌, Bool, not, ◌&&◌, ◌||◌, Some, slice_get, IsTrue}
 use Rattle.herm_model.specs.Lists.{IsIn, some_of}
 use Rattle.herm_model.specs.Paths.{Path, Fact, path_of, same_fact, is_at_or_below}
 use Rattle.herm_model.specs.Types.{TypeTable, type_at, is_within_depth, greatest_depth}
 use Rattle.herm_model.specs.Facts.{IsClosed, full_facts}
 use Rattle.herm_model.specs.Expressions.{Expression}
 use Rattle.herm_model.specs.Statements.{Form, Send, Discard, If, While, Raise, Leave, Process, IsWellFormedBlock}
-use Rattle.herm_model.specs.Nodes.{Target, node, end, Node, entry_of, process_nodes}
+use Rattle.herm_model.specs.Nodes.{Target, node, end}
 use Rattle.herm_model.specs.Outcomes.{Outcome}
 use Rattle.herm_model.specs.StatementTable.{makes, kills}
 use Rattle.herm_model.specs.Control.{Point, Edge, flow_of, held_behind, IsReached}
 use Rattle.herm_model.specs.Refusals.{Labels, label_at, AreExact}
-use Rattle.herm_model.specs.Values.{Cell, Parts, HasExactly, kind_of, opens, has_place, put_at, clear_at}
-use Rattle.herm_model.specs.Typed.{HasType, HaveTypes, IsFull}
+use Rattle.herm_model.specs.Values.{Cell, Parts, HasExactly, has_place, put_at, clear_at}
+use Rattle.herm_model.specs.Typed.{HaveTypes, IsFull}
 use Rattle.herm_forms.specs.Bodies.{Name, Body, goes}
 use Rattle.herm_journal.specs.Actions.{put}
 use Rattle.herm_forms.specs.Exchanges.{send}

@@ -1,15 +1,8 @@
 -- A call at a statement: what it lends, and which replies it waits for.
-use Rattle.std.specs.Prelude.{ℕ, List, nat_eq, Option, Some, None, option_and_then, IsTrue, IsFalse, ◌≡◌, find, slice_get}
-use Rattle.herm_model.specs.Lists.{IsIn, list_of, some_of}
-use Rattle.herm_model.specs.Paths.{Path, Fact, path_of, is_at_or_below}
-use Rattle.herm_model.specs.Types.{type_at}
+use Rattle.std.specs.Prelude.{ℕ, List, Option, Some, None, option_and_then, slice_get}
+use Rattle.herm_model.specs.Paths.{Path}
 use Rattle.herm_model.specs.Expressions.{Atom}
-use Rattle.herm_model.specs.Statements.{Form, For, Call}
-use Rattle.herm_model.specs.Nodes.{Target, node, end, end_by, Node}
-use Rattle.herm_model.specs.Values.{Cell, cell, no_parts, gap, part, HasExactly}
-use Rattle.herm_model.specs.Typed.{HaveTypes, Fits, many}
-use Rattle.herm_model.specs.Finalising.{waits}
-use Rattle.herm_forms.specs.Bodies.{Loop}
+use Rattle.herm_model.specs.Statements.{Form, Call}
 use Rattle.herm_forms.specs.Edges.{Code}
 use Rattle.herm_forms.specs.Acts.{arguments_at, is_inout}
 use Rattle.herm_model.specs.Calls.{message_type, inport_at}

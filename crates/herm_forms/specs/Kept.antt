@@ -1,12 +1,9 @@
 -- What is claimed of the ledger for edges: they keep its equation.
-use Rattle.std.specs.Prelude.{ℕ, ◌+◌, Some, ◌≡◌}
+use Rattle.std.specs.Prelude.{ℕ, ◌+◌, ◌≡◌}
 use Rattle.herm_model.specs.Nodes.{Target}
-use Rattle.herm_model.specs.Values.{Cell}
 use Rattle.herm_forms.specs.Bodies.{Name, Body}
-use Rattle.herm_journal.specs.Messages.{CellWant, CellAction}
 use Rattle.herm_forms.specs.Edges.{Code, arrive}
-use Rattle.herm_journal.specs.Weights.{weigh, come_in}
-use Rattle.herm_forms.specs.Weights.{kept, made, gone_out}
+use Rattle.herm_forms.specs.Weights.{kept, made}
 
 -- Every edge keeps what a process holds and has finalised, and makes nothing. Language reference, "The ledger".
 abbrev pub EdgesKeep : Type 0

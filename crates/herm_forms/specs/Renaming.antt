@@ -1,10 +1,7 @@
 -- The same with other names: of a body.
-use Rattle.std.specs.Prelude.{map, ⊤}
+use Rattle.std.specs.Prelude.{map}
 use Rattle.herm_model.specs.Values.{rename, rename_in}
-use Rattle.herm_journal.specs.Actions.{new_port, new_process, to_put, to_take, to_close, to_answer, to_hear}
-use Rattle.herm_journal.specs.Entries.{map_reply, map_action}
-use Rattle.herm_forms.specs.Bodies.{Name, Loop, Body}
-use Rattle.herm_journal.specs.Messages.{CellReply, CellWant, CellAction}
+use Rattle.herm_forms.specs.Bodies.{Loop, Body}
 
 module _ {N M : Type 0} (f : N → M) where
   abbrev pub rename_loop : Loop N → Loop M

@@ -1,10 +1,9 @@
 -- The weight of what a process holds, has finalised and has made, by a weight for every name.
-use Rattle.std.specs.Prelude.{ℕ, ◌+◌, List, nat_eq, ◌&&◌, cond, Some, None}
-use Rattle.herm_model.specs.Lists.{total, range}
-use Rattle.herm_model.specs.Values.{Cell, cell, Parts, no_parts, gap, part}
-use Rattle.herm_journal.specs.Actions.{values, raised, gone, new_process, to_put, to_answer, make_process, put, take, close, hear}
+use Rattle.std.specs.Prelude.{ℕ, ◌+◌, List, Some}
+use Rattle.herm_model.specs.Lists.{total}
+use Rattle.herm_journal.specs.Actions.{new_process, to_put, to_answer, make_process}
 use Rattle.herm_forms.specs.Bodies.{Name, Loop, Body}
-use Rattle.herm_journal.specs.Messages.{CellReply, CellWant, CellAction}
+use Rattle.herm_journal.specs.Messages.{CellWant, CellAction}
 use Rattle.herm_forms.specs.Exchanges.{born}
 use Rattle.herm_journal.specs.Weights.{weigh, weigh_serials, weigh_in, weigh_all, weigh_reply}
 

@@ -1,17 +1,15 @@
 -- Each process is what its diary says, where what comes in suits it.
-use Rattle.std.proofs.Common.{◌≡◌, ℕ, zero, suc, List, [], ◌∷◌, ◌++◌, map, Bool, true, false, cond, ◌&&◌, ◌⊎◌, inl, inr, Option, Some, None, option_map, option_and_then, slice_get, slice_set, length, refl, sym, ap, ap₂, subst, ◌∙◌, arith, true≢false}
+use Rattle.std.proofs.Common.{◌≡◌, ℕ, zero, suc, List, [], ◌∷◌, ◌++◌, map, Bool, true, false, cond, ◌⊎◌, inl, inr, Option, Some, None, option_map, option_and_then, refl, sym, ap, ap₂, subst, ◌∙◌}
 use Rattle.std.proofs.lemmas.Bool.{eqb-true}
-use Rattle.std.proofs.Math.Bool.{or-false}
-use Rattle.std.specs.Prelude.{nat_eq, nat_lt, IsFalse, ⊤}
+use Rattle.std.specs.Prelude.{nat_eq, IsFalse, ⊤}
 use Rattle.herm_model.specs.Lists.{IsIn, some_of, list_of}
 use Rattle.herm_model.specs.Values.{Cell, rename, Name}
 use Rattle.herm_model.specs.Texts.{text_of}
-use Rattle.herm_model.specs.Nodes.{Node}
 use Rattle.herm_model.proofs.Lists.{length-map}
 use Rattle.herm_model.proofs.Renaming.{text_of-rename}
 use Rattle.herm_model.proofs.Options.{some-injective, none-not_some, chain-some, map-some}
 use Rattle.herm_journal.specs.Places.{Limits, Book, after, first_of, Holding, a_port, replies, a_book, left_in}
-use Rattle.herm_journal.specs.Entries.{Text, Place, port, reply_cell, book, same_place, Entry, map_reply, texts_of, more_texts_of, recorded}
+use Rattle.herm_journal.specs.Entries.{Text, Place, same_place, Entry, map_reply, texts_of, more_texts_of, recorded}
 use Rattle.herm_journal.specs.Journals.{part_of_process, entry_behind}
 use Rattle.herm_journal.specs.Messages.{CellReply, CellWant, CellAction}
 use Rattle.herm_journal.specs.Renaming.{rename_reply, rename_action, rename_want, forget_name}
@@ -23,7 +21,7 @@ use Rattle.herm_journal.specs.Actions.{values, raised, gone, Want, new_port, new
 use Rattle.herm_journal.specs.Messages.{IsMessage, IsReplyTo}
 use Rattle.herm_model.specs.Values.{cell, an_inport, no_parts}
 use Rattle.herm_system.specs.Machines.{Machine, is_local, is_acting, inport_of}
-use Rattle.herm_system.specs.Systems.{System, Moved, Event, steps, acts, Run, run, run_on, step, start, opening, main_port, with_entry, with_made, set_process, set_holding, holding_at, local_event, act_at, action_event, behind_action, can, can_be_done, standing, stands, numbered_from_one, set_from_one, places_for, done_at, number_of}
+use Rattle.herm_system.specs.Systems.{System, Moved, Event, steps, acts, Run, run, run_on, step, start, opening, main_port, with_entry, with_made, set_process, set_holding, holding_at, local_event, act_at, action_event, behind_action, can, can_be_done, standing, stands, numbered_from_one, places_for, done_at, number_of}
 use Rattle.herm_system.specs.Along.{Suits, has_local_step, local_steps, Answers, IsToldBy, IsBehind, IsAfter, after_steps, after_entry}
 use Rattle.herm_runs.specs.OneProcess.{KeepsNumbers, ForgetsNames}
 use Rattle.herm_runs.specs.DiaryLaws.{EventSuits, SuitsAlong, IsBorn, IsToldByDiary, DiariesTell}

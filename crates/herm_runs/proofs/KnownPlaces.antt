@@ -12,8 +12,8 @@ use Rattle.herm_runs.proofs.SystemLedger.{cond-some, process-some, processes-sta
 use Rattle.herm_runs.proofs.Histories.{held-with_process}
 use Rattle.herm_runs.proofs.RoundsEnd.{made-book}
 use Rattle.herm_runs.proofs.Numbered.{BookMoves, book-moves, set-found, more-found, set-found_from_one, more-found_from_one}
-use Rattle.herm_journal.specs.Kinds.{HasKinds, AllKinds, ReplyKinds, AllPorts, WantKinds, IfWant, ActionKinds}
-use Rattle.herm_journal.proofs.MoreKinds.{more-kinds, more-kinds_in, more-kinds_all}
+use Rattle.herm_journal.specs.Kinds.{HasKinds, AllKinds, ReplyKinds, AllPorts, WantKinds, ActionKinds}
+use Rattle.herm_journal.proofs.MoreKinds.{more-kinds, more-kinds_all}
 use Rattle.herm_system.specs.Machines.{Held, Machine, inport_of}
 use Rattle.herm_runs.specs.OneProcess.{IsKnown, HeldKinds, Knows, KnowsPlaces}
 use Rattle.herm_runs.proofs.DiariesTold.{done-fulfils}

@@ -1,5 +1,4 @@
 -- Along every journal each cell is at one place.
-use Rattle.std.proofs.Common.{◌≡◌}
 use Rattle.herm_model.specs.Values.{Name}
 use Rattle.herm_system.specs.Machines.{Machine}
 use Rattle.herm_runs.specs.OneProcess.{KeepsNumbers, KeepsLedger}

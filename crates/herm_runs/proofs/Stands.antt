@@ -12,7 +12,7 @@ use Rattle.herm_journal.specs.Messages.{CellReply, CellAction}
 use Rattle.herm_system.specs.Machines.{Machine, Standing, ended, out_of_steps, out_of_actions, waiting, local, acting, is_local, is_acting, inport_of}
 use Rattle.herm_system.specs.Systems.{System, can, seen_as, standing, stands, set_process, set_holding, holding_at, with_made, numbered_from_one, set_from_one}
 use Rattle.herm_runs.proofs.SystemLedger.{processes-stay}
-use Rattle.herm_runs.proofs.RoundsEnd.{get-past, made-book, other-within}
+use Rattle.herm_runs.proofs.RoundsEnd.{get-past, other-within}
 use Rattle.herm_runs.proofs.Numbered.{more-found_from_one}
 
 pub cond-both : {X : Type 0} (b : Bool) (o : Option X) (y : X) → cond b o None ≡ Some y → (b ≡ true) × (o ≡ Some y)

@@ -1,14 +1,14 @@
 -- What is so of a process as it begins and stays so is so of every process in every state of a run.
-use Rattle.std.proofs.Common.{◌≡◌, ◌⊎◌, inl, inr, ℕ, zero, suc, List, [], ◌∷◌, ◌++◌, Option, Some, None, length, refl, sym, ap, subst}
+use Rattle.std.proofs.Common.{◌≡◌, ◌⊎◌, inl, inr, ℕ, zero, suc, List, [], ◌∷◌, ◌++◌, Option, Some, None, refl, sym, subst}
 use Rattle.herm_model.specs.Lists.{list_of}
 use Rattle.herm_model.specs.Values.{Name}
 use Rattle.herm_model.proofs.Options.{some-injective, none-not_some, chain-some, map-some}
 use Rattle.herm_journal.specs.Actions.{make_port, make_process}
 use Rattle.herm_journal.specs.Places.{Limits, after}
-use Rattle.herm_journal.specs.Entries.{Text, Place}
+use Rattle.herm_journal.specs.Entries.{Text}
 use Rattle.herm_journal.specs.Messages.{CellAction}
 use Rattle.herm_system.specs.Machines.{Machine, inport_of}
-use Rattle.herm_system.specs.Systems.{System, Moved, Event, steps, acts, Run, run, run_on, step, start, opening, main_port, done_at, holding_at, set_holding, numbered_from_one, set_from_one, with_made, set_process, local_event, act_at, action_event, behind_action, number_of}
+use Rattle.herm_system.specs.Systems.{System, Moved, Event, steps, acts, Run, run, run_on, step, start, opening, main_port, done_at, holding_at, set_holding, numbered_from_one, set_from_one, with_made, set_process, act_at, behind_action, number_of}
 use Rattle.herm_system.specs.Reports.{IsSoOfAll}
 use Rattle.herm_runs.specs.Throughout.{StaysSo}
 use Rattle.herm_runs.proofs.SystemLedger.{cond-some, process-some, processes-stay}

@@ -3,13 +3,13 @@ use Rattle.std.proofs.Common.{◌≡◌, List, [], ◌∷◌, ◌++◌, Option, 
 use Rattle.std.specs.Prelude.{⊤}
 use Rattle.herm_model.specs.Lists.{some_of}
 use Rattle.herm_model.specs.Values.{Name}
-use Rattle.herm_model.proofs.Options.{some-injective, none-not_some, chain-some, map-some}
+use Rattle.herm_model.proofs.Options.{some-injective, chain-some, map-some}
 use Rattle.herm_journal.specs.Places.{after}
 use Rattle.herm_journal.specs.Entries.{Place, same_place, Entry, recorded}
 use Rattle.herm_journal.specs.Journals.{entry_behind}
 use Rattle.herm_journal.specs.Messages.{CellAction}
 use Rattle.herm_system.specs.Machines.{Machine, is_acting}
-use Rattle.herm_system.specs.Systems.{System, Moved, Event, steps, acts, Run, run, run_on, step, start, opening, with_entry, stands, with_made, set_process, set_holding, holding_at, places_for, done_at, number_of, numbered_from_one, act_at, behind_action}
+use Rattle.herm_system.specs.Systems.{System, Moved, Event, steps, acts, Run, run, run_on, step, start, opening, with_entry, stands, with_made, set_process, set_holding, holding_at, places_for, done_at, number_of, act_at, behind_action}
 use Rattle.herm_system.specs.Reports.{IsAlong}
 use Rattle.herm_system.specs.Sound.{IsSoundFor}
 use Rattle.herm_runs.specs.OneProcess.{KeepsNumbers, ForgetsNames}

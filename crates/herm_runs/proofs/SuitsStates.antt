@@ -1,5 +1,5 @@
 -- In a sound state what comes in with an event suits its process.
-use Rattle.std.proofs.Common.{◌≡◌, ◌⊎◌, inl, inr, ℕ, zero, suc, ◌+◌, List, [], ◌∷◌, ◌++◌, map, filter, flat_map, length, Bool, true, false, cond, Option, Some, None, option_and_then, refl, sym, ap, ◌∙◌, subst, arith}
+use Rattle.std.proofs.Common.{◌≡◌, ◌⊎◌, inl, inr, ℕ, zero, suc, ◌+◌, List, [], ◌∷◌, map, filter, flat_map, length, Bool, true, false, cond, Option, Some, None, option_and_then, refl, sym, ap, ◌∙◌, subst, arith}
 use Rattle.std.proofs.lemmas.Bool.{eqb-true}
 use Rattle.std.proofs.Math.Bool.{or-false}
 use Rattle.std.specs.Prelude.{nat_eq, slice_get}
@@ -13,7 +13,7 @@ use Rattle.herm_journal.specs.Actions.{new_port, new_process, to_put, to_take, t
 use Rattle.herm_journal.specs.Places.{Port, first_of, Replies, Holding, a_port, replies, a_book}
 use Rattle.herm_journal.specs.Entries.{Place, port, reply_cell, book, same_place}
 use Rattle.herm_journal.proofs.Rising.{same-true}
-use Rattle.herm_journal.specs.Messages.{CellReply, CellWant, CellAction, IsMessage}
+use Rattle.herm_journal.specs.Messages.{CellReply, CellWant, CellAction}
 use Rattle.herm_system.specs.Systems.{System, numbered_from_one, holding_at, places_for, done_at, number_of}
 use Rattle.herm_system.specs.Statuses.{how_many}
 use Rattle.herm_system.specs.Machines.{OpenCall, Machine}

@@ -1,5 +1,5 @@
 -- Each event of the system keeps the ledger.
-use Rattle.std.proofs.Common.{◌≡◌, ℕ, zero, suc, ◌+◌, List, [], ◌∷◌, ◌++◌, Bool, true, false, cond, Option, Some, None, option_map, option_and_then, slice_get, slice_set, refl, sym, ap, subst, ◌∙◌, arith, map}
+use Rattle.std.proofs.Common.{◌≡◌, ℕ, zero, suc, ◌+◌, List, [], ◌∷◌, ◌++◌, Bool, true, false, cond, Option, Some, None, option_map, option_and_then, slice_get, slice_set, refl, sym, ap, subst, arith, map}
 use Rattle.herm_model.specs.Lists.{list_of, total}
 use Rattle.herm_model.proofs.Lists.{total-append}
 use Rattle.herm_model.proofs.Renaming.{map-append}

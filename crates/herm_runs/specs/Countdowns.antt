@@ -1,17 +1,16 @@
 -- Two tiny machines that do the same: a process that counts down, sends each number to the console and closes its port. The
 -- first counts what is left; the second counts what it has made.
-use Rattle.std.specs.Prelude.{ℕ, zero, suc, ◌-◌, List, [], ◌∷◌, ◌++◌, flat_map, Bool, cond, nat_lt, Option, Some, None, option_map, codes, ⊤, ◌≡◌}
+use Rattle.std.specs.Prelude.{ℕ, zero, suc, ◌-◌, List, [], ◌∷◌, ◌++◌, flat_map, cond, nat_lt, Option, Some, None, option_map, ⊤, ◌≡◌}
 use Rattle.herm_model.specs.Lists.{list_of}
 use Rattle.herm_model.specs.Types.{predefined}
 use Rattle.herm_model.specs.Values.{Name, a_scalar, a_text, an_inport, Cell, cell, no_parts}
 use Rattle.herm_model.specs.Finalising.{finalised}
 use Rattle.herm_model.specs.Texts.{numeral}
 use Rattle.herm_journal.specs.Actions.{to_put, to_close, put, close}
-use Rattle.herm_journal.specs.Places.{Limits}
 use Rattle.herm_journal.specs.Entries.{Text}
 use Rattle.herm_journal.specs.Messages.{CellWant, CellAction}
 use Rattle.herm_system.specs.Machines.{Held, Standing, ended, out_of_steps, local, to_act, greatest_actions, Machine}
-use Rattle.herm_system.specs.Systems.{Run, start}
+use Rattle.herm_system.specs.Systems.{start}
 use Rattle.herm_system.specs.Rounds.{rounds}
 use Rattle.herm_system.specs.Statuses.{Asked, text_of_run}
 

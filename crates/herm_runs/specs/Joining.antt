@@ -1,6 +1,6 @@
 -- Two machines that do the same, where their states correspond.
-use Rattle.std.specs.Prelude.{ℕ, List, [], ◌∷◌, Bool, true, Option, Some, None, ◌≡◌, ◌↔◌, ⊤}
-use Rattle.herm_model.specs.Values.{Name, Cell, cell, an_inport, no_parts}
+use Rattle.std.specs.Prelude.{ℕ, List, [], ◌∷◌, true, Option, Some, None, ◌≡◌, ◌↔◌, ⊤}
+use Rattle.herm_model.specs.Values.{Name, cell, an_inport, no_parts}
 use Rattle.herm_journal.specs.Places.{Limits}
 use Rattle.herm_journal.specs.Entries.{Text, Place, Entry}
 use Rattle.herm_journal.specs.Messages.{CellAction}

@@ -1,8 +1,6 @@
 -- Laws of one process that a machine is to meet, so that the laws of runs hold of it.
-use Rattle.std.specs.Prelude.{ℕ, ◌+◌, ◌≤◌, List, [], ◌∷◌, Bool, true, Option, Some, option_map, ⊤, IsTrue, ◌≡◌}
-use Rattle.herm_model.specs.Lists.{IsIn}
+use Rattle.std.specs.Prelude.{ℕ, ◌+◌, ◌≤◌, List, [], ◌∷◌, Some, option_map, ⊤, ◌≡◌}
 use Rattle.herm_model.specs.Values.{Name, Kind, a_callmessage, an_inport, an_outport, Cell, forget}
-use Rattle.herm_journal.specs.Actions.{to_take}
 use Rattle.herm_journal.specs.Places.{Book}
 use Rattle.herm_journal.specs.Messages.{CellWant, CellAction}
 use Rattle.herm_journal.specs.Weights.{weigh, come_in}
@@ -10,7 +8,6 @@ use Rattle.herm_journal.specs.Kinds.{HasKinds, WantKinds, ActionKinds}
 use Rattle.herm_journal.specs.Renaming.{rename_want, rename_action, forget_name}
 use Rattle.herm_system.specs.Machines.{Held, Machine}
 use Rattle.herm_system.specs.Ledger.{made_by, held_by, finalised_by, goes_out}
-use Rattle.herm_system.specs.Kinds.{typed_held}
 use Rattle.herm_system.specs.Along.{Answers}
 
 -- A process begins with the number and the module that it is given, and keeps them.

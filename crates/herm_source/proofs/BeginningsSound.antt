@@ -3,25 +3,17 @@ use Rattle.std.proofs.Common.{◌≡◌, ℕ, zero, suc, List, [], ◌∷◌, le
 use Rattle.std.specs.Prelude.{pred, slice_get, IsTrue, is_some}
 use mathlib.Core.Bool.{false≢true}
 use Rattle.herm_model.specs.Paths.{Path, Fact, init, same_path}
-use Rattle.herm_model.specs.Types.{TypeTable}
-use Rattle.herm_model.specs.Facts.{IsClosed}
-use Rattle.herm_model.specs.Statements.{Process}
 use Rattle.herm_model.specs.Nodes.{Target, node, end, end_by, entry_of}
-use Rattle.herm_model.specs.Control.{flow_of, held_behind, held_at_start, IsReached, Leads}
-use Rattle.herm_model.specs.Refusals.{Labels, label_at, AreExact}
-use Rattle.herm_model.specs.FlowLaws.{goes_on}
+use Rattle.herm_model.specs.Control.{flow_of, held_at_start, IsReached, Leads}
+use Rattle.herm_model.specs.Refusals.{label_at}
 use Rattle.herm_model.specs.Values.{Cell, cell, Parts, no_parts, gaps, part, inside, has_value, kind_of, opens, HasExactly}
 use Rattle.herm_model.specs.Typed.{HaveTypes}
-use Rattle.herm_model.proofs.DifferentOutcomes.{process-EdgesDiffer}
-use Rattle.herm_model.proofs.Reached.{reached-IsLedTo, reached-led}
 use Rattle.herm_model.proofs.NothingThere.{nothing-there, nothing-in_gaps}
 use Rattle.herm_model.proofs.Typing.{gaps-typed}
 use Rattle.herm_forms.specs.Bodies.{Name}
 use Rattle.herm_forms.specs.Edges.{code_of}
-use Rattle.herm_forms.specs.Arrival.{EdgesArrive}
 use Rattle.herm_source.specs.Arriving.{BeginningsAreSound}
 use Rattle.herm_forms.proofs.Arrived.{edges-exact}
-use Rattle.herm_forms.proofs.HeldLabels.{exact-flows, exact-closed}
 use Rattle.herm_forms.proofs.Arrivals.{closed-at}
 
 -- the values of a process that begins

@@ -1,38 +1,26 @@
 -- Beginnings, local steps and answers keep the ledger's equation.
-use Rattle.std.proofs.Common.{◌≡◌, ℕ, suc, ◌+◌, List, [], ◌∷◌, Bool, true, false, cond, Option, Some, None, refl, ap, sym, ◌∙◌, arith, length}
-use Rattle.std.specs.Prelude.{pred, filter, flat_map, map, option_map, option_and_then, ⊤}
+use Rattle.std.proofs.Common.{◌≡◌, ℕ, suc, ◌+◌, List, [], ◌∷◌, Bool, true, false, cond, Option, Some, None, refl, ap, sym, arith, length}
+use Rattle.std.specs.Prelude.{pred, option_map, option_and_then}
 use mathlib.Core.Bool.{false≢true}
-use Rattle.herm_model.specs.Paths.{Path}
-use Rattle.herm_model.specs.Types.{type_at, Parameter}
-use Rattle.herm_model.specs.Expressions.{Atom}
-use Rattle.herm_model.specs.Statements.{Form, Assign, Move, New, Discard, Unite, Dissolve, Reveal, Case, Wrap, Unwrap, Insert, Remove, Get, For, Connect, Send, Receive, Select, Call, Return, ReturnBy, Create, If, While, Raise, Leave, Arm}
-use Rattle.herm_model.specs.Calls.{shape_at, call_parameters}
-use Rattle.herm_model.specs.StatementTable.{set_by_call}
 use Rattle.herm_model.specs.Nodes.{Target, Node}
-use Rattle.herm_model.specs.Finalising.{excess}
-use Rattle.herm_model.specs.Values.{a_callmessage, an_inport, Cell, cell, Parts, gaps, part, has_value, cell_at}
-use Rattle.herm_model.proofs.Options.{some-injective, none-not_some, chain-some, map-some}
-use Rattle.herm_forms.specs.Evaluate.{evaluate, key_values}
-use Rattle.herm_journal.specs.Actions.{values, raised, to_put, to_take, to_answer}
-use Rattle.herm_forms.specs.Bodies.{Name, Loop, Body, Result, goes, stays, stuck, let_go_parts, drop, Taken, take_all, counted_step, counted_action}
-use Rattle.herm_forms.specs.Forms
+use Rattle.herm_model.specs.Values.{a_callmessage, an_inport, Cell, cell, gaps, part}
+use Rattle.herm_model.proofs.Options.{some-injective, none-not_some}
+use Rattle.herm_forms.specs.Bodies.{Name, Body, Result, goes, stays, stuck, counted_step, counted_action}
 use Rattle.herm_forms.specs.Exchanges
-use Rattle.herm_journal.specs.Messages.{CellReply, CellWant, CellAction}
+use Rattle.herm_journal.specs.Messages.{CellWant, CellAction}
 use Rattle.herm_forms.specs.Exchanges.{Composed, compose}
-use Rattle.herm_forms.specs.Edges.{Code, arrive, keeps, keeps_loop, let_go_loops, leave_loops, beyond_full, beyond_declared}
+use Rattle.herm_forms.specs.Edges.{Code, arrive}
 use Rattle.herm_source.specs.States.{State, Next, an_item, a_reply, a_statement, nothing, node_at, call_or_statement, item_or, next_of, behind, wanted_next, step_next, settle_next}
-use Rattle.herm_forms.specs.Acts.{is_action, key_at, act, arguments_at, is_inout, is_out, inputs_of, composed, kept_at, left_at, given_back, given_at, given_by, wants, settle, settle_reply, leads_to}
-use Rattle.herm_journal.specs.Weights.{weigh, weigh_in, weigh_all, weigh_reply, come_in}
-use Rattle.herm_forms.specs.Weights.{weigh_loops, kept, made, gone_out}
-use Rattle.herm_forms.specs.Kept.{EdgesKeep}
+use Rattle.herm_forms.specs.Acts.{is_action, act, wants, settle, settle_reply, leads_to}
+use Rattle.herm_journal.specs.Weights.{weigh, weigh_all, come_in}
+use Rattle.herm_forms.specs.Weights.{kept, made, gone_out}
 use Rattle.herm_source.specs.Kept.{BeginningsKeep, LocalStepsKeep, AnswersKeep}
 use Rattle.herm_forms.proofs.Weights.{weigh-gaps}
-use Rattle.herm_forms.proofs.Balance.{Balanced, AllBalanced, balanced-let_go_parts, balanced-drop, balanced-if_there, balanced-take_all}
-use Rattle.herm_forms.proofs.KeptLocal.{balanced-with_value, kept-assign, kept-move, kept-new_value, kept-discard, kept-unite, kept-dissolve, kept-reveal, kept-choose, kept-wrap, kept-unwrap, kept-insert, kept-remove, kept-get, kept-visit, kept-connect, kept-tested}
-use Rattle.herm_forms.proofs.KeptActions.{kept-new_inport, kept-send, kept-receive, kept-select, kept-work_done, kept-hear_call, kept-create, balanced-compose, kept-call, kept-return}
-use Rattle.herm_forms.proofs.Counting.{recount, recount_taken, recount_composed, recount-drop, recount-take_all, recount-compose}
+use Rattle.herm_forms.proofs.Balance.{Balanced, AllBalanced}
+use Rattle.herm_forms.proofs.KeptActions.{kept-work_done}
+use Rattle.herm_forms.proofs.Counting.{recount}
 use Rattle.herm_forms.proofs.KeptForms.{balanced-arrive, kept-act, kept-settle, settle-reply}
-use Rattle.herm_model.specs.TableExamples.{m, k}
+use Rattle.herm_model.specs.TableExamples.{k}
 
 module _ {N : Type 0} (w : N → ℕ) (name : Name → N) (m k : ℕ) where
   -- the state behind a result

@@ -1,32 +1,16 @@
 -- A process keeps its number and its module along local steps and answers.
-use Rattle.std.proofs.Common.{◌≡◌, ℕ, suc, ◌+◌, List, [], ◌∷◌, Bool, true, false, cond, Option, Some, None, option_map, option_and_then, refl, sym, ap, ◌∙◌}
-use Rattle.std.specs.Prelude.{pred, length, ⊤, nat_eq, nat_lt, filter, flat_map, map}
-use Rattle.herm_model.specs.Paths.{Path}
-use Rattle.herm_model.specs.Types.{Mode, Shape, fields, rows, type_at}
-use Rattle.herm_model.specs.Outcomes.{Outcome, ok, arm, turn, raised, depletion, disconnected, duplicate_key, polymorph_mismatch}
-use Rattle.herm_model.specs.Statements.{Form, Assign, Move, New, Discard, Unite, Dissolve, Reveal, Case, Wrap, Unwrap, Insert, Remove, Get, For, Connect, Send, Receive, Select, Call, Return, ReturnBy, Create, If, While, Raise, Leave}
-use Rattle.herm_model.specs.Expressions.{Atom}
-use Rattle.herm_model.specs.Calls.{shape_at, call_parameters}
-use Rattle.herm_model.specs.StatementTable.{set_by_call}
+use Rattle.std.proofs.Common.{◌≡◌, ℕ, [], Bool, true, false, cond, Option, Some, None, option_map, option_and_then, refl, sym, ap, ◌∙◌}
+use Rattle.std.specs.Prelude.{pred, length}
 use Rattle.herm_model.specs.Nodes.{Target, Node}
-use Rattle.herm_model.specs.Finalising.{excess}
-use Rattle.herm_model.specs.Values.{gaps, has_place, Scalar, a_boolean, Kind, a_scalar, a_variant, a_polymorph, an_outport, an_inport, Cell, cell, Parts, no_parts, gap, part, part_at, parts_of, size, has_value, cell_at, read_at, put_at, copy_from, copy_in, count, count_in, polymorph_depth, Value}
-use Rattle.herm_model.specs.Tables.{has_key, key_of, place_of_key, without_part}
-use Rattle.herm_model.specs.Typed.{greatest_rows, greatest_polymorph}
-use Rattle.herm_model.proofs.Options.{none-not_some, some-injective, chain-some, map-some}
-use Rattle.herm_forms.specs.Evaluate.{Evaluated, gives, raises, no_value, evaluate, key_values}
-use Rattle.herm_journal.specs.Actions.{values, gone, make_port, make_process, put, take, close, answer, hear}
-use Rattle.herm_journal.specs.Actions
-use Rattle.herm_forms.specs.Bodies.{Name, Loop, Body, Result, goes, stays, stuck, if_there, let_go, let_go_parts, let_go_old, let_go_all, end_name, end_cell, cleared, drop_at, drop, reading, taking, putting, putting_all, Taken, with_taken, take_all, making, copying, copying_parts, counted_step, counted_action}
-use Rattle.herm_forms.specs.Bodies
-use Rattle.herm_forms.specs.Forms
-use Rattle.herm_forms.specs.Forms.{with_value, moving, moving_content, Opened, component_in, content_of, component_of, change_rows, add_row, finding, rows_for, set_rows, next_row, inport_number, tested}
+use Rattle.herm_model.specs.Values.{gaps, Cell, part}
+use Rattle.herm_model.proofs.Options.{none-not_some, some-injective, map-some}
+use Rattle.herm_forms.specs.Bodies.{Name, Body, Result, goes, stays, stuck, counted_step, counted_action}
 use Rattle.herm_forms.specs.Exchanges
-use Rattle.herm_journal.specs.Messages.{CellReply, CellAction}
+use Rattle.herm_journal.specs.Messages.{CellAction}
 use Rattle.herm_forms.specs.Exchanges.{Composed, compose, assemble, with_message, receive_at, place_of_port, ports_at}
-use Rattle.herm_forms.specs.Edges.{Code, arrive, keeps, keeps_loop, let_go_loops, leave_loops, beyond_full, beyond_declared}
+use Rattle.herm_forms.specs.Edges.{Code, arrive}
 use Rattle.herm_source.specs.States.{State, Next, an_item, a_reply, a_statement, nothing, next_of, behind, step_next, settle_next, begin, local_step, answered}
-use Rattle.herm_forms.specs.Acts.{is_action, key_at, new_value, act, arguments_at, is_inout, is_out, inputs_of, composed, kept_at, left_at, given_back, given_at, given_by, settle, settle_reply, leads_to}
+use Rattle.herm_forms.specs.Acts.{is_action, act, settle, settle_reply, leads_to}
 use Rattle.herm_forms.proofs.KeptNumbers.{Is, All, went, stayed, never, is-arrive, all-act, all-work, all-settle, all-settle_reply}
 
 module _ {N : Type 0} (name : Name → N) (n : ℕ) where

@@ -1,24 +1,16 @@
 -- What is claimed of beginnings and of outcomes: the values of the state that they lead to are sound.
-use Rattle.std.specs.Prelude.{◌≡◌, ℕ, List, ◌∷◌, Bool, false, not, ◌&&◌, ◌||◌, Some, slice_get, IsTrue}
-use Rattle.herm_model.specs.Lists.{IsIn, some_of}
-use Rattle.herm_model.specs.Paths.{Path, Fact, path_of, same_fact, is_at_or_below}
-use Rattle.herm_model.specs.Types.{TypeTable, type_at, is_within_depth, greatest_depth}
-use Rattle.herm_model.specs.Facts.{IsClosed, full_facts}
-use Rattle.herm_model.specs.Expressions.{Expression}
-use Rattle.herm_model.specs.Statements.{Form, Send, Discard, If, While, Raise, Leave, Process, IsWellFormedBlock}
-use Rattle.herm_model.specs.Nodes.{Target, node, end, Node, entry_of, process_nodes}
+use Rattle.std.specs.Prelude.{◌≡◌, ℕ, List, ◌∷◌, false, Some, slice_get}
+use Rattle.herm_model.specs.Types.{TypeTable}
+use Rattle.herm_model.specs.Statements.{Process, IsWellFormedBlock}
+use Rattle.herm_model.specs.Nodes.{node, Node, entry_of, process_nodes}
 use Rattle.herm_model.specs.Outcomes.{Outcome}
-use Rattle.herm_model.specs.StatementTable.{makes, kills}
-use Rattle.herm_model.specs.Control.{Point, Edge, flow_of, held_behind, IsReached}
+use Rattle.herm_model.specs.Control.{flow_of, IsReached}
 use Rattle.herm_model.specs.Refusals.{Labels, label_at, AreExact}
-use Rattle.herm_model.specs.Values.{Cell, Parts, HasExactly, kind_of, opens, has_place, put_at, clear_at}
-use Rattle.herm_model.specs.Typed.{HasType, HaveTypes, IsFull}
+use Rattle.herm_model.specs.Values.{Cell, kind_of, opens}
+use Rattle.herm_model.specs.Typed.{HasType}
 use Rattle.herm_forms.specs.Bodies.{Name, Body, goes}
-use Rattle.herm_journal.specs.Actions.{put}
-use Rattle.herm_forms.specs.Exchanges.{send}
-use Rattle.herm_forms.specs.Edges.{Code, code_of, arrive, beyond_declared}
+use Rattle.herm_forms.specs.Edges.{code_of}
 use Rattle.herm_source.specs.States.{State, begin, behind}
-use Rattle.herm_forms.specs.Acts.{act}
 use Rattle.herm_forms.specs.Arrival.{AreDeep, AreSound, held_after}
 
 -- Of such a process the values are sound as it begins, where its port has the type of variable 0.

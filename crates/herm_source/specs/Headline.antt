@@ -1,5 +1,5 @@
 -- What is claimed of a run of accepted modules.
-use Rattle.std.specs.Prelude.{ℕ, Bool, List, [], ◌∷◌, ◌++◌, Some, None, slice_get, ◌≡◌, ⊤, IsTrue}
+use Rattle.std.specs.Prelude.{ℕ, Bool, List, [], ◌∷◌, Some, None, ◌≡◌, ⊤, IsTrue}
 use Rattle.herm_model.specs.Lists.{IsIn}
 use Rattle.herm_model.specs.Paths.{Fact}
 use Rattle.herm_model.specs.Statements.{Process}
@@ -9,16 +9,14 @@ use Rattle.herm_model.specs.Control.{flow_of}
 use Rattle.herm_model.specs.Refusals.{AreExact, IsAccepted}
 use Rattle.herm_model.specs.Values.{tells}
 use Rattle.herm_journal.specs.Places.{Limits}
-use Rattle.herm_journal.specs.Entries.{Text, Entry}
-use Rattle.herm_journal.specs.Journals.{IsRising, IsStamped}
+use Rattle.herm_journal.specs.Entries.{Text}
 use Rattle.herm_forms.specs.Bodies.{Name}
 use Rattle.herm_forms.specs.Edges.{Code, code_of}
 use Rattle.herm_source.specs.States.{State, node_at}
 use Rattle.herm_source.specs.Modules.{Program, Modules}
-use Rattle.herm_system.specs.Systems.{System, opening, Event, run, numbered_from_one, IsFinal}
-use Rattle.herm_system.specs.Ledger.{HasLedger, IsMadeOnce}
-use Rattle.herm_system.specs.Statuses.{Fate, fates, status_of, queues, Counts, counts, Asked, text_of_run}
-use Rattle.herm_source.specs.Instance.{IsSound, code_at, source, IsSoundIn}
+use Rattle.herm_system.specs.Systems.{System}
+use Rattle.herm_system.specs.Statuses.{Asked}
+use Rattle.herm_source.specs.Instance.{code_at, source, IsSoundIn}
 use Rattle.herm_system.specs.Reports.{IsSoOfAll, Report, DescribesRun}
 
 -- a code is a process's, whose typestate is accepted, with the labels that hold in it

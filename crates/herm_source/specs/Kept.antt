@@ -1,10 +1,9 @@
 -- What is claimed of the ledger for one process: edges, beginnings, local steps and answers keep its equation.
 use Rattle.std.specs.Prelude.{ℕ, ◌+◌, Some, ◌≡◌}
-use Rattle.herm_model.specs.Nodes.{Target}
 use Rattle.herm_model.specs.Values.{Cell}
-use Rattle.herm_forms.specs.Bodies.{Name, Body}
+use Rattle.herm_forms.specs.Bodies.{Name}
 use Rattle.herm_journal.specs.Messages.{CellWant, CellAction}
-use Rattle.herm_forms.specs.Edges.{Code, arrive}
+use Rattle.herm_forms.specs.Edges.{Code}
 use Rattle.herm_source.specs.States.{State, begin, wanted, local_step, answered}
 use Rattle.herm_journal.specs.Weights.{weigh, come_in}
 use Rattle.herm_forms.specs.Weights.{kept, made, gone_out}

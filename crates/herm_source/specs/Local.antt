@@ -3,8 +3,7 @@ use Rattle.std.specs.Prelude.{ℕ, List, nat_eq, Option, Some, None, option_and_
 use Rattle.herm_model.specs.Lists.{IsIn, list_of, some_of}
 use Rattle.herm_model.specs.Paths.{Path, Fact, path_of, is_at_or_below}
 use Rattle.herm_model.specs.Types.{type_at}
-use Rattle.herm_model.specs.Expressions.{Atom}
-use Rattle.herm_model.specs.Statements.{Form, For, Call}
+use Rattle.herm_model.specs.Statements.{Form, For}
 use Rattle.herm_model.specs.Nodes.{Target, node, end, end_by, Node}
 use Rattle.herm_model.specs.Values.{Cell, cell, no_parts, gap, part, HasExactly}
 use Rattle.herm_model.specs.Typed.{HaveTypes, Fits, many}
@@ -12,7 +11,6 @@ use Rattle.herm_model.specs.Finalising.{waits}
 use Rattle.herm_forms.specs.Bodies.{Loop}
 use Rattle.herm_forms.specs.Edges.{Code}
 use Rattle.herm_source.specs.States.{State, node_at}
-use Rattle.herm_forms.specs.Acts.{arguments_at, is_inout}
 use Rattle.herm_forms.specs.Callings.{lent_by, Calling, calling_form}
 
 -- the call at a process's point

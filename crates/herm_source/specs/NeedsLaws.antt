@@ -6,11 +6,9 @@ use Rattle.herm_model.specs.Control.{flow_of, IsReached}
 use Rattle.herm_journal.specs.Places.{Limits}
 use Rattle.herm_journal.specs.Entries.{Text, Entry}
 use Rattle.herm_forms.specs.Bodies.{Name}
-use Rattle.herm_forms.specs.Edges.{Code}
 use Rattle.herm_source.specs.States.{State}
 use Rattle.herm_source.specs.Modules.{Program, Modules}
 use Rattle.herm_system.specs.Systems.{System, opening, Event, Run, run, start, numbered_from_one}
-use Rattle.herm_source.specs.Local.{IsLocallySound}
 use Rattle.herm_source.specs.Instance.{IsSound, source, IsSoundIn}
 use Rattle.herm_source.specs.Headline.{AreAccepted, FindsNeeds}
 use Rattle.herm_system.specs.Reports.{IsAlong, IsSoOfAll}

@@ -1,16 +1,7 @@
 -- Laws of runs of the source machine.
-use Rattle.std.specs.Prelude.{ℕ, List, Some, ◌≡◌, ◌++◌, slice_get}
-use Rattle.herm_model.specs.Values.{Name}
-use Rattle.herm_journal.specs.Places.{Limits}
-use Rattle.herm_journal.specs.Entries.{Text}
-use Rattle.herm_system.specs.Statuses.{Asked}
-use Rattle.herm_system.specs.Systems.{System, Event, Run, run, start, numbered_from_one}
-use Rattle.herm_system.specs.Reports.{Report}
-use Rattle.herm_forms.specs.Edges.{Code}
-use Rattle.herm_runs.specs.DiaryLaws.{EventSuits, SuitsAlong, IsToldByDiary, DiariesTell}
+use Rattle.herm_runs.specs.DiaryLaws.{DiariesTell}
 use Rattle.herm_runs.specs.SuitsLaws.{SoundStatesSuit, SoundRunsSuit, SoundDiariesTell, DescribedDiariesTell}
 use Rattle.herm_source.specs.Modules.{Program, Modules}
-use Rattle.herm_source.specs.States.{State}
 use Rattle.herm_source.specs.Renaming.{forget_state}
 use Rattle.herm_source.specs.Headline.{AreAccepted, FindsNeedsIn}
 use Rattle.herm_source.specs.Instance.{source, nameless, IsSoundIn}

@@ -1,5 +1,5 @@
 -- A machine: what a process does, seen from outside, as functions on the state of one process.
-use Rattle.std.specs.Prelude.{ℕ, List, Bool, true, false, cond, Option, Some, None}
+use Rattle.std.specs.Prelude.{ℕ, List, Bool, true, false, cond, Option}
 use Rattle.herm_model.specs.Types.{TypeTable}
 use Rattle.herm_model.specs.Values.{Name, Cell, cell, no_parts, an_inport}
 use Rattle.herm_journal.specs.Messages.{CellWant, CellAction}

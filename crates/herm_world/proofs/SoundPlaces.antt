@@ -1,8 +1,8 @@
 -- The cells of a straight-line program at places with types agree with the types of ports 0 and 1.
-use Rattle.std.proofs.Common.{◌≡◌, ℕ, zero, suc, List, [], ◌∷◌, ◌++◌, map, flat_map, Bool, Option, Some, None, option_and_then, replicate, slice_get, inl, inr, refl, sym, subst}
+use Rattle.std.proofs.Common.{◌≡◌, ℕ, zero, suc, List, [], ◌∷◌, ◌++◌, map, flat_map, Bool, Some, None, option_and_then, replicate, slice_get, inl, inr, refl, sym, subst}
 use Rattle.std.specs.Prelude.{⊤}
 use Rattle.std.specs.List.{AllByRecursion}
-use Rattle.herm_model.specs.Lists.{IsIn, list_of}
+use Rattle.herm_model.specs.Lists.{IsIn}
 use Rattle.herm_model.specs.Paths.{Fact}
 use Rattle.herm_model.specs.Types.{predefined}
 use Rattle.herm_model.specs.Calls.{led_to}
@@ -11,7 +11,6 @@ use Rattle.herm_model.specs.Values.{Kind, a_callmessage, an_inport, an_outport, 
 use Rattle.herm_journal.specs.Entries.{Text}
 use Rattle.herm_journal.specs.Places.{Limits, Port, left_in}
 use Rattle.herm_forms.specs.Bodies.{Name}
-use Rattle.herm_source.specs.Local.{calling}
 use Rattle.herm_system.specs.Kinds.{each, typed_of, typed_in, typed_held, typed_cells}
 use Rattle.herm_system.specs.Systems.{first_message}
 use Rattle.herm_world.proofs.Slots.{Slots, strings_of, empty_slots, gaps-empty}

@@ -18,12 +18,10 @@ use Rattle.herm_system.specs.Machines.{greatest_actions}
 use Rattle.herm_system.specs.Ledger.{HasLedger, made_in, held_in, queued_in, finalised_in, IsMadeOnce}
 use Rattle.herm_system.specs.Statuses.{counts, one, cut, line, bytes_of}
 use Rattle.herm_source.specs.Modules.{Modules}
-use Rattle.herm_system.specs.Systems.{System, run, run_on, Event, acts, start, IsFinal, opening, Run, main_port}
+use Rattle.herm_system.specs.Systems.{System, run, run_on, Event, acts, start, IsFinal, opening, main_port}
 use Rattle.herm_source.specs.Headline.{AreAccepted, AreCodesOf}
 use Rattle.herm_system.specs.Reports.{IsRunTo}
 use Rattle.herm_runs.proofs.Events.{run-joined}
-use Rattle.herm_runs.proofs.Numbered.{runs-numbered, numbered-once}
-use Rattle.herm_runs.proofs.SystemLedger.{runs-keep}
 use Rattle.herm_compile.specs.Form.{IsLine, IsBody}
 use Rattle.herm_compile.specs.Straight.{process_of}
 use Rattle.herm_compile.proofs.StraightLaws.{flow_is, straight, carry, hold}

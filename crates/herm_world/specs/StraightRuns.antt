@@ -9,13 +9,11 @@ use Rattle.herm_journal.specs.Actions.{put, take, close}
 use Rattle.herm_journal.specs.Entries.{Text, Entry, Place, Record, port}
 use Rattle.herm_forms.specs.Evaluate.{scalar_value}
 use Rattle.herm_source.specs.Modules.{Program, Modules}
-use Rattle.herm_system.specs.Systems.{System, opening, first_message, IsFinal, Event, Run, run, start}
+use Rattle.herm_system.specs.Systems.{System, first_message, IsFinal, Event, Run, run, start}
 use Rattle.herm_journal.specs.Places.{Limits}
-use Rattle.herm_system.specs.Statuses.{Counts, ended_normally, fates, queues, counts, status_of, text_of_run, plainly, line}
+use Rattle.herm_system.specs.Statuses.{Counts, ended_normally, plainly, line}
 use Rattle.herm_source.specs.Headline.{AreAccepted, Describes}
-use Rattle.herm_system.specs.Reports.{IsRunTo, IsAlong, Report, IsReportOf}
-use Rattle.herm_system.specs.Ledger.{HasLedger, IsMadeOnce}
-use Rattle.herm_journal.specs.Journals.{IsRising, IsStamped}
+use Rattle.herm_system.specs.Reports.{Report, IsReportOf}
 use Rattle.herm_compile.specs.Form.{IsBody}
 use Rattle.herm_compile.specs.Straight.{process_of}
 use Rattle.herm_compile.specs.declared.compiled.Line.{Line}

@@ -5,7 +5,7 @@ use Rattle.herm_model.specs.Lists.{IsIn, some_of, every, list_of, with_some}
 use Rattle.herm_model.specs.Paths.{Path, Fact}
 use Rattle.herm_model.specs.Types.{TypeTable, callmessage, Parameter, Raised, named_types, part_type, part_of, type_below, type_at, is_within_depth, greatest_depth}
 use Rattle.herm_model.specs.Facts.{full_facts}
-use Rattle.herm_model.specs.Calls.{shape_at, inport_at, message_type, message_shape, parameters_of, raises_of, returned_places, kept_for, is_returned}
+use Rattle.herm_model.specs.Calls.{shape_at, message_shape, parameters_of, raises_of, returned_places, kept_for, is_returned}
 use Rattle.herm_model.specs.StatementTable.{present, full, full_of_each, returned, returned_by}
 use Rattle.herm_model.specs.Values.{Cell, cell_at}
 use Rattle.herm_model.specs.Typed.{IsFull}
@@ -16,7 +16,7 @@ use Rattle.herm_model.proofs.Copyable.{within-more}
 use Rattle.herm_model.proofs.Options.{some-injective, none-not_some, map-some}
 use Rattle.herm_journal.specs.Actions.{values, raised, to_answer}
 use Rattle.herm_forms.specs.Bodies.{Name, Body, drop, Taken, take_all}
-use Rattle.herm_journal.specs.Messages.{CellReply, CellWant, message_of_port, AreFull}
+use Rattle.herm_journal.specs.Messages.{CellReply, CellWant, AreFull}
 use Rattle.herm_forms.specs.Exchanges.{caller_of}
 use Rattle.herm_forms.specs.Edges.{Code, beyond_full}
 use Rattle.herm_forms.specs.Callings.{Calling, IsReply, returned_types, kept_types}

@@ -1,6 +1,6 @@
 -- What a process wants of a place is of the kinds that its cells are of, and what comes in keeps them.
-use Rattle.std.proofs.Common.{◌≡◌, ℕ, suc, ◌+◌, List, [], ◌∷◌, Bool, true, false, cond, Option, Some, None, option_map, option_and_then, subst}
-use Rattle.std.specs.Prelude.{pred, length, ⊤, nat_eq, flat_map, map}
+use Rattle.std.proofs.Common.{ℕ, suc, ◌+◌, List, [], ◌∷◌, Option, Some, None, option_map, option_and_then}
+use Rattle.std.specs.Prelude.{⊤, nat_eq, flat_map, map}
 use Rattle.herm_model.specs.Paths.{Path}
 use Rattle.herm_model.specs.Types.{Mode, by_in, by_inout, by_out, Parameter}
 use Rattle.herm_model.specs.Outcomes.{ok, arm, raised, disconnected}
@@ -8,22 +8,20 @@ use Rattle.herm_model.specs.Statements.{Form, New, Send, Receive, Select, Call, 
 use Rattle.herm_model.specs.Expressions.{Atom}
 use Rattle.herm_model.specs.Calls.{call_parameters}
 use Rattle.herm_model.specs.StatementTable.{set_by_call}
-use Rattle.herm_model.specs.Nodes.{Target, Node}
-use Rattle.herm_model.specs.Values.{gaps, Kind, a_callmessage, an_outport, an_inport, Cell, cell, Parts, no_parts, gap, part, cell_at, read_at, copy_in, count_in}
-use Rattle.herm_model.proofs.Options.{none-not_some, some-injective, map-some}
+use Rattle.herm_model.specs.Values.{Kind, a_callmessage, an_outport, an_inport, Cell, cell, Parts, no_parts, gap, part, cell_at, read_at, copy_in, count_in}
 use Rattle.herm_forms.specs.Evaluate.{Evaluated, gives, raises, no_value, atom_value}
 use Rattle.herm_journal.specs.Actions.{Reply, values, gone, new_port, new_process, to_put, to_take, to_close, to_answer, to_hear, make_port, make_process, put, take, close, answer, hear}
 use Rattle.herm_journal.specs.Actions
-use Rattle.herm_forms.specs.Bodies.{Name, Body, Result, goes, stays, stuck, if_there, let_go_all, end_cell, cleared, drop, putting, Taken, with_taken, take_all, counted_step, counted_action}
+use Rattle.herm_forms.specs.Bodies.{Name, Body, Result, if_there, let_go_all, end_cell, cleared, drop, putting, Taken, with_taken, take_all}
 use Rattle.herm_forms.specs.Exchanges
-use Rattle.herm_journal.specs.Messages.{CellReply, CellWant, CellAction}
+use Rattle.herm_journal.specs.Messages.{CellReply, CellAction}
 use Rattle.herm_forms.specs.Exchanges.{Composed, compose, assemble, with_message, receive_at, place_of_port, ports_at, inport_at, outport_at, caller_of}
 use Rattle.herm_forms.specs.Forms.{inport_number, outport_number}
-use Rattle.herm_forms.specs.Edges.{Code, arrive, beyond_full, beyond_declared}
-use Rattle.herm_forms.specs.Acts.{is_action, act, wants, arguments_at, is_inout, is_out, input_of, inputs_of, composed, kept_at, left_at, given_back, given_at, given_by, settle, settle_reply, leads_to}
+use Rattle.herm_forms.specs.Edges.{Code, beyond_full, beyond_declared}
+use Rattle.herm_forms.specs.Acts.{wants, arguments_at, is_inout, is_out, input_of, inputs_of, composed, kept_at, left_at, given_back, given_at, given_by, settle, settle_reply}
 use Rattle.herm_journal.specs.Kinds.{HasKinds, HaveKinds, AllKinds, IfWant, AllPorts, ReplyKinds, ActionKinds}
-use Rattle.herm_forms.proofs.known.HeldKinds.{IfKinds, cell-kinds, read-kinds, gaps-kinds, copy-kinds_in}
-use Rattle.herm_forms.proofs.known.KindsKept.{AllowsPlain, IfParts, GivesKinds, BodyKinds, atom-kinds, All, went, stayed, never, is-all, is-end, is-cleared, is-drop, all-cond, all-there, all-putting, all-putting_all, all-taking, all-moving, all-making, IfInport, inport-kinds, all-act, is-arrive}
+use Rattle.herm_forms.proofs.known.HeldKinds.{IfKinds, cell-kinds, read-kinds, copy-kinds_in}
+use Rattle.herm_forms.proofs.known.KindsKept.{AllowsPlain, IfParts, GivesKinds, BodyKinds, atom-kinds, All, went, stayed, never, is-all, is-end, is-cleared, is-drop, all-cond, all-there, all-putting, all-putting_all, all-taking, all-moving, all-making, IfInport, inport-kinds}
 
 module _ {N : Type 0} (name : Name → N) (of : Kind → Type 0) (allows : AllowsPlain of) where
   -- what was taken out of paths, and a composed callmessage

@@ -1,5 +1,5 @@
 -- Changing the names of cells commutes with what a statement does, wants and leaves.
-use Rattle.std.proofs.Common.{◌≡◌, ℕ, List, [], ◌∷◌, map, flat_map, Bool, true, false, cond, Option, Some, None, option_map, refl, sym, ap, ap₂, ◌∙◌, length}
+use Rattle.std.proofs.Common.{◌≡◌, ℕ, List, [], ◌∷◌, map, flat_map, Option, Some, None, option_map, refl, ap, ap₂, ◌∙◌}
 use Rattle.std.specs.Prelude.{pred, find, option_and_then, ⊤}
 use Rattle.herm_model.specs.Paths.{Path}
 use Rattle.herm_model.specs.Types.{Parameter, type_at}
@@ -10,24 +10,22 @@ use Rattle.herm_model.specs.Statements.{Form, Assign, Move, New, Discard, Unite,
 use Rattle.herm_model.specs.Calls
 use Rattle.herm_model.specs.Calls.{shape_at, call_parameters}
 use Rattle.herm_model.specs.StatementTable.{set_by_call}
-use Rattle.herm_model.specs.Nodes.{Target, Node}
-use Rattle.herm_model.specs.Values.{Cell, Parts, gaps, part, rename, rename_in}
-use Rattle.herm_model.proofs.Renaming.{gaps-rename}
+use Rattle.herm_model.specs.Values.{Parts, rename_in}
 use Rattle.herm_forms.specs.Evaluate.{evaluate, key_values}
 use Rattle.herm_journal.specs.Actions.{values, raised}
-use Rattle.herm_forms.specs.Bodies.{Name, Body, Result, goes, stays, stuck, if_there, counted_step, counted_action}
+use Rattle.herm_forms.specs.Bodies.{Name, Body, Result, if_there}
 use Rattle.herm_forms.specs.Forms
 use Rattle.herm_forms.specs.Exchanges
-use Rattle.herm_journal.specs.Messages.{CellReply, CellWant, CellAction}
+use Rattle.herm_journal.specs.Messages.{CellAction}
 use Rattle.herm_forms.specs.Exchanges.{Composed, compose}
-use Rattle.herm_forms.specs.Edges.{Code, arrive, beyond_full, beyond_declared}
-use Rattle.herm_forms.specs.Acts.{is_action, key_at, act, arguments_at, is_inout, is_out, input_of, inputs_of, composed, kept_at, left_at, given_back, given_at, given_by, wants, settle, settle_reply, leads_to}
+use Rattle.herm_forms.specs.Edges.{Code, beyond_full, beyond_declared}
+use Rattle.herm_forms.specs.Acts.{key_at, act, arguments_at, is_inout, is_out, input_of, inputs_of, composed, kept_at, left_at, given_back, given_at, given_by, wants, settle, settle_reply}
 use Rattle.herm_forms.specs.Renaming.{rename_body}
 use Rattle.herm_journal.specs.Renaming.{rename_action, rename_want}
 use Rattle.herm_forms.proofs.renamed.RenamedBodies.{rename_result, rename_taken}
 use Rattle.herm_forms.proofs.renamed.RenamedForms
 use Rattle.herm_forms.proofs.renamed.RenamedForms.{evaluate-renamed, atom_value-renamed, key_values-renamed, arrive-renamed, beyond-renamed, with_value-renamed, new_value-renamed}
-use Rattle.herm_forms.proofs.renamed.RenamedActions.{rename_composed, send_wants-renamed, receive_wants-renamed, select_wants-renamed, call_wants-renamed, return_wants-renamed, work_wants-renamed, send-renamed, receive-renamed, select-renamed, work_done-renamed, hear_call-renamed, call-renamed, give_back-renamed, return-renamed, new_inport-renamed, create-renamed, compose-renamed}
+use Rattle.herm_forms.proofs.renamed.RenamedActions.{rename_composed, send_wants-renamed, receive_wants-renamed, select_wants-renamed, call_wants-renamed, return_wants-renamed, send-renamed, receive-renamed, select-renamed, hear_call-renamed, call-renamed, give_back-renamed, return-renamed, new_inport-renamed, create-renamed, compose-renamed}
 
 module _ {N M : Type 0} (f : N → M) (name : Name → N) where
   abbrev pub again : Name → M

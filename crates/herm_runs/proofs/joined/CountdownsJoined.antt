@@ -1,14 +1,11 @@
 -- The two machines that count are joined, and keep numbers.
-use Rattle.std.proofs.Common.{◌≡◌, ℕ, zero, suc, List, [], ◌∷◌, Option, Some, None, refl, sym, ap, subst, ◌∙◌}
-use Rattle.herm_model.specs.Values.{Name, a_scalar, a_record, a_variant, a_table, a_polymorph, a_callmessage, an_inport, an_outport, Cell, cell, no_parts}
-use Rattle.herm_model.proofs.Options.{some-injective, none-not_some}
+use Rattle.std.proofs.Common.{◌≡◌, ℕ, zero, suc, List, [], ◌∷◌, Option, Some, None, refl, ap, subst}
+use Rattle.herm_model.specs.Values.{Name, an_inport, Cell, cell, no_parts}
 use Rattle.herm_journal.specs.Actions.{make_port, make_process, put, take, close, answer, hear}
 use Rattle.herm_journal.specs.Messages.{CellAction}
-use Rattle.herm_system.specs.Machines.{is_local}
 use Rattle.herm_system.specs.Ledger.{held_by}
-use Rattle.herm_runs.specs.OneProcess.{KeepsNumbers}
 use Rattle.herm_runs.specs.Joining.{BothOrNone, ShowTheSame, AreJoined}
-use Rattle.herm_runs.specs.Countdowns.{OwnPort, Down, begin_down, down_steps, down_behind, counting_down, Up, begin_up, up_steps, up_behind, counting_up, as_down, AtMostTwo, AtMostOne, CountTheSame}
+use Rattle.herm_runs.specs.Countdowns.{OwnPort, Down, begin_down, down_behind, counting_down, Up, begin_up, up_behind, counting_up, as_down, AtMostTwo, AtMostOne, CountTheSame}
 
 module _ {N : Type 0} (name : Name → N) where
   abbrev up_with : (number made actions : ℕ) → List (Cell N) → List (OwnPort N) → List N → Up N

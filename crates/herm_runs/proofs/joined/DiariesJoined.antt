@@ -1,12 +1,12 @@
 -- What a diary leads to in one of two joined machines, it leads to in the other.
-use Rattle.std.proofs.Common.{◌≡◌, ℕ, zero, suc, List, [], ◌∷◌, Bool, true, false, cond, Option, Some, None, option_and_then, refl, sym, ap, subst, ◌∙◌}
-use Rattle.std.specs.Prelude.{⊤, IsFalse}
-use Rattle.herm_model.proofs.Options.{some-injective, none-not_some, chain-some}
+use Rattle.std.proofs.Common.{◌≡◌, ℕ, zero, suc, cond, Some, None, option_and_then, refl, sym, ap, subst, ◌∙◌}
+use Rattle.std.specs.Prelude.{⊤}
+use Rattle.herm_model.proofs.Options.{some-injective, chain-some}
 use Rattle.herm_journal.specs.Entries.{Entry}
 use Rattle.herm_journal.specs.Messages.{CellAction}
 use Rattle.herm_system.specs.Machines.{Machine, is_local}
 use Rattle.herm_system.specs.Systems.{number_of}
-use Rattle.herm_system.specs.Along.{has_local_step, local_steps, IsToldBy, IsBehind, IsAfter, after_steps, after_entry}
+use Rattle.herm_system.specs.Along.{has_local_step, local_steps, IsToldBy, IsBehind, after_steps, after_entry}
 use Rattle.herm_runs.specs.Joining.{AreJoined, DiariesTogether}
 use Rattle.herm_runs.proofs.Stands.{cond-both}
 use Rattle.herm_runs.proofs.joined.Turned.{shows-turned, suits-same, fulfils-same}

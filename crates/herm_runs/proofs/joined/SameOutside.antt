@@ -1,7 +1,7 @@
 -- Systems that correspond are the same from outside.
-use Rattle.std.proofs.Common.{◌≡◌, ℕ, zero, suc, ◌+◌, List, [], ◌∷◌, ◌++◌, map, flat_map, Bool, true, false, ◌||◌, Option, Some, None, option_map, option_and_then, slice_get, length, refl, sym, ap, ap₂, subst, ◌∙◌, arith}
+use Rattle.std.proofs.Common.{◌≡◌, ℕ, zero, suc, ◌+◌, List, [], ◌∷◌, ◌++◌, map, flat_map, Bool, false, ◌||◌, Option, Some, None, option_map, option_and_then, slice_get, length, refl, sym, ap, ap₂, ◌∙◌, arith}
 use Rattle.std.specs.Prelude.{is_some}
-use Rattle.herm_model.specs.Lists.{some_of, list_of, numbered, total, range}
+use Rattle.herm_model.specs.Lists.{some_of, list_of, numbered, total}
 use Rattle.herm_model.specs.Values.{Name, Cell}
 use Rattle.herm_model.specs.Texts.{text_of}
 use Rattle.herm_journal.specs.Places.{Port, left_in, first_of, Book, a_port, replies, a_book}
@@ -9,10 +9,10 @@ use Rattle.herm_journal.specs.Entries.{Text, Place, port, reply_cell, book, Entr
 use Rattle.herm_journal.specs.Messages.{CellWant}
 use Rattle.herm_journal.specs.Weights.{weigh_serials}
 use Rattle.herm_system.specs.Machines.{Machine, Standing, is_local, is_acting}
-use Rattle.herm_system.specs.Systems.{opening_name, System, Run, can, can_be_done, seen_as, standing, standing_of, stands, done_in, done_at, places_for, holding_at, numbered_from_one, can_step, IsFinal}
+use Rattle.herm_system.specs.Systems.{opening_name, System, can, can_be_done, seen_as, standing, stands, done_in, done_at, places_for, holding_at, numbered_from_one, can_step}
 use Rattle.herm_system.specs.Ledger.{queued_at, queued_for, made_by, held_by, finalised_by, made_in, held_in, finalised_in, queued_in}
-use Rattle.herm_system.specs.Statuses.{line, bytes_of, Fate, fate_as, fate_of, fates, queues, Counts, counts, how_many, has_ended, is_waiting, is_stopped, cut, one, status_by, status_of, status_line_by, status_line, summary, console_text, journal_text, Asked, plainly, with_summary, the_journal, text_of_run}
-use Rattle.herm_runs.specs.Joining.{BothOrNone, ShowTheSame, AreJoined, EachOf, Correspond, LookAlike, turned}
+use Rattle.herm_system.specs.Statuses.{line, bytes_of, Fate, fate_as, fate_of, fates, Counts, counts, how_many, has_ended, is_waiting, is_stopped, cut, one, status_by, status_of, status_line_by, status_line, summary, console_text, Asked, plainly, with_summary, the_journal, text_of_run}
+use Rattle.herm_runs.specs.Joining.{BothOrNone, AreJoined, EachOf, Correspond, LookAlike}
 
 -- what is found among processes that correspond
 module _ {P Q : Type 0} (R : P → Q → Type 0) where

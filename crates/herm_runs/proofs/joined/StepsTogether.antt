@@ -1,20 +1,20 @@
 -- What an event leads to in one of two joined machines, it leads to in the other.
-use Rattle.std.proofs.Common.{◌≡◌, ℕ, zero, suc, List, [], ◌∷◌, ◌++◌, Bool, true, false, cond, Option, Some, None, option_map, option_and_then, slice_get, slice_set, refl, sym, ap, ap₂, subst, ◌∙◌}
-use Rattle.std.specs.Prelude.{⊤, IsTrue}
+use Rattle.std.proofs.Common.{◌≡◌, ℕ, zero, suc, List, [], ◌∷◌, ◌++◌, true, cond, Option, Some, None, option_map, option_and_then, slice_set, refl, sym, ap, ap₂, subst, ◌∙◌}
+use Rattle.std.specs.Prelude.{IsTrue}
 use Rattle.herm_model.specs.Lists.{some_of}
 use Rattle.herm_model.specs.Values.{Name, Cell, cell, an_inport, no_parts}
 use Rattle.herm_model.proofs.Options.{some-injective, none-not_some, chain-some, map-some}
 use Rattle.herm_journal.specs.Actions.{make_port, make_process, put, take, close, answer, hear}
-use Rattle.herm_journal.specs.Places.{empty_port, Book, Holding, a_port, replies, a_book, after}
+use Rattle.herm_journal.specs.Places.{empty_port, Holding, a_port, replies, a_book, after}
 use Rattle.herm_journal.specs.Entries.{Place, port, reply_cell, book, same_place}
-use Rattle.herm_journal.specs.Messages.{CellReply, CellWant, CellAction}
+use Rattle.herm_journal.specs.Messages.{CellReply, CellAction}
 use Rattle.herm_system.specs.Machines.{Machine, is_local, is_acting, inport_of}
-use Rattle.herm_system.specs.Systems.{System, Moved, Event, steps, acts, step, can, can_be_done, standing, stands, with_made, set_process, set_holding, holding_at, local_event, act_at, action_event, behind_action, numbered_from_one, set_from_one, places_for, done_at, number_of}
-use Rattle.herm_system.specs.Along.{Fulfils, Suits}
+use Rattle.herm_system.specs.Systems.{System, Moved, Event, steps, acts, step, can, can_be_done, stands, with_made, set_process, set_holding, holding_at, local_event, act_at, action_event, behind_action, numbered_from_one, set_from_one, places_for, done_at, number_of}
+use Rattle.herm_system.specs.Along.{Fulfils}
 use Rattle.herm_runs.specs.DiaryLaws.{EventSuits}
-use Rattle.herm_runs.specs.Joining.{BothOrNone, ShowTheSame, AreJoined, EachOf, Correspond, turned}
-use Rattle.herm_runs.proofs.SystemLedger.{process-some, processes-stay}
-use Rattle.herm_runs.proofs.Stands.{cond-both, seen-local, seen-acting, stands-as}
+use Rattle.herm_runs.specs.Joining.{BothOrNone, AreJoined, EachOf, Correspond, turned}
+use Rattle.herm_runs.proofs.SystemLedger.{process-some}
+use Rattle.herm_runs.proofs.Stands.{cond-both, seen-local, stands-as}
 use Rattle.herm_runs.proofs.DiariesTold.{done-fulfils}
 use Rattle.herm_runs.proofs.joined.Turned.{both-turned, suits-same}
 use Rattle.herm_runs.proofs.joined.SameOutside.{each-found, holding-same, stands-same}
@@ -60,23 +60,27 @@ module _ {P Q : Type 0} (R : P → Q → Type 0) where
 module _ {P Q : Type 0} (a : Machine Name P) (b : Machine Name Q) (R : P → Q → Type 0) (j : AreJoined a b R) where
   -- what an action makes
   made-together : (x : P) (y : Q) (act : CellAction Name) (s : System P) (t : System Q) (s' : System P) → R x y → Correspond R s t → with_made a x act s ≡ Some s' → (t' : System Q) × (with_made b y act t ≡ Some t') × Correspond R s' t'
-  made-together x y (make_port (Some n)) s t s' r c e =
-      (record t { ports = t.ports ++ empty_port ∷ [] }, refl,
-      subst (λ (z : System P). Correspond R z (record t { ports = t.ports ++ empty_port ∷ [] })) (some-injective e) (record { processes = c.processes; ports = ap (λ ps. ps ++ empty_port ∷ []) c.ports; replies = c.replies; book = c.book }))
+  made-together x y (make_port (Some n)) s t s' r c e = (
+    record t { ports = t.ports ++ empty_port ∷ [] },
+    refl,
+    subst (λ (z : System P). Correspond R z (record t { ports = t.ports ++ empty_port ∷ [] })) (some-injective e) (record { processes = c.processes; ports = ap (λ ps. ps ++ empty_port ∷ []) c.ports; replies = c.replies; book = c.book }),
+  )
   made-together x y (make_process code (Some made)) s t s' r c e =
       let m = map-some _ (a.begin code made.0 (inport_of a made.1 x)) s' e in
       let shows = j.shows x y r in
       let same : inport_of a made.1 x ≡ inport_of b made.1 y = ap₂ (λ (number serial : ℕ). cell (number, serial) (an_inport made.1) no_parts) shows.number shows.serial in
       let n = there R (a.begin code made.0 (inport_of a made.1 x)) (b.begin code made.0 (inport_of a made.1 x)) m.0 (j.begins code made.0 made.1 (a.number x, a.serial x)) m.1 in
       let began : b.begin code made.0 (inport_of b made.1 y) ≡ Some n.0 = ap (b.begin code made.0) (sym same) ∙ n.1 in
-      let t' : System Q = record t { processes = t.processes ++ n.0 ∷ []; ports = t.ports ++ empty_port ∷ []; replies = t.replies ++ [] ∷ [] } in
-      (t', ap (option_map (λ (z : Q). record t { processes = t.processes ++ z ∷ []; ports = t.ports ++ empty_port ∷ []; replies = t.replies ++ [] ∷ [] })) began,
-      subst (λ (z : System P). Correspond R z t') m.2 (record {
-        processes = each-more R s.processes t.processes m.0 n.0 n.2 c.processes;
-        ports = ap (λ ps. ps ++ empty_port ∷ []) c.ports;
-        replies = ap (λ rs. rs ++ [] ∷ []) c.replies;
-        book = c.book;
-      }))
+      let t' : System Q = record t { processes = t.processes ++ n.0 ∷ []; ports = t.ports ++ empty_port ∷ []; replies = t.replies ++ [] ∷ [] } in (
+        t',
+        ap (option_map (λ (z : Q). record t { processes = t.processes ++ z ∷ []; ports = t.ports ++ empty_port ∷ []; replies = t.replies ++ [] ∷ [] })) began,
+        subst (λ (z : System P). Correspond R z t') m.2 (record {
+          processes = each-more R s.processes t.processes m.0 n.0 n.2 c.processes;
+          ports = ap (λ ps. ps ++ empty_port ∷ []) c.ports;
+          replies = ap (λ rs. rs ++ [] ∷ []) c.replies;
+          book = c.book;
+        }),
+      )
   made-together x y (make_port None) s t s' r c e = (t, refl, subst (λ (z : System P). Correspond R z t) (some-injective e) c)
   made-together x y (make_process code None) s t s' r c e = (t, refl, subst (λ (z : System P). Correspond R z t) (some-injective e) c)
   made-together x y (put number m) s t s' r c e = (t, refl, subst (λ (z : System P). Correspond R z t) (some-injective e) c)

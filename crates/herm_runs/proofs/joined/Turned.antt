@@ -1,14 +1,14 @@
 -- Two joined machines are joined the other way round.
-use Rattle.std.proofs.Common.{◌≡◌, ℕ, List, [], ◌∷◌, Option, Some, None, refl, sym, ap, subst, ◌∙◌}
-use Rattle.std.specs.Prelude.{⊤, IsTrue}
+use Rattle.std.proofs.Common.{◌≡◌, ℕ, List, [], ◌∷◌, Option, Some, None, sym, ap, subst, ◌∙◌}
+use Rattle.std.specs.Prelude.{IsTrue}
 use Rattle.herm_model.specs.Lists.{some_of}
 use Rattle.herm_journal.specs.Actions.{make_port, make_process, put, take, close, answer, hear}
 use Rattle.herm_journal.specs.Entries.{Place, same_place}
-use Rattle.herm_journal.specs.Messages.{CellWant, CellAction, IsMessage, IsReplyTo}
-use Rattle.herm_system.specs.Machines.{OpenCall, Machine, is_local}
+use Rattle.herm_journal.specs.Messages.{CellAction, IsMessage, IsReplyTo}
+use Rattle.herm_system.specs.Machines.{Machine, is_local}
 use Rattle.herm_system.specs.Systems.{places_for, number_of}
-use Rattle.herm_system.specs.Along.{Answers, Fulfils, Suits}
-use Rattle.herm_runs.specs.Joining.{BothOrNone, ShowTheSame, AreJoined, EachOf, Correspond, turned}
+use Rattle.herm_system.specs.Along.{Fulfils, Suits}
+use Rattle.herm_runs.specs.Joining.{BothOrNone, ShowTheSame, AreJoined, EachOf, turned}
 
 pub both-turned : {X Y : Type 0} (R : X → Y → Type 0) (o : Option X) (p : Option Y) → BothOrNone R o p → BothOrNone (turned R) p o
 both-turned R None None h = tt

@@ -1,5 +1,5 @@
 -- An entry's move: local steps of its process, and then its action; and what of it depends on the system.
-use Rattle.std.proofs.Common.{◌≡◌, ℕ, zero, suc, List, [], ◌∷◌, Bool, true, false, cond, ◌||◌, ◌⊎◌, inl, inr, Option, Some, None, option_map, slice_get, refl, sym, ap, ◌∙◌, true≢false}
+use Rattle.std.proofs.Common.{◌≡◌, ℕ, zero, suc, List, [], ◌∷◌, Bool, true, false, ◌||◌, ◌⊎◌, inl, inr, Some, option_map, slice_get, refl, sym, ap, ◌∙◌, true≢false}
 use Rattle.herm_model.specs.Lists.{some_of}
 use Rattle.herm_model.specs.Values.{Cell, Name}
 use Rattle.herm_model.proofs.Options.{some-injective, none-not_some, chain-some, map-some}
@@ -8,8 +8,7 @@ use Rattle.herm_journal.specs.Places.{Holding, a_port, replies, Port, Replies, f
 use Rattle.herm_journal.specs.Entries.{Place, port, reply_cell, book, same_place, Entry, recorded}
 use Rattle.herm_journal.specs.Messages.{CellReply, CellWant, CellAction}
 use Rattle.herm_system.specs.Machines.{Machine, acting, is_local, is_acting, inport_of}
-use Rattle.herm_system.specs.Systems.{can_be_done, System, Moved, acts, step, with_made, set_process, set_holding, holding_at, act_at, behind_action, numbered_from_one, places_for, done_at, can, number_of, stands, standing}
-use Rattle.std.specs.Prelude.{nat_lt}
+use Rattle.herm_system.specs.Systems.{can_be_done, System, Moved, acts, step, with_made, set_process, set_holding, holding_at, act_at, behind_action, numbered_from_one, places_for, done_at, can, number_of, stands}
 use Rattle.herm_runs.proofs.SystemLedger.{process-some}
 use Rattle.herm_runs.proofs.Histories.{place-same}
 use Rattle.herm_runs.proofs.Stands.{cond-both, stands-as, seen-acting}

@@ -1,13 +1,13 @@
 -- A run is a path of its entries' moves, with local steps at the end; and a path with stamps is a run.
-use Rattle.std.proofs.Common.{◌≡◌, ℕ, zero, suc, List, [], ◌∷◌, ◌++◌, Bool, true, false, Some, slice_get, refl, sym, ap, subst, ◌∙◌, append_assoc, append-nil}
+use Rattle.std.proofs.Common.{◌≡◌, ℕ, zero, suc, List, [], ◌∷◌, ◌++◌, Bool, true, false, Some, refl, sym, ap, subst, ◌∙◌, append_assoc, append-nil}
 use Rattle.std.specs.Prelude.{nat_eq}
 use Rattle.std.proofs.lemmas.Bool.{eqb-true}
 use Rattle.herm_model.proofs.Options.{some-injective, chain-some, map-some}
 use Rattle.herm_journal.specs.Places.{after, Book, Limits}
 use Rattle.herm_journal.specs.Entries.{Entry, recorded}
 use Rattle.herm_journal.specs.Journals.{entry_behind, IsStampedFrom, next_stamp}
-use Rattle.herm_system.specs.Systems.{System, Moved, Event, steps, acts, Run, run, run_on, step, with_entry, set_process, set_holding, holding_at, numbered_from_one, can, stands, standing, can_be_done}
-use Rattle.herm_system.specs.Machines.{Machine, acting, is_local, is_acting, inport_of}
+use Rattle.herm_system.specs.Systems.{System, Moved, Event, steps, acts, Run, run, run_on, step, with_entry, set_process, set_holding, holding_at, numbered_from_one, can, stands, can_be_done}
+use Rattle.herm_system.specs.Machines.{Machine, is_local}
 use Rattle.herm_runs.proofs.SystemLedger.{process-some}
 use Rattle.herm_runs.proofs.Stands.{cond-both, stands-as, place-limits, seen-local}
 use Rattle.herm_runs.proofs.order.Commuting.{Growth, no_growth, one_port, one_process, grown, changed, change-lost, change-behind, process-still, unequal-numbers}

@@ -1,5 +1,5 @@
 -- An entry's move is a run of local steps and an action.
-use Rattle.std.proofs.Common.{◌≡◌, ℕ, zero, suc, List, [], ◌∷◌, ◌++◌, true, cond, Option, Some, None, is_some, option_map, option_and_then, slice_get, slice_set, refl, sym, ap, subst, ◌∙◌}
+use Rattle.std.proofs.Common.{◌≡◌, ℕ, zero, suc, List, [], ◌∷◌, ◌++◌, true, cond, Some, None, is_some, option_map, option_and_then, slice_get, slice_set, refl, sym, ap, subst, ◌∙◌}
 use Rattle.herm_model.specs.Lists.{some_of}
 use Rattle.herm_model.specs.Values.{Cell, Name}
 use Rattle.herm_model.proofs.Options.{some-injective}
@@ -8,7 +8,7 @@ use Rattle.herm_journal.specs.Entries.{Place, same_place, Entry, recorded}
 use Rattle.herm_journal.specs.Journals.{entry_behind}
 use Rattle.herm_journal.specs.Messages.{CellReply, CellWant, CellAction}
 use Rattle.herm_system.specs.Systems.{System, Moved, Event, steps, acts, run_on, step, with_entry, with_made, set_process, set_holding, holding_at, act_at, behind_action, numbered_from_one, set_from_one, places_for, done_at, done_in, can, number_of, stands, standing, can_be_done, seen_as}
-use Rattle.herm_system.specs.Machines.{Machine, acting, is_local, is_acting, inport_of}
+use Rattle.herm_system.specs.Machines.{Machine, acting, is_local, is_acting}
 use Rattle.herm_runs.proofs.Stands.{stands-as, seen-local}
 use Rattle.herm_runs.proofs.Events.{IsRunBetween, both-runs, one-run}
 use Rattle.herm_runs.proofs.order.Commuting.{Growth, grown, changed, change-lost, set-again_from_one}

@@ -1,7 +1,7 @@
 -- The entries of a run in order are the journal of a run.
 use Rattle.std.proofs.Common.{◌≡◌, ℕ, zero, suc, ◌<◌, ◌≤◌, List, [], ◌∷◌, map, Bool, true, false, ◌||◌, Some, option_map, slice_get, length, refl, sym, ap, subst, ◌∙◌, arith, true≢false}
 use Rattle.herm_model.specs.Lists.{some_of, list_of}
-use Rattle.herm_model.specs.Values.{a_callmessage, Cell, Name}
+use Rattle.herm_model.specs.Values.{Cell, Name}
 use Rattle.herm_model.proofs.Options.{some-injective, none-not_some}
 use Rattle.herm_journal.specs.Actions.{new_port, new_process, to_put, to_take, to_close, to_answer, to_hear}
 use Rattle.herm_journal.specs.Places.{Limits, first_book, Holding, a_port, replies, a_book, Book}

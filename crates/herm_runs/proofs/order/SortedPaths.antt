@@ -10,7 +10,7 @@ use Rattle.herm_system.specs.Systems.{System, holding_at, numbered_from_one}
 use Rattle.herm_runs.proofs.order.EntryMoves.{IsMove}
 use Rattle.herm_runs.proofs.order.EntryPaths.{IsPath}
 use Rattle.herm_runs.proofs.order.Swapped.{other-process, other-place, places-differ, processes-differ, process-before, swap-moves, swap-stamps}
-use Rattle.herm_system.specs.Machines.{Machine, acting, is_local, is_acting, inport_of}
+use Rattle.herm_system.specs.Machines.{Machine}
 
 -- where a fact of states says that numbers agree, stays along moves, and gives each move its place
 module _ {P : Type 0} (machine : Machine Name P) (limit : ℕ) (Holds : System P → Type 0) (numbers : (s : System P) → Holds s → IsNumbered machine s)

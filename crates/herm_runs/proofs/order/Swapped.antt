@@ -1,5 +1,5 @@
 -- Two moves of different processes at different places can be done in the other order, with the same stamps.
-use Rattle.std.proofs.Common.{◌≡◌, ℕ, suc, max, ◌<◌, List, [], ◌∷◌, ◌++◌, Bool, true, false, cond, ◌||◌, ◌⊎◌, inl, inr, Some, None, slice_get, length, refl, sym, ap, ap₂, ◌∙◌, arith, true≢false}
+use Rattle.std.proofs.Common.{◌≡◌, ℕ, suc, max, ◌<◌, List, [], ◌∷◌, ◌++◌, Bool, true, false, cond, ◌||◌, ◌⊎◌, inl, inr, Some, None, length, refl, sym, ap, ap₂, ◌∙◌, arith, true≢false}
 use Rattle.std.proofs.lemmas.Bool.{eqb-true}
 use Rattle.std.specs.Prelude.{nat_eq, nat_lt, ◌&&◌}
 use Rattle.herm_model.specs.Values.{Cell, Name}
@@ -19,7 +19,7 @@ use Rattle.herm_runs.proofs.RunsOrdered.{maker-absent}
 use Rattle.herm_runs.proofs.Ordered.{before-later, last-more}
 use Rattle.herm_runs.proofs.order.Commuting.{no_growth, grown, changed, changes-commute, process-still, holding-still, unequal-numbers, unequal-places}
 use Rattle.herm_runs.proofs.order.EntryMoves.{makes_more, IsMove}
-use Rattle.herm_system.specs.Machines.{Machine, acting, is_local, is_acting, inport_of}
+use Rattle.herm_system.specs.Machines.{Machine, inport_of}
 
 -- the tests by which an entry counts for a clock
 abbrev pub counts_for : ℕ → Entry → Bool

@@ -9,10 +9,9 @@ use Rattle.herm_model.specs.Paths.{Path}
 use Rattle.herm_model.specs.Types.{type_at}
 use Rattle.herm_model.specs.Statements.{Form, New, Send, Receive, Select, Call, Return, ReturnBy, Create, Arm}
 use Rattle.herm_model.specs.Nodes.{Node}
-use Rattle.herm_model.specs.Values.{a_callmessage, an_inport, Cell, cell, kind_of, read_at, rename}
+use Rattle.herm_model.specs.Values.{a_callmessage, an_inport, Cell, cell, kind_of, read_at}
 use Rattle.herm_model.specs.Typed.{HaveTypes}
 use Rattle.herm_model.proofs.Lists.{found-in}
-use Rattle.herm_model.proofs.Renaming.{read_at-rename}
 use Rattle.herm_model.proofs.Options.{some-injective, none-not_some, chain-some, map-some}
 use Rattle.herm_journal.specs.Actions.{values, new_port, new_process, to_put, to_take, to_close, to_answer, to_hear}
 use Rattle.herm_journal.specs.Actions
@@ -26,12 +25,8 @@ use Rattle.herm_forms.specs.Exchanges
 use Rattle.herm_forms.specs.Edges.{Code}
 use Rattle.herm_source.specs.States.{State, node_at, item_or, call_or_statement, wanted, wanted_next, own_name}
 use Rattle.herm_forms.specs.Acts.{is_action, wants}
-use Rattle.herm_forms.specs.Renaming.{rename_body}
-use Rattle.herm_journal.specs.Renaming.{forget_name}
-use Rattle.herm_source.specs.Renaming.{forget_state}
 use Rattle.herm_source.specs.Looking.{ports_of, looks_at, port_type}
 use Rattle.herm_system.specs.Kinds.{each, typed_in}
-use Rattle.herm_forms.proofs.renamed.RenamedForms.{inport_number-renamed}
 use Rattle.herm_runs.proofs.Stands.{cond-both}
 use Rattle.herm_source.proofs.incoming.SuitsReading.{type-read}
 

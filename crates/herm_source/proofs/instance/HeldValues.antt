@@ -1,6 +1,5 @@
 -- The values that a process holds, one by one, weigh and are of the kinds of its variables, loops and work list together.
 use Rattle.std.proofs.Common.{◌≡◌, ℕ, ◌+◌, List, [], ◌∷◌, ◌++◌, map, flat_map, Option, Some, None, refl, sym, ap, ap₂, ◌∙◌, arith, append_assoc, append-nil}
-use Rattle.std.specs.Prelude.{slice_get}
 use Rattle.herm_model.specs.Lists.{total, list_of}
 use Rattle.herm_model.specs.Types.{TypeTable}
 use Rattle.herm_model.specs.Values.{Kind, Cell, Parts, no_parts, gap, part}

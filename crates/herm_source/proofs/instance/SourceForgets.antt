@@ -1,6 +1,6 @@
 -- The source machine does the same without names.
-use Rattle.std.proofs.Common.{◌≡◌, ℕ, List, [], ◌∷◌, find, Bool, Option, Some, None, option_map, option_and_then, slice_get, refl, sym, ap, ◌∙◌}
-use Rattle.std.specs.Prelude.{nat_eq, ⊤}
+use Rattle.std.proofs.Common.{◌≡◌, ℕ, [], ◌∷◌, find, Bool, Option, Some, None, option_map, option_and_then, slice_get, refl, ap, ◌∙◌}
+use Rattle.std.specs.Prelude.{nat_eq}
 use mathlib.Core.Path.{fun_ext}
 use Rattle.herm_model.specs.Lists.{some_of, list_of}
 use Rattle.herm_model.specs.Paths.{Path}
@@ -8,7 +8,6 @@ use Rattle.herm_model.specs.Types.{type_at}
 use Rattle.herm_model.specs.Nodes.{Node}
 use Rattle.herm_model.specs.Values.{Name, Cell, read_at, rename, forget}
 use Rattle.herm_model.proofs.Renaming.{read_at-rename}
-use Rattle.herm_journal.specs.Messages.{CellAction}
 use Rattle.herm_journal.specs.Renaming.{rename_want, rename_action, forget_name}
 use Rattle.herm_forms.specs.Bodies.{Body}
 use Rattle.herm_forms.specs.Forms.{inport_number}
@@ -18,7 +17,7 @@ use Rattle.herm_forms.specs.Renaming.{rename_body}
 use Rattle.herm_forms.proofs.renamed.RenamedForms.{inport_number-renamed}
 use Rattle.herm_runs.specs.OneProcess.{ForgetsNames}
 use Rattle.herm_source.specs.Modules.{Modules}
-use Rattle.herm_source.specs.States.{State, own_name, begin, Next, an_item, a_reply, a_statement, nothing, next_of, node_at, ready_for, ready_in, wanted, local_step, answered}
+use Rattle.herm_source.specs.States.{State, own_name, begin, Next, an_item, a_reply, a_statement, nothing, next_of, node_at, ready_for, wanted, local_step, answered}
 use Rattle.herm_source.specs.Renaming.{forget_state}
 use Rattle.herm_source.specs.Looking.{ports_of, looks_at, port_type, open_call}
 use Rattle.herm_source.specs.Instance.{source, nameless, code_at, ready_if}

@@ -1,7 +1,7 @@
 -- The source machine keeps numbers and the ledger, and its processes know only what they were told.
-use Rattle.std.proofs.Common.{◌≡◌, ℕ, ◌+◌, ◌≤◌, Option, Some, None, option_map, option_and_then, slice_get, refl, sym, ap, subst, ◌∙◌, arith}
+use Rattle.std.proofs.Common.{◌≡◌, ℕ, ◌+◌, Option, Some, None, option_and_then, slice_get, refl, sym, ap, subst, ◌∙◌, arith}
 use Rattle.herm_model.specs.Lists.{total, list_of}
-use Rattle.herm_model.specs.Values.{Name, Cell, Kind, a_scalar, an_inport, an_outport, a_callmessage}
+use Rattle.herm_model.specs.Values.{Name, Kind}
 use Rattle.herm_model.proofs.Options.{some-injective, chain-some, map-some, none-not_some}
 use Rattle.herm_journal.specs.Actions.{new_port, new_process, to_put, to_take, to_close, to_answer, to_hear, make_port, make_process, put, take, close, answer, hear}
 use Rattle.herm_journal.specs.Places.{Book}

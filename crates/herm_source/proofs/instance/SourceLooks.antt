@@ -1,5 +1,5 @@
 -- The port at which a sound process looks for a message is that of an inport that it has; so what comes in suits it.
-use Rattle.std.proofs.Common.{◌≡◌, ℕ, zero, suc, List, [], ◌∷◌, ◌++◌, flat_map, Option, Some, None, option_and_then, slice_get, sym, ap, subst, ◌∙◌}
+use Rattle.std.proofs.Common.{◌≡◌, ℕ, zero, suc, List, [], ◌∷◌, ◌++◌, flat_map, Some, option_and_then, slice_get, sym, ap, subst, ◌∙◌}
 use Rattle.herm_model.specs.Lists.{IsIn, list_of}
 use Rattle.herm_model.specs.Statements.{Process}
 use Rattle.herm_model.specs.Types.{TypeTable}
@@ -11,7 +11,6 @@ use Rattle.herm_forms.specs.Bodies.{Loop}
 use Rattle.herm_source.specs.Local.{row_type}
 use Rattle.herm_model.proofs.Options.{some-injective, none-not_some, chain-some}
 use Rattle.herm_forms.specs.Edges.{Code}
-use Rattle.herm_system.specs.Machines.{Held}
 use Rattle.herm_system.specs.Kinds.{each, typed_in, typed_held}
 use Rattle.herm_runs.specs.SuitsLaws.{LooksAtHeld}
 use Rattle.herm_source.specs.Modules.{Program, Modules}

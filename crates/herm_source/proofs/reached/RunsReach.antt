@@ -1,12 +1,11 @@
 -- In every state of a run of accepted modules each process stands where a control path of its module leads, so a sound one
 -- has what its statements need.
-use Rattle.std.proofs.Common.{◌≡◌, ℕ, List, Option, Some, None, option_map, option_and_then, slice_get, refl, sym, ap, ◌∙◌, subst}
+use Rattle.std.proofs.Common.{◌≡◌, ℕ, Some, slice_get, sym, ap, ◌∙◌, subst}
 use Rattle.herm_model.specs.Statements.{Process}
 use Rattle.herm_model.specs.Control.{flow_of, IsReached}
 use Rattle.herm_model.specs.Values.{Cell, Name}
 use Rattle.herm_model.proofs.FactTests.{got-IsIn}
 use Rattle.herm_model.proofs.Options.{some-injective, chain-some, map-some}
-use Rattle.herm_journal.specs.Messages.{CellAction}
 use Rattle.herm_forms.specs.Edges.{Code, code_of}
 use Rattle.herm_runs.specs.Throughout.{StaysSo}
 use Rattle.herm_runs.proofs.StayingSo.{so-throughout}

@@ -1,35 +1,22 @@
 -- Changing the names of cells commutes with what a process wants, its local step and what an answer leaves.
-use Rattle.std.proofs.Common.{◌≡◌, ℕ, List, [], ◌∷◌, map, flat_map, Bool, true, false, cond, Option, Some, None, option_map, refl, sym, ap, ap₂, ◌∙◌, length}
-use Rattle.std.specs.Prelude.{pred, find, option_and_then, ⊤}
-use Rattle.herm_model.specs.Paths.{Path}
-use Rattle.herm_model.specs.Types.{Parameter, type_at}
-use Rattle.herm_model.specs.Facts.{full_facts, declared_facts}
-use Rattle.herm_model.specs.Lists.{list_of}
-use Rattle.herm_model.specs.Expressions.{Atom}
-use Rattle.herm_model.specs.Statements.{Form, Assign, Move, New, Discard, Unite, Dissolve, Reveal, Case, Wrap, Unwrap, Insert, Remove, Get, For, Connect, Send, Receive, Select, Call, Return, ReturnBy, Create, If, While, Raise, Leave, Arm}
-use Rattle.herm_model.specs.Calls
-use Rattle.herm_model.specs.Calls.{shape_at, call_parameters}
-use Rattle.herm_model.specs.StatementTable.{set_by_call}
+use Rattle.std.proofs.Common.{◌≡◌, ℕ, List, [], ◌∷◌, map, Bool, true, false, cond, Option, Some, None, option_map, refl, sym, ap, ◌∙◌, length}
+use Rattle.std.specs.Prelude.{pred, option_and_then}
 use Rattle.herm_model.specs.Nodes.{Target, Node}
-use Rattle.herm_model.specs.Values.{Cell, Parts, gaps, part, rename, rename_in}
+use Rattle.herm_model.specs.Values.{Cell, gaps, part, rename}
 use Rattle.herm_model.proofs.Renaming.{gaps-rename}
-use Rattle.herm_forms.specs.Evaluate.{evaluate, key_values}
-use Rattle.herm_journal.specs.Actions.{values, raised}
-use Rattle.herm_forms.specs.Bodies.{Name, Body, Result, goes, stays, stuck, if_there, counted_step, counted_action}
-use Rattle.herm_forms.specs.Forms
+use Rattle.herm_forms.specs.Bodies.{Name, Body, Result, goes, stays, stuck, counted_step, counted_action}
 use Rattle.herm_forms.specs.Exchanges
-use Rattle.herm_journal.specs.Messages.{CellReply, CellWant, CellAction}
+use Rattle.herm_journal.specs.Messages.{CellWant, CellAction}
 use Rattle.herm_forms.specs.Exchanges.{Composed, compose}
-use Rattle.herm_forms.specs.Edges.{Code, arrive, beyond_full, beyond_declared}
+use Rattle.herm_forms.specs.Edges.{Code, arrive}
 use Rattle.herm_source.specs.States.{State, begin, Next, an_item, a_reply, a_statement, nothing, node_at, call_or_statement, item_or, next_of, behind, wanted_next, wanted, step_next, local_step, settle_next, answered}
-use Rattle.herm_forms.specs.Acts.{is_action, key_at, act, arguments_at, is_inout, is_out, input_of, inputs_of, composed, kept_at, left_at, given_back, given_at, given_by, wants, settle, settle_reply, leads_to}
+use Rattle.herm_forms.specs.Acts.{is_action, act, wants, settle, settle_reply, leads_to}
 use Rattle.herm_forms.specs.Renaming.{rename_body}
 use Rattle.herm_source.specs.Renaming.{rename_state}
 use Rattle.herm_journal.specs.Renaming.{rename_action, rename_want}
-use Rattle.herm_forms.proofs.renamed.RenamedBodies.{rename_result, rename_taken}
-use Rattle.herm_forms.proofs.renamed.RenamedForms
-use Rattle.herm_forms.proofs.renamed.RenamedForms.{evaluate-renamed, atom_value-renamed, key_values-renamed, arrive-renamed, beyond-renamed, with_value-renamed, new_value-renamed}
-use Rattle.herm_forms.proofs.renamed.RenamedActions.{rename_composed, send_wants-renamed, receive_wants-renamed, select_wants-renamed, call_wants-renamed, return_wants-renamed, work_wants-renamed, send-renamed, receive-renamed, select-renamed, work_done-renamed, hear_call-renamed, call-renamed, give_back-renamed, return-renamed, new_inport-renamed, create-renamed, compose-renamed}
+use Rattle.herm_forms.proofs.renamed.RenamedBodies.{rename_result}
+use Rattle.herm_forms.proofs.renamed.RenamedForms.{arrive-renamed}
+use Rattle.herm_forms.proofs.renamed.RenamedActions.{work_wants-renamed, work_done-renamed}
 use Rattle.herm_forms.proofs.renamed.RenamedActs.{again, act-renamed, wants-renamed, settle-renamed, settle_reply-renamed}
 
 module _ {N M : Type 0} (f : N → M) (name : Name → N) where
