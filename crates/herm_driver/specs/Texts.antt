@@ -1,7 +1,7 @@
 -- The texts that the program writes. (Language reference, "Statuses and texts")
 use Rattle.std.specs.Prelude.{ℕ, List, [], ◌∷◌, ◌++◌, codes, decimal}
 use Rattle.std.specs.List.{flat_map}
-use Rattle.herm_source.specs.Statuses.{line}
+use Rattle.herm_system.specs.Statuses.{line}
 use Rattle.herm_compile.specs.declared.fault.Fault.{Fault}
 
 abbrev pub newline : List ℕ

@@ -3,3 +3,7 @@ pub mod Places
 pub mod Entries
 pub mod Journals
 pub mod JournalLaws
+pub mod Messages
+pub mod Weights
+pub mod Renaming
+pub mod Kinds

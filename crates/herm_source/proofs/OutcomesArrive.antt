@@ -9,11 +9,12 @@ use Rattle.herm_model.proofs.Lists.{in-map, found-in, slice_get-map}
 use Rattle.herm_model.proofs.DifferentOutcomes.{process-EdgesDiffer}
 use Rattle.herm_model.proofs.Reached.{same_outcome-is, reached-IsLedTo, reached-led}
 use Rattle.herm_model.proofs.Options.{none-not_some}
-use Rattle.herm_source.specs.Bodies.{Name, Body}
-use Rattle.herm_source.specs.Edges.{Code, code_of, arrive}
+use Rattle.herm_forms.specs.Bodies.{Name, Body}
+use Rattle.herm_forms.specs.Edges.{Code, code_of, arrive}
 use Rattle.herm_source.specs.States.{State}
-use Rattle.herm_source.specs.Arrival.{AreSound, held_after, OutcomesArrive}
-use Rattle.herm_source.proofs.Arrivals.{edges-arrive}
+use Rattle.herm_forms.specs.Arrival.{AreSound, held_after}
+use Rattle.herm_source.specs.Arriving.{OutcomesArrive}
+use Rattle.herm_forms.proofs.Arrivals.{edges-arrive}
 
 -- the state behind an outcome, with the exit that it takes
 module _ (c : Code) (s : State Name) (n : Node) (o : Outcome) (b : Body Name) where

@@ -1,6 +1,3 @@
--- That what comes in suits its process.
+-- That the port at which a process looks for a message is that of an inport that it has.
 pub mod SuitsReading
-pub mod SuitsMessages
 pub mod SuitsPorts
-pub mod SuitsStates
-pub mod SuitsRuns

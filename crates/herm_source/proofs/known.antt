@@ -1,5 +1,2 @@
--- That a process knows only ports and callers that are there.
-pub mod HeldKinds
-pub mod KindsKept
-pub mod KindsExchanged
-pub mod KnownPlaces
+-- That a process wants and learns only what is known.
+pub mod KindsStepped

@@ -1,5 +1,2 @@
--- Names make no difference.
-pub mod RenamedBodies
-pub mod RenamedForms
-pub mod RenamedActions
+-- That names make no difference to what a process does.
 pub mod RenamedSteps

@@ -1,11 +1,16 @@
 -- Programs made ready, and the text of their runs by rounds.
-use Rattle.std.specs.Prelude.{ℕ, List, [], ◌∷◌, map, flat_map, Option, option_map, codes}
-use Rattle.herm_journal.specs.Places.{Limits}
+use Rattle.std.specs.Prelude.{ℕ, List, [], ◌∷◌, map, flat_map, Option, option_map, codes, ℤ}
+use Rattle.herm_journal.specs.Places.{Limits, port_with}
 use Rattle.herm_journal.specs.Entries.{Text}
 use Rattle.herm_source.specs.Labels.{ready}
-use Rattle.herm_source.specs.Systems.{Program, Modules, Run, start}
-use Rattle.herm_source.specs.Rounds.{rounds}
-use Rattle.herm_source.specs.Statuses.{line, Asked, text_of_run, status_of}
+use Rattle.herm_source.specs.Modules.{Program, Modules}
+use Rattle.herm_system.specs.Systems.{Run, start, System, opening, first_message}
+use Rattle.herm_system.specs.Rounds.{rounds}
+use Rattle.herm_system.specs.Statuses.{line, Asked, text_of_run, status_of}
+use Rattle.herm_source.specs.Instance.{source}
+use Rattle.herm_source.specs.States.{State}
+use Rattle.herm_model.specs.Values.{Name, a_scalar, an_integer, cell, no_parts}
+use Rattle.herm_source.specs.Programs.{greeting}
 
 -- the program with its labels, for which three rounds suffice in each example
 abbrev pub ready_program : Program → Modules
@@ -28,9 +33,14 @@ pub record Ending : Type 0 where
 -- The ending of the run by rounds, with an empty argument, where at most so many rounds suffice.
 abbrev pub ending : (most : ℕ) → Asked → Limits → Program → Option Ending
 ending most asked limits program =
-    let modules = ready_program program
-    in option_map (λ (r : Run). record { status = status_of modules r.system; text = text_of_run exception_names asked modules r }) (rounds most modules (start modules limits []))
+    let machine = source (ready_program program)
+    in option_map (λ (r : Run (State Name)). record { status = status_of machine r.system; text = text_of_run exception_names asked machine r }) (rounds most machine (start machine limits []))
 
 -- a text of these lines
 abbrev pub in_lines : List Text → Text
 in_lines ts = flat_map line ts
+
+-- the opening state of the greeting, with an integer queued at the console
+abbrev pub console_with : ℤ → System (State Name)
+console_with n =
+    record (opening (source (ready_program greeting)) (limited 1000 4 4) []) { ports = port_with (cell (1, 0) (a_scalar (an_integer n)) no_parts) ∷ port_with (first_message []) ∷ [] }

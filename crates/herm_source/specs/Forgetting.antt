@@ -1,12 +1,12 @@
 -- What is claimed of names: they make no difference to what a process does, so that values without names do the same.
 use Rattle.std.specs.Prelude.{ℕ, option_map, ◌≡◌}
 use Rattle.herm_model.specs.Values.{Cell, forget}
-use Rattle.herm_source.specs.Bodies.{Name}
-use Rattle.herm_source.specs.Exchanges.{CellAction}
-use Rattle.herm_source.specs.Edges.{Code}
-use Rattle.herm_source.specs.States.{State, begin, wanted, local_step, answered}
-use Rattle.herm_source.specs.Renaming.{rename_want, rename_action, forget_name, forget_state}
-use Rattle.herm_source.specs.Systems.{own_name}
+use Rattle.herm_forms.specs.Bodies.{Name}
+use Rattle.herm_journal.specs.Messages.{CellAction}
+use Rattle.herm_forms.specs.Edges.{Code}
+use Rattle.herm_source.specs.States.{State, begin, wanted, local_step, answered, own_name}
+use Rattle.herm_journal.specs.Renaming.{rename_want, rename_action, forget_name}
+use Rattle.herm_source.specs.Renaming.{forget_state}
 
 -- A process begins without names as it does with them. Language reference, "Values".
 abbrev pub BeginningsForget : Type 0

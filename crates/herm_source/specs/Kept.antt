@@ -1,17 +1,12 @@
 -- What is claimed of the ledger for one process: edges, beginnings, local steps and answers keep its equation.
 use Rattle.std.specs.Prelude.{ℕ, ◌+◌, Some, ◌≡◌}
-use Rattle.herm_model.specs.Nodes.{Target}
 use Rattle.herm_model.specs.Values.{Cell}
-use Rattle.herm_source.specs.Bodies.{Name, Body}
-use Rattle.herm_source.specs.Exchanges.{CellWant, CellAction}
-use Rattle.herm_source.specs.Edges.{Code, arrive}
+use Rattle.herm_forms.specs.Bodies.{Name}
+use Rattle.herm_journal.specs.Messages.{CellWant, CellAction}
+use Rattle.herm_forms.specs.Edges.{Code}
 use Rattle.herm_source.specs.States.{State, begin, wanted, local_step, answered}
-use Rattle.herm_source.specs.Weights.{weigh, kept, made, gone_out, come_in}
-
--- Every edge keeps what a process holds and has finalised, and makes nothing. Language reference, "The ledger".
-abbrev pub EdgesKeep : Type 0
-EdgesKeep = (w : Name → ℕ) (name : Name → Name) (c : Code) (t : Target) (b : Body Name)
-    → made w name (arrive c t b) + kept w b ≡ made w name b + kept w (arrive c t b)
+use Rattle.herm_journal.specs.Weights.{weigh, come_in}
+use Rattle.herm_forms.specs.Weights.{kept, made, gone_out}
 
 -- A process that begins has its port and has made nothing. Language reference, "The ledger".
 abbrev pub BeginningsKeep : Type 0

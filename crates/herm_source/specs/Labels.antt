@@ -6,7 +6,7 @@ use Rattle.herm_model.specs.Types.{TypeTable}
 use Rattle.herm_model.specs.Statements.{Process}
 use Rattle.herm_model.specs.Nodes.{Target, node, end, end_by}
 use Rattle.herm_model.specs.Control.{Edge, Point, Flow, flow_of}
-use Rattle.herm_source.specs.Edges.{Code, code_of}
+use Rattle.herm_forms.specs.Edges.{Code, code_of}
 
 -- lists of facts by place; none where no path is known yet
 abbrev pub LabelLists : Type 0

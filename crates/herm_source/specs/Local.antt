@@ -3,32 +3,19 @@ use Rattle.std.specs.Prelude.{ℕ, List, nat_eq, Option, Some, None, option_and_
 use Rattle.herm_model.specs.Lists.{IsIn, list_of, some_of}
 use Rattle.herm_model.specs.Paths.{Path, Fact, path_of, is_at_or_below}
 use Rattle.herm_model.specs.Types.{type_at}
-use Rattle.herm_model.specs.Expressions.{Atom}
-use Rattle.herm_model.specs.Statements.{Form, For, Call}
+use Rattle.herm_model.specs.Statements.{Form, For}
 use Rattle.herm_model.specs.Nodes.{Target, node, end, end_by, Node}
 use Rattle.herm_model.specs.Values.{Cell, cell, no_parts, gap, part, HasExactly}
 use Rattle.herm_model.specs.Typed.{HaveTypes, Fits, many}
 use Rattle.herm_model.specs.Finalising.{waits}
-use Rattle.herm_source.specs.Bodies.{Loop}
-use Rattle.herm_source.specs.Edges.{Code}
-use Rattle.herm_source.specs.States.{State, node_at, arguments_at, is_inout}
-
--- a call at a node: the outport's path, and the arguments
-pub record Calling : Type 0 where
-  pub port : Path
-  pub arguments : List Atom
-
-abbrev pub calling_form : Form → Option Calling
-calling_form (Call o arguments) = Some (record { port = o; arguments = arguments })
-calling_form _ = None
+use Rattle.herm_forms.specs.Bodies.{Loop}
+use Rattle.herm_forms.specs.Edges.{Code}
+use Rattle.herm_source.specs.States.{State, node_at}
+use Rattle.herm_forms.specs.Callings.{lent_by, Calling, calling_form}
 
 -- the call at a process's point
 abbrev pub calling : {N : Type 0} → Code → State N → Option Calling
 calling c s = option_and_then (λ (n : Node). calling_form n.form) (node_at c s.point)
-
--- the arguments of mode inout, whose values are gone while the call is open
-abbrev pub lent_by : Code → Calling → List Path
-lent_by c k = arguments_at c is_inout k.port k.arguments
 
 abbrev pub lent : {N : Type 0} → Code → State N → List Path
 lent c s = list_of (λ call. list_of (lent_by c) (calling c s)) s.body.call

@@ -7,7 +7,7 @@ use Rattle.herm_model.specs.Expressions
 use Rattle.herm_model.specs.Statements.{Assign, Move, New, Discard, Wrap, Insert, For, Connect, Receive, Send, Select, If, While, Create, Call, Return, ReturnBy, Statement, simple, choosing, repeating, leaving, trying, Block, no_statements, no_blocks, block, Handlers, no_handlers, handler, Process}
 use Rattle.herm_model.specs.Outcomes.{depletion, duplicate_key, disconnected}
 use Rattle.herm_model.specs.Examples.{in_order}
-use Rattle.herm_source.specs.Systems.{Program}
+use Rattle.herm_source.specs.Modules.{Program}
 
 -- a variable as a path, and a part of it
 abbrev pub variable : ℕ → Path

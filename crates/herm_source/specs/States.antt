@@ -1,23 +1,19 @@
 -- The state of a process, its next thing, its local step, what it wants and what an answer leaves.
-use Rattle.std.specs.Prelude.{ℕ, pred, List, [], ◌∷◌, map, filter, flat_map, find, Bool, true, false, cond, not, nat_lt, Option, Some, None, option_map, option_and_then, slice_get, length, ⊤}
-use Rattle.herm_model.specs.Lists.{some_of}
-use Rattle.herm_model.specs.Paths.{Path, same_path}
-use Rattle.herm_model.specs.Types.{Shape, fields, rows, inport, Mode, by_in, by_inout, by_out, Parameter, type_at}
-use Rattle.herm_model.specs.Expressions.{Atom}
-use Rattle.herm_model.specs.Statements.{Form, Assign, Move, New, Discard, Unite, Dissolve, Reveal, Case, Wrap, Unwrap, Insert, Remove, Get, For, Connect, Send, Receive, Select, Call, Return, ReturnBy, Create, If, While, Raise, Leave}
-use Rattle.herm_model.specs.Calls.{shape_at, call_parameters, arguments_by}
-use Rattle.herm_model.specs.StatementTable.{set_by_call, kept_by_call, returned, returned_by}
-use Rattle.herm_model.specs.Outcomes.{Outcome, same_outcome}
-use Rattle.herm_model.specs.Nodes.{Target, node, end, end_by, Node, exits}
-use Rattle.herm_model.specs.Values.{a_record, a_table, Cell, Parts, no_parts, gaps, part}
-use Rattle.herm_source.specs.Evaluate.{Evaluated, gives, raises, no_value, evaluate, atom_value, key_values}
-use Rattle.herm_journal.specs.Actions.{values, Want, to_hear, new_port, new_process}
-use Rattle.herm_journal.specs.Actions
-use Rattle.herm_source.specs.Bodies.{Name, Body, Result, goes, stays, stuck, if_there, Taken, counted_step, counted_action}
-use Rattle.herm_source.specs.Forms
-use Rattle.herm_source.specs.Exchanges
-use Rattle.herm_source.specs.Exchanges.{CellWant, CellAction, Composed}
-use Rattle.herm_source.specs.Edges.{Code, arrive, beyond_full, beyond_declared}
+use Rattle.std.specs.Prelude.{ℕ, pred, List, [], ◌∷◌, cond, nat_lt, Option, Some, None, option_map, option_and_then, slice_get, length}
+use Rattle.herm_model.specs.Nodes.{Target, node, end, end_by, Node}
+use Rattle.herm_model.specs.Values.{Cell, gaps, part}
+use Rattle.herm_journal.specs.Actions.{to_hear}
+use Rattle.herm_forms.specs.Bodies.{Name, Body, Result, goes, stays, stuck, counted_step, counted_action}
+use Rattle.herm_forms.specs.Exchanges
+use Rattle.herm_journal.specs.Messages.{CellWant, CellAction}
+use Rattle.herm_forms.specs.Exchanges.{Composed}
+use Rattle.herm_forms.specs.Edges.{Code, arrive}
+use Rattle.herm_system.specs.Machines.{Standing, ended, out_of_steps, local, to_act, greatest_actions}
+use Rattle.herm_forms.specs.Acts.{is_action, leads_to, settle_reply, act, settle, wants}
+
+-- names as they are
+abbrev pub own_name : Name → Name
+own_name n = n
 
 -- The state of a process: the number of its module, its point and its body. Language reference, "Processes".
 pub record State (N : Type 0) : Type 0 where
@@ -70,149 +66,6 @@ item_or (item ∷ work) next = an_item item work
 abbrev pub next_of : {N : Type 0} → Code → State N → Next N
 next_of c s = item_or s.body.work (call_or_statement s.body.call (node_at c s.point))
 
-abbrev pub is_inport : Option Shape → Bool
-is_inport (Some (inport message declared)) = true
-is_inport _ = false
-
--- A statement of these forms is an action, and of the others a local step. Language reference, "Actions".
-abbrev pub is_action : Code → Form → Bool
-is_action c (New x) = is_inport (shape_at c.types c.variables x)
-is_action c (Send x o) = true
-is_action c (Receive x i) = true
-is_action c (Select arms) = true
-is_action c (Call o arguments) = true
-is_action c (Return m) = true
-is_action c (ReturnBy m e) = true
-is_action c (Create o process) = true
-is_action c _ = false
-
--- the fields of the key of the table at a path
-abbrev pub key_fields : Option Shape → List ℕ
-key_fields (Some (rows row key)) = key
-key_fields _ = []
-
-abbrev pub key_at : Code → Path → List ℕ
-key_at c t = key_fields (shape_at c.types c.variables t)
-
--- a new value of a type
-abbrev pub new_value : {N : Type 0} → (Name → N) → Option Shape → Path → Body N → Result N
-new_value name (Some (fields ts)) x b = Forms.new name a_record (gaps (length ts)) x b
-new_value name (Some (rows row key)) x b = Forms.new name a_table no_parts x b
-new_value name _ x b = stuck
-
--- What a local step does, for each form. Language reference, "The statement table".
-abbrev pub act : {N : Type 0} → (Name → N) → Code → (statement : ℕ) → Form → Body N → Result N
-act name c s (Assign x e) b = Forms.with_value (Forms.assign name x) (evaluate b.variables e) b
-act name c s (Move y x) b = Forms.move (beyond_full c y b) y x b
-act name c s (New x) b = new_value name (shape_at c.types c.variables x) x b
-act name c s (Discard x) b = Forms.discard x b
-act name c s (Unite v k y) b = Forms.unite name k (beyond_full c y b) y v b
-act name c s (Dissolve v k y) b = Forms.dissolve k v y b
-act name c s (Reveal v k) b = Forms.reveal k v b
-act name c s (Case v ks) b = Forms.choose v b
-act name c s (Wrap y p) b = if_there (λ t. Forms.wrap name t (beyond_full c y b) y p b) (type_at c.types c.variables y)
-act name c s (Unwrap p t y) b = Forms.unwrap t p y b
-act name c s (Insert r t) b = Forms.insert (key_at c t) (beyond_full c r b) r t b
-act name c s (Remove r t keys) b = if_there (λ k. Forms.remove (key_at c t) k r t b) (key_values b.variables keys)
-act name c s (Get r t keys) b = if_there (λ k. Forms.get name (key_at c t) k r t b) (key_values b.variables keys)
-act name c s (For r t) b = Forms.visit name s r t b
-act name c s (Connect o i) b = Forms.connect name o i b
-act name c s (If e) b = Forms.with_value Forms.tested (evaluate b.variables e) b
-act name c s (While e) b = Forms.with_value Forms.tested (evaluate b.variables e) b
-act name c s (Raise e) b = Forms.raise e b
-act name c s Leave b = Forms.leave b
-act name c s _ b = stuck
-
--- the parameters that the call of an outport gives, their modes, and the arguments by mode
-abbrev pub is_inout : Mode → Bool
-is_inout by_inout = true
-is_inout _ = false
-
-abbrev pub is_out : Mode → Bool
-is_out by_out = true
-is_out _ = false
-
--- a value in front of more
-abbrev pub value_before : Evaluated → Option (Parts ⊤) → Option (Parts ⊤)
-value_before (gives v) more = option_map (part v) more
-value_before (raises e) more = None
-value_before no_value more = None
-
-abbrev pub input_of : Mode → Evaluated → Option (Parts ⊤) → Option (Parts ⊤)
-input_of by_in v more = value_before v more
-input_of by_inout v more = more
-input_of by_out v more = more
-
--- the values of the arguments of mode in, from left to right
-abbrev pub inputs_of : {N : Type 0} → List Parameter → List Atom → Parts N → Option (Parts ⊤)
-inputs_of [] atoms ps = Some no_parts
-inputs_of (p ∷ parameters) [] ps = None
-inputs_of (p ∷ parameters) (a ∷ atoms) ps = input_of p.mode (atom_value ps a) (inputs_of parameters atoms ps)
-
--- the paths of arguments whose parameters have such a mode
-abbrev pub arguments_at : Code → (Mode → Bool) → (port : Path) → List Atom → List Path
-arguments_at c test o arguments = arguments_by test (call_parameters c.types c.variables o) arguments
-
--- the callmessage of a call
-abbrev pub composed : {N : Type 0} → (Name → N) → Code → (port : Path) → List Atom → Body N → Option (Composed N)
-composed name c o arguments b =
-    option_and_then
-    (λ inputs. Exchanges.compose name (map (λ p. p.mode) (call_parameters c.types c.variables o)) inputs
-    (flat_map (λ p. beyond_full c p b) (arguments_at c is_inout o arguments))
-    (arguments_at c is_inout o arguments) b)
-    (inputs_of (call_parameters c.types c.variables o) arguments b.variables)
-
--- the arguments that an exception keeps, and those of mode out that it does not
-abbrev pub kept_at : Code → (port : Path) → List Atom → (exception : ℕ) → List Path
-kept_at c o arguments e = kept_by_call c.types c.variables o arguments e
-
-abbrev pub left_at : Code → (port : Path) → List Atom → (exception : ℕ) → List Path
-left_at c o arguments e = filter (λ p. not (some_of (same_path p) (kept_at c o arguments e))) (arguments_at c is_out o arguments)
-
--- what a return gives back, and what one by an exception does
-abbrev pub given_back : {N : Type 0} → Code → List Path → Body N → Option (Taken N)
-given_back c given b = Exchanges.give_back (flat_map (λ p. beyond_full c p b) given) given b
-
-abbrev pub given_at : Code → (source : Path) → List Path
-given_at c m = returned c.types c.variables m
-
-abbrev pub given_by : Code → (source : Path) → (exception : ℕ) → List Path
-given_by c m e = returned_by c.types c.variables m e
-
--- What a statement that is an action wants. Language reference, "Actions".
-abbrev pub wants : {N : Type 0} → (Name → N) → Code → Form → Body N → Option (CellWant N)
-wants name c (New x) b = Some new_port
-wants name c (Send x o) b = Exchanges.send_wants (beyond_declared c o x b) x o b
-wants name c (Receive x i) b = Exchanges.receive_wants i b
-wants name c (Select arms) b = Exchanges.select_wants (map (λ a. a.port) arms) b
-wants name c (Call o arguments) b = Exchanges.call_wants (composed name c o arguments b) o b
-wants name c (Return m) b = Exchanges.return_wants values (given_back c (given_at c m) b) m b
-wants name c (ReturnBy m e) b = Exchanges.return_wants (Actions.raised e) (given_back c (given_by c m e) b) m b
-wants name c (Create o process) b = Some (new_process process)
-wants name c _ b = None
-
--- What the answer of a statement's action leaves. Language reference, "Actions".
-abbrev pub settle : {N : Type 0} → (Name → N) → Code → Form → (at : ℕ) → CellAction N → Body N → Result N
-settle name c (New x) at action b = Exchanges.new_inport name x action b
-settle name c (Send x o) at action b = Exchanges.send (beyond_declared c o x b) x action b
-settle name c (Receive x i) at action b = Exchanges.receive x action b
-settle name c (Select arms) at action b = Exchanges.select (map (λ a. a.target) arms) (map (λ a. a.port) arms) at action b
-settle name c (Call o arguments) at action b = Exchanges.call (composed name c o arguments b) (arguments_at c is_out o arguments) action
-settle name c (Return m) at action b = Exchanges.return (given_back c (given_at c m) b) m action
-settle name c (ReturnBy m e) at action b = Exchanges.return (given_back c (given_by c m e) b) m action
-settle name c (Create o process) at action b = Exchanges.create name o action b
-settle name c _ at action b = stuck
-
--- what the answer to the open call leaves, at the call's statement
-abbrev pub settle_reply : {N : Type 0} → Code → Form → (call : ℕ) → CellAction N → Body N → Result N
-settle_reply c (Call o arguments) call action b =
-    Exchanges.hear_call (set_by_call c.types c.variables o arguments) (arguments_at c is_out o arguments) (kept_at c o arguments) (left_at c o arguments) call action b
-settle_reply c _ call action b = stuck
-
--- where an outcome of a node leads
-abbrev pub leads_to : Code → Node → Outcome → Option Target
-leads_to c n o = option_map (λ e. e.target) (find (λ e. same_outcome e.outcome o) (exits c.types c.variables n))
-
 -- the state behind a result; none where it is stuck
 abbrev pub behind : {N : Type 0} → Code → State N → Option Node → Result N → Option (State N)
 behind c s n (goes o b) =
@@ -254,38 +107,14 @@ settle_next name c s at action nothing = None
 abbrev pub answered : {N : Type 0} → (Name → N) → Code → State N → (at : ℕ) → CellAction N → Option (State N)
 answered name c s at action = settle_next name c s at action (next_of c s)
 
--- how a process stands; of the two limits the one that it has reached
-pub data Standing : Type 0 where
-  ended : Standing
-  out_of_steps : Standing
-  out_of_actions : Standing
-  waiting : Standing
-  local : Standing
-  acting : Standing
+-- How a process stands under a limit of steps, without a look at the places. Of a next thing that is a step and an action
+-- the limit of steps is looked at first. Language reference, "Processes".
+abbrev pub ready_for : {N : Type 0} → Code → (limit : ℕ) → Body N → Next N → Standing
+ready_for c limit b nothing = ended
+ready_for c limit b (an_item item work) = to_act (nat_lt b.actions greatest_actions)
+ready_for c limit b (a_reply call n) = to_act (nat_lt b.actions greatest_actions)
+ready_for c limit b (a_statement n) =
+    cond (nat_lt b.steps limit) (cond (is_action c n.form) (to_act (nat_lt b.actions greatest_actions)) local) out_of_steps
 
-abbrev pub greatest_actions : ℕ
-greatest_actions = 16384
-
--- whether what is wanted can be done, by a test
-abbrev pub can_be_done : {N : Type 0} → (CellWant N → Bool) → Option (CellWant N) → Bool
-can_be_done can None = true
-can_be_done can (Some w) = can w
-
--- an action is next: its limit is looked at first, and then whether it can be done
-abbrev pub standing_to_act : (actions : ℕ) → Bool → Standing
-standing_to_act actions can = cond (nat_lt actions greatest_actions) (cond can acting waiting) out_of_actions
-
--- How a process stands, where the limit of steps is this, and a test says of a take whether one of its ports has a
--- message, of a hearing whether the reply is there, and holds of every other want. Of a next thing that is a step
--- and an action the limit of steps is looked at first. Language reference, "Processes".
-abbrev pub standing_at : {N : Type 0} → (Name → N) → Code → (limit : ℕ) → (CellWant N → Bool) → Body N → Next N → Standing
-standing_at name c limit can b nothing = ended
-standing_at name c limit can b (an_item item work) = standing_to_act b.actions true
-standing_at name c limit can b (a_reply call n) = standing_to_act b.actions (can to_hear)
-standing_at name c limit can b (a_statement n) =
-    cond (nat_lt b.steps limit)
-    (cond (is_action c n.form) (standing_to_act b.actions (can_be_done can (wants name c n.form b))) local)
-    out_of_steps
-
-abbrev pub standing : {N : Type 0} → (Name → N) → Code → (limit : ℕ) → (CellWant N → Bool) → State N → Standing
-standing name c limit can s = standing_at name c limit can s.body (next_of c s)
+abbrev pub ready_in : {N : Type 0} → Code → (limit : ℕ) → State N → Standing
+ready_in c limit s = ready_for c limit s.body (next_of c s)

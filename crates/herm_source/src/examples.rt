@@ -1,9 +1,11 @@
 // Runs of small programs, computed from the definitions. The comments on the programs have them as they are written.
 
 ghost use Rattle.std.specs.Prelude.{◌≡◌, List, [], ◌∷◌, Some, codes};
-ghost use Rattle.herm_source.specs.Statuses.{plainly, with_summary, the_journal};
+ghost use Rattle.herm_system.specs.Statuses.{plainly, with_summary, the_journal};
 ghost use Rattle.herm_source.specs.Programs.{calls_both_ways, deep_polymorph, discarded_call, empty_body, greeting, idle_process, kept_parameter, left_loop, one_branch, one_too_many, own_queue, port_in_message, ports_until_full, refused_insert, returned_call, two_senders, untaken_call, waiting_select};
-ghost use Rattle.herm_source.specs.Examples.{ending, limited, in_lines};
+ghost use Rattle.std.specs.Prelude.{ℤ};
+ghost use Rattle.herm_source.specs.Examples.{console_with, ending, limited, in_lines, ready_program};
+ghost use Rattle.herm_source.specs.Instance.{IsSound};
 
 /// A greeting is one line on the console, and four of the six cells are finalised.
 pub fn greeting_is_shown()
@@ -275,4 +277,9 @@ pub fn items_come_in_order()
           ∷ codes "summary: steps 97 actions 25"
           ∷ codes "summary: cells made 59 held 1 queued 1 finalised 57" ∷ []);
     }) }
+{}
+
+/// A state in which an integer is queued at the console is not sound: the console takes strings.
+pub fn integers_at_the_console_are_unsound()
+    ensures refused { (n : ℤ) → IsSound (ready_program greeting) (console_with n) → ⊥ }
 {}

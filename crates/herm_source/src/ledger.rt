@@ -1,11 +1,6 @@
 // Laws of the ledger for one process.
 
-ghost use Rattle.herm_source.specs.Kept.{EdgesKeep, BeginningsKeep, LocalStepsKeep, AnswersKeep};
-
-/// An edge finalises what it drops and makes nothing, of every form and in every state.
-pub fn edges_keep_the_ledger()
-    ensures edges { EdgesKeep }
-{}
+ghost use Rattle.herm_source.specs.Kept.{BeginningsKeep, LocalStepsKeep, AnswersKeep};
 
 /// A process that begins holds or has finalised nothing but its port.
 pub fn beginnings_keep_the_ledger()

@@ -1,18 +1,11 @@
-// What a Hermes program does: processes and their steps, ports, reply cells and the book, the system, journals and
-// runs, the ledger, sound states, statuses, and what is claimed of a run. The definitions stand in specs/; the
-// functions here are laws about them.
+// The source machine: processes of the language and their steps, what is sound within a process, and what is claimed of a
+// run. The definitions stand in specs/; the functions here are laws about them.
 #![tactic(auto)]
 
 pub mod arrival;
-pub mod calls;
-pub mod components;
 pub mod examples;
-pub mod exceptions;
-pub mod expressions;
 pub mod forgetting;
-pub mod journals;
 pub mod ledger;
+pub mod machine;
 pub mod needs;
 pub mod runs;
-pub mod suits;
-pub mod targets;

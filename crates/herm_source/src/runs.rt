@@ -1,78 +1,93 @@
-// Laws of places, rounds and journals.
+// Laws of runs of the source machine, for any modules: each is the law over any machine (herm_runs), which the source machine
+// meets.
 
-ghost use Rattle.herm_source.specs.Laws.{DoneFits, RecordsFit, RecordsLead, RoundsAreRuns, RoundsAreFinal, RunsAreStamped, RunsAreJournals, RunsKeepLedger, LedgerAlong, RunsAreNumbered, NamesAreMadeOnce, LocalStepsStay, AnswersStay, HistoriesTell};
-ghost use Rattle.herm_source.specs.DiaryLaws.{DiariesTell};
-
-/// What is done of what a process wants fits what is at the place.
-pub fn done_fits()
-    ensures fits { DoneFits }
-{}
-
-/// An action that fits what is at a place, recorded, fits what the place's history tells, and leads to what it tells
-/// then: so a place with cells and its history speak of one object.
-pub fn records_tell()
-    ensures fits { RecordsFit }
-    ensures leads { RecordsLead }
-{}
+ghost use Rattle.herm_runs.specs.OrderLaws.{OrderedJournalsAreRuns};
+ghost use Rattle.herm_runs.specs.RunLaws.{HistoriesTell, LedgerAlong, NamesAreMadeOnce, RoundsAreFinal, RoundsAreRuns, RunsAreJournals, RunsAreNumbered, RunsAreStamped, RunsKeepLedger};
+ghost use Rattle.herm_source.specs.Instance.{source};
+ghost use Rattle.herm_source.specs.Modules.{Modules};
+ghost use Rattle.herm_source.specs.RunLaws.{SourceDescribedDiariesTell, SourceDiariesTell, SourceRunsSuit, SourceSoundDiariesTell, SourceStatesSuit};
 
 /// The schedule of one worker is one of the schedules: what rounds lead to is led to by a list of events.
 pub fn rounds_are_runs()
-    ensures runs { RoundsAreRuns }
+    ensures runs { (modules : Modules) → RoundsAreRuns (source modules) }
 {}
 
-/// Rounds end where no process can step.
+/// Where a number of rounds suffices, rounds end where no process can step.
 pub fn rounds_are_final()
-    ensures final_ { RoundsAreFinal }
+    ensures final_ { (modules : Modules) → RoundsAreFinal (source modules) }
 {}
 
 /// Each entry of a run's journal has the stamp that the entries before it give, by the clocks of its process and of
 /// its place.
 pub fn runs_are_stamped()
-    ensures stamped { RunsAreStamped }
+    ensures stamped { (modules : Modules) → RunsAreStamped (source modules) }
 {}
 
 /// Whatever the schedule, the entries of a run in order are a journal that fits the run's diaries and histories.
 pub fn runs_are_journals()
-    ensures fits { RunsAreJournals }
+    ensures fits { (modules : Modules) → RunsAreJournals (source modules) }
+{}
+
+/// Whatever the schedule, the entries in order are themselves the journal of a run, from the same opening state to the
+/// same state.
+pub fn ordered_journals_are_runs()
+    ensures runs { (modules : Modules) → OrderedJournalsAreRuns (source modules) }
 {}
 
 /// Whatever the schedule, every state of a run has the ledger: what was made is what is held, queued and finalised, by
 /// every weight of names. So no cell is lost, and none has two holders.
 pub fn runs_keep_ledger()
-    ensures ledger { RunsKeepLedger }
+    ensures ledger { (modules : Modules) → RunsKeepLedger (source modules) }
 {}
 
 /// Whatever the schedule, the numbers of a run agree: each process has its number and its module, and a reply cell;
 /// the book has counted what was made.
 pub fn runs_are_numbered()
-    ensures numbered { RunsAreNumbered }
+    ensures numbered { (modules : Modules) → RunsAreNumbered (source modules) }
 {}
 
 /// Where numbers agree no name was made twice: so by the ledger's equation each cell that was made is held, queued or
 /// finalised exactly once.
 pub fn names_are_made_once()
-    ensures once { NamesAreMadeOnce }
+    ensures once { (modules : Modules) → NamesAreMadeOnce (source modules) }
 {}
 
 /// So along every journal each cell that was made is held, queued or finalised exactly once, whatever the modules.
 pub fn ledger_along_journals()
-    ensures ledger { LedgerAlong }
-{}
-
-/// A process keeps its number and its module.
-pub fn processes_stay()
-    ensures local_steps { LocalStepsStay }
-    ensures answers { AnswersStay }
+    ensures ledger { (modules : Modules) → LedgerAlong (source modules) }
 {}
 
 /// Whatever the schedule, in every state of a run the entries at a place are a legal history and tell what it holds: a
 /// port's messages, a reply cell's replies, the book's counts.
 pub fn histories_tell()
-    ensures told { HistoriesTell }
+    ensures told { (modules : Modules) → HistoriesTell (source modules) }
 {}
 
 /// Whatever the schedule, where each message and reply that comes in suits its process, every process of a run is what
 /// its diary says, but for the names of its cells.
 pub fn diaries_tell()
-    ensures told { DiariesTell }
+    ensures told { SourceDiariesTell }
+{}
+
+/// In a sound state each message and reply that comes in suits its process: a message is one of the port's type with
+/// exactly the declared facts, a reply is one that the open call waits for.
+pub fn sound_states_suit()
+    ensures suits { SourceStatesSuit }
+{}
+
+/// So what comes in suits along every run through sound states.
+pub fn sound_runs_suit()
+    ensures suits { SourceRunsSuit }
+{}
+
+/// Whatever the schedule, along a run through sound states every process is what its diary says, but for the names of
+/// its cells.
+pub fn sound_diaries_tell()
+    ensures told { SourceSoundDiariesTell }
+{}
+
+/// So where a report describes a run of accepted modules, every process of its final state is what its diary in the
+/// reported journal says, but for the names of its cells.
+pub fn described_diaries_tell()
+    ensures told { SourceDescribedDiariesTell }
 {}

@@ -6,17 +6,16 @@ use Rattle.herm_model.specs.Paths.{Fact, init}
 use Rattle.herm_model.specs.Types.{predefined}
 use Rattle.herm_model.specs.Nodes.{node}
 use Rattle.herm_model.specs.Values.{Cell, tells}
-use Rattle.herm_model.specs.Control.{Flow, flow_of, held_at_start}
+use Rattle.herm_model.specs.Control.{Flow, flow_of, held_at_start, Point, Holds}
 use Rattle.herm_model.specs.Refusals.{AreExact, IsMissing, IsAccepted, AreRefusals, none, missing, holds, Demand, demands, demands_at, Refusal}
 use Rattle.herm_model.specs.Lists.{IsIn, numbered}
-use Rattle.herm_model.specs.Control.{Point, Holds}
 use Rattle.herm_model.proofs.Walks.{walk-common}
 use Rattle.herm_model.proofs.FactTests.{numbered-IsIn}
 use Rattle.herm_model.proofs.Lists.{in-map, in-flat_map}
-use Rattle.herm_source.specs.Bodies.{Name}
+use Rattle.herm_forms.specs.Bodies.{Name}
 use Rattle.herm_journal.specs.Entries.{Text}
-use Rattle.herm_source.specs.Edges.{code_of}
-use Rattle.herm_source.specs.Systems.{Modules}
+use Rattle.herm_forms.specs.Edges.{code_of}
+use Rattle.herm_source.specs.Modules.{Modules}
 use Rattle.herm_source.specs.Headline.{AreAccepted}
 use Rattle.herm_compile.specs.Form.{IsLine, IsBody, IsProgram}
 use Rattle.herm_compile.specs.Reading.{IsNumbered}

@@ -11,12 +11,13 @@ use Rattle.herm_journal.specs.Places.{Limits}
 use Rattle.herm_journal.specs.Entries.{Text, Entry, port}
 use Rattle.herm_journal.specs.Journals.{entry_behind}
 use Rattle.herm_journal.specs.Actions.{close}
-use Rattle.herm_source.specs.Bodies.{Name, Body, drop, drop_at}
-use Rattle.herm_source.specs.Edges.{Code, arrive, leave_loops, keeps, keeps_loop}
-use Rattle.herm_source.specs.States.{greatest_actions}
-use Rattle.herm_source.specs.Systems.{run_on, acts, main_port}
+use Rattle.herm_forms.specs.Bodies.{Name, Body, drop, drop_at}
+use Rattle.herm_forms.specs.Edges.{Code, arrive, leave_loops, keeps, keeps_loop}
+use Rattle.herm_system.specs.Machines.{greatest_actions}
+use Rattle.herm_system.specs.Systems.{run_on, acts, main_port}
 use Rattle.herm_world.proofs.Slots.{Made, Slots, string_cell, strings_of, slot_at, part-slot}
 use Rattle.herm_world.proofs.Progress.{types_of, code_with, modules_with, Progress, body_of, body_at, variables_with, open_port, system_with, run_with}
+use Rattle.herm_source.specs.Instance.{source}
 
 -- between lines nothing is dropped, since what is there is kept
 
@@ -127,7 +128,7 @@ module _ (nodes : List Node) (label : ℕ → Fact → Bool) (arg : Text) where
 
 -- the port is closed
 pub close-run : (c : Code) (limits : Limits) (v : Parts Name) (s a m : ℕ) (f : List Name) (queue : List (ℕ × Cell Name)) (placed : ℕ) (journal : List Entry) → nat_lt a greatest_actions ≡ true →
-    run_on (modules_with c) (acts 1 (port 1)) (run_with limits end (ending v s a m f) queue placed journal)
+    run_on (source (modules_with c)) (acts 1 (port 1)) (run_with limits end (ending v s a m f) queue placed journal)
     ≡ Some (record {
       system = system_with limits end (body_of v [] s (suc a) m ((f ++ (0, 1) ∷ []) ++ [])) (open_port queue placed ∷ record { is_open = false; queue = []; placed = 1 } ∷ []);
       journal = journal ++ entry_behind journal 1 (port 1) (close 0 []) ∷ [];

@@ -4,15 +4,19 @@ use Rattle.std.proofs.Common.{◌≡◌, ℕ, List, [], ◌∷◌, inl, inr, ref
 use Rattle.herm_model.specs.Statements.{Process, goes_on, branching_of, IsWellFormedBlock}
 use Rattle.herm_journal.specs.Places.{Limits}
 use Rattle.herm_journal.specs.Entries.{Text, Entry}
-use Rattle.herm_source.specs.Systems.{Modules, System, opening}
-use Rattle.herm_source.specs.Sound.{IsSound}
-use Rattle.herm_source.specs.Headline.{AreAccepted, IsAlong, FindsNeeds}
+use Rattle.herm_source.specs.Modules.{Modules}
+use Rattle.herm_system.specs.Systems.{System, opening}
+use Rattle.herm_source.specs.Instance.{IsSound, source}
+use Rattle.herm_source.specs.Headline.{AreAccepted, FindsNeeds}
+use Rattle.herm_system.specs.Reports.{IsAlong}
 use Rattle.herm_source.specs.NeedsLaws.{HasWellFormedBodies}
 use Rattle.herm_source.proofs.reached.RunsReach.{along-finds}
 use Rattle.herm_compile.specs.Straight.{form_of, body_of}
 use Rattle.herm_compile.specs.declared.compiled.Line.{Line}
 use Rattle.herm_compile.specs.declared.compiled.Line.TheVariants
 use Rattle.herm_world.specs.StraightRuns.{program_of}
+use Rattle.herm_source.specs.States.{State}
+use Rattle.herm_model.specs.Values.{Name}
 
 -- a line has no blocks
 form-goes_on : (line : Line) → branching_of (form_of line) ≡ goes_on
@@ -29,6 +33,6 @@ bodies-formed : (count : ℕ) (lines : List Line) → HasWellFormedBodies (progr
 bodies-formed count lines process (inl e) = subst (λ (p : Process). IsWellFormedBlock p.body) (sym e) (lines-formed lines)
 bodies-formed count lines process (inr h) = absurd h
 
-pub lines-find : (count : ℕ) (lines : List Line) (modules : Modules) (limits : Limits) (arg : Text) (journal : List Entry) (s : System) → AreAccepted (program_of count lines) modules
-    → IsAlong modules (opening modules limits arg) journal s → IsSound modules s → FindsNeeds modules s
+pub lines-find : (count : ℕ) (lines : List Line) (modules : Modules) (limits : Limits) (arg : Text) (journal : List Entry) (s : System (State Name)) → AreAccepted (program_of count lines) modules
+    → IsAlong (source modules) (opening (source modules) limits arg) journal s → IsSound modules s → FindsNeeds modules s
 lines-find count lines modules limits arg journal s accepted along sound = along-finds (program_of count lines) modules limits arg journal s accepted (bodies-formed count lines) along sound

@@ -1,87 +1,100 @@
 -- A straight-line program has one run: at each state along it one event alone can be. What holds of each of its states
 -- therefore holds of every state that can be reached.
 use Rattle.std.specs.Prelude.{⊤}
-use Rattle.std.proofs.Common.{◌≡◌, ◌<◌, ◌≤◌, ℕ, zero, suc, ◌+◌, List, [], ◌∷◌, ◌++◌, map, Bool, true, false, Option, Some, length, nat_lt, slice_get, refl, sym, ap, subst, ◌∙◌, arith}
+use Rattle.std.proofs.Common.{◌≡◌, ◌<◌, ◌≤◌, ℕ, zero, suc, ◌+◌, List, [], ◌∷◌, ◌++◌, map, Bool, true, false, Option, Some, length, nat_lt, slice_get, refl, sym, ap, subst, ◌∙◌, arith, true≢false, option_and_then}
 use Rattle.std.proofs.lemmas.Bool.{lt-ltb}
 use Rattle.herm_model.specs.Paths.{Fact}
-use Rattle.herm_model.specs.Nodes.{node, end, Node}
-use Rattle.herm_model.specs.Values.{Cell, Parts}
+use Rattle.herm_model.specs.Nodes.{node, end, Node, Target}
+use Rattle.herm_model.specs.Values.{Cell, Parts, gap, gaps, tells}
 use Rattle.herm_journal.specs.Actions.{to_put}
 use Rattle.herm_journal.specs.Places.{Limits}
-use Rattle.herm_journal.specs.Entries.{Text, Entry, port, reply_cell, book}
-use Rattle.herm_source.specs.Bodies.{Name}
-use Rattle.herm_source.specs.States.{is_action, wants, greatest_actions}
-use Rattle.herm_source.specs.Systems.{Modules, Run, run, run_on, Event, steps, acts, own_name}
-use Rattle.herm_source.proofs.Events.{chain-some, some-injective, none-not_some}
+use Rattle.herm_journal.specs.Entries.{Text, Entry, port, reply_cell, book, Place, same_place}
+use Rattle.herm_forms.specs.Bodies.{Name}
+use Rattle.herm_forms.specs.Acts.{is_action, wants}
+use Rattle.herm_system.specs.Machines.{greatest_actions, is_local, is_acting}
+use Rattle.herm_source.specs.Modules.{Modules}
+use Rattle.herm_system.specs.Systems.{Run, run, run_on, Event, steps, acts, System, start, Moved, step, numbered_from_one, local_event, places_for, stands, action_event, act_at, can_be_done, can}
+use Rattle.herm_source.specs.States.{own_name, State, ready_in}
+use Rattle.herm_model.proofs.Options.{chain-some, some-injective, none-not_some, map-some}
 use Rattle.std.specs.List.{AllByRecursion}
-use Rattle.herm_model.specs.Nodes.{Target}
-use Rattle.herm_model.specs.Values.{gap, gaps}
-use Rattle.herm_source.specs.Edges.{Code, arrive}
+use Rattle.herm_forms.specs.Edges.{Code, arrive}
 use Rattle.herm_compile.specs.Form.{IsLine}
 use Rattle.herm_compile.specs.declared.compiled.Line.{Line}
 use Rattle.herm_compile.specs.declared.compiled.Line.TheVariants
-use Rattle.herm_world.specs.Lines.{FindsStrings}
-use Rattle.herm_world.proofs.Slots.{string_cell, values_of, slot-found}
-use Rattle.herm_world.proofs.Progress.{Progress, node_for, variables_with, body_at, run_at, arrived, event_of, after_line, wants-send}
+use Rattle.herm_world.specs.Lines.{FindsStrings, sent_from}
+use Rattle.herm_world.proofs.Slots.{string_cell, values_of, slot-found, empty_slots, length-empty}
+use Rattle.herm_world.proofs.Progress.{Progress, node_for, variables_with, body_at, run_at, arrived, event_of, after_line, wants-send, code_with, modules_with, body_of, run_with, state_of}
 use Rattle.herm_world.proofs.Ends.{arrive-end, ending, close-run}
-use Rattle.herm_world.proofs.StraightRun.{HaveNodes, HaveLabels, Able, able, behind-line, line-step, arrived-kept, first_run}
-use Rattle.herm_world.proofs.StraightDone.{final_system, final_journal}
-use Rattle.herm_model.specs.Values.{tells}
-use Rattle.herm_source.specs.Systems.{System, start}
-use Rattle.herm_world.specs.Lines.{sent_from}
+use Rattle.herm_world.proofs.StraightRun.{HaveNodes, HaveLabels, Able, able, behind-line, line-step, arrived-kept, first_run, after_lines, received, start-is, take-run}
+use Rattle.herm_world.proofs.StraightDone.{final_system, final_journal, AreSet, all_events, lines-end, none-steps, by-lines}
 use Rattle.herm_world.specs.StraightRuns.{journal_of, GoesOnTo, StraightLinesHaveOneRun}
-use Rattle.herm_world.proofs.Slots.{empty_slots, length-empty}
-use Rattle.herm_world.proofs.StraightRun.{after_lines, received, start-is, take-run}
 use Rattle.herm_world.proofs.StraightFacts.{before_receive}
 use Rattle.herm_world.proofs.Apart.{not-zero, far-one}
 use Rattle.herm_world.proofs.HeldTexts.{AreTexts, AreQueued}
 use Rattle.herm_world.proofs.KeptTexts.{texts-empty, texts-kept, queued-kept}
-use Rattle.herm_world.proofs.StraightDone.{AreSet, all_events, lines-end, none-steps, by-lines}
-use Rattle.herm_world.proofs.Progress.{code_with, modules_with, body_of, run_with}
+use Rattle.herm_source.specs.Instance.{source}
+use Rattle.herm_journal.specs.Messages.{CellWant}
+use Rattle.herm_model.specs.Lists.{some_of}
+use Rattle.herm_runs.proofs.Stands.{cond-both, stands-as, seen-local}
 
 -- no event but this one can be
-abbrev pub Only : Modules → Event → Run → Type 0
-Only modules e r = (x : Event) (t : Run) → run_on modules x r ≡ Some t → x ≡ e
+abbrev pub Only : Modules → Event → Run (State Name) → Type 0
+Only modules e r = (x : Event) (t : Run (State Name)) → run_on (source modules) x r ≡ Some t → x ≡ e
 
 -- no event can be
-abbrev pub NoneGoes : Modules → Run → Type 0
-NoneGoes modules r = (x : Event) (t : Run) → run_on modules x r ≡ Some t → ⊥
+abbrev pub NoneGoes : Modules → Run (State Name) → Type 0
+NoneGoes modules r = (x : Event) (t : Run (State Name)) → run_on (source modules) x r ≡ Some t → ⊥
 
 -- at each state along these events the next one alone can be, and none behind them; and each state is as said
-abbrev pub OnlyAlong : Modules → (System → Type 0) → List Event → Run → Type 0
+abbrev pub OnlyAlong : Modules → (System (State Name) → Type 0) → List Event → Run (State Name) → Type 0
 OnlyAlong modules IsSo [] r = IsSo r.system × NoneGoes modules r
-OnlyAlong modules IsSo (e ∷ events) r = IsSo r.system × Only modules e r × ((t : Run) → run_on modules e r ≡ Some t → OnlyAlong modules IsSo events t)
+OnlyAlong modules IsSo (e ∷ events) r = IsSo r.system × Only modules e r × ((t : Run (State Name)) → run_on (source modules) e r ≡ Some t → OnlyAlong modules IsSo events t)
 
-here-so : (modules : Modules) (IsSo : System → Type 0) (events : List Event) (r : Run) → OnlyAlong modules IsSo events r → IsSo r.system
+here-so : (modules : Modules) (IsSo : System (State Name) → Type 0) (events : List Event) (r : Run (State Name)) → OnlyAlong modules IsSo events r → IsSo r.system
 here-so modules IsSo [] r only = only.0
 here-so modules IsSo (e ∷ events) r only = only.0
 
 -- every run from there is a beginning of the one along these events
-pub begins : (modules : Modules) (IsSo : System → Type 0) (events : List Event) (r final : Run) → OnlyAlong modules IsSo events r → run modules events r ≡ Some final → (xs : List Event) (t : Run) → run modules xs r ≡ Some t
-    → (rest : List Event) × (run modules rest t ≡ Some final)
-begins modules IsSo events r final only whole [] t e = (events, ap (run modules events) (sym (some-injective e)) ∙ whole)
+pub begins : (modules : Modules) (IsSo : System (State Name) → Type 0) (events : List Event) (r final : Run (State Name)) → OnlyAlong modules IsSo events r → run (source modules) events r ≡ Some final → (xs : List Event) (t : Run (State Name)) → run (source modules) xs r ≡ Some t
+    → (rest : List Event) × (run (source modules) rest t ≡ Some final)
+begins modules IsSo events r final only whole [] t e = (events, ap (run (source modules) events) (sym (some-injective e)) ∙ whole)
 begins modules IsSo [] r final only whole (x ∷ xs) t e =
-    let b = chain-some (run modules xs) (run_on modules x r) t e in absurd (only.1 x b.0 b.1)
+    let b = chain-some (run (source modules) xs) (run_on (source modules) x r) t e in absurd (only.1 x b.0 b.1)
 begins modules IsSo (y ∷ events) r final only whole (x ∷ xs) t e =
-    let b = chain-some (run modules xs) (run_on modules x r) t e in
+    let b = chain-some (run (source modules) xs) (run_on (source modules) x r) t e in
     let same : x ≡ y = only.1 x b.0 b.1 in
-    let here : run_on modules y r ≡ Some b.0 = subst (λ z. run_on modules z r ≡ Some b.0) same b.1 in
-    let w = chain-some (run modules events) (run_on modules y r) final whole in
+    let here : run_on (source modules) y r ≡ Some b.0 = subst (λ z. run_on (source modules) z r ≡ Some b.0) same b.1 in
+    let w = chain-some (run (source modules) events) (run_on (source modules) y r) final whole in
     let met : w.0 ≡ b.0 = some-injective (sym w.1 ∙ here) in
-    begins modules IsSo events b.0 final (only.2 b.0 here) (subst (λ z. run modules events z ≡ Some final) met w.2) xs t b.2
+    begins modules IsSo events b.0 final (only.2 b.0 here) (subst (λ z. run (source modules) events z ≡ Some final) met w.2) xs t b.2
 
 -- every state that can be reached from there is as said
-pub everywhere : (modules : Modules) (IsSo : System → Type 0) (events : List Event) (r : Run) → OnlyAlong modules IsSo events r → (xs : List Event) (t : Run) → run modules xs r ≡ Some t → IsSo t.system
-everywhere modules IsSo events r only [] t e = subst (λ (x : Run). IsSo x.system) (some-injective e) (here-so modules IsSo events r only)
+pub everywhere : (modules : Modules) (IsSo : System (State Name) → Type 0) (events : List Event) (r : Run (State Name)) → OnlyAlong modules IsSo events r → (xs : List Event) (t : Run (State Name)) → run (source modules) xs r ≡ Some t → IsSo t.system
+everywhere modules IsSo events r only [] t e = subst (λ (x : Run (State Name)). IsSo x.system) (some-injective e) (here-so modules IsSo events r only)
 everywhere modules IsSo [] r only (x ∷ xs) t e =
-    let b = chain-some (run modules xs) (run_on modules x r) t e in absurd (only.1 x b.0 b.1)
+    let b = chain-some (run (source modules) xs) (run_on (source modules) x r) t e in absurd (only.1 x b.0 b.1)
 everywhere modules IsSo (y ∷ events) r only (x ∷ xs) t e =
-    let b = chain-some (run modules xs) (run_on modules x r) t e in
+    let b = chain-some (run (source modules) xs) (run_on (source modules) x r) t e in
     let same : x ≡ y = only.1 x b.0 b.1 in
-    let here : run_on modules y r ≡ Some b.0 = subst (λ z. run_on modules z r ≡ Some b.0) same b.1 in
+    let here : run_on (source modules) y r ≡ Some b.0 = subst (λ z. run_on (source modules) z r ≡ Some b.0) same b.1 in
     everywhere modules IsSo events b.0 (only.2 b.0 here) xs t b.2
 
-abbrev a_run : Run → Option Run
+-- an action is done only at a place where what is wanted may be done
+wrong-place : (modules : Modules) (p : ℕ) (place : Place) (s : System (State Name)) (state : State Name) (w : CellWant Name) (m : Moved (State Name)) → numbered_from_one p s.processes ≡ Some state → (source modules).wanted state ≡ Some w
+    → some_of (same_place place) (places_for p w) ≡ false → action_event (source modules) p place s ≡ Some m → ⊥
+wrong-place modules p place s state w m is wants wrong e =
+    let acting = cond-both (stands is_acting (source modules) s p) _ m e in
+    let here = sym (ap (option_and_then (λ x. option_and_then (act_at (source modules) p place s x) ((source modules).wanted x))) is ∙ ap (option_and_then (act_at (source modules) p place s state)) wants) ∙ acting.1 in
+    true≢false (sym (cond-both (some_of (same_place place) (places_for p w)) _ m here).0 ∙ wrong)
+
+-- a local step is done only where one is next
+not-next : (modules : Modules) (p : ℕ) (s : System (State Name)) (state : State Name) (m : Moved (State Name)) → numbered_from_one p s.processes ≡ Some state → is_local ((source modules).ready s.book.limits.steps state) ≡ false
+    → local_event (source modules) p s ≡ Some m → ⊥
+not-next modules p s state m is ready e =
+    let here = cond-both (stands is_local (source modules) s p) _ m e in
+    true≢false (sym here.0 ∙ stands-as is_local (source modules) s p state is ∙ seen-local ((source modules).ready s.book.limits.steps state) (can_be_done (can s p) ((source modules).wanted state)) ∙ ready)
+
+abbrev a_run : Run (State Name) → Option (Run (State Name))
 a_run r = Some r
 
 module _ (count : ℕ) (nodes : List Node) (label : ℕ → Fact → Bool) (limits : Limits) (arg : Text) where
@@ -105,16 +118,30 @@ module _ (count : ℕ) (nodes : List Node) (label : ℕ → Fact → Bool) (limi
       → Only modules (acts 1 (port 0)) (run_with limits (node i) (body_of v [] s a m f) queue placed journal)
   only-put i n v s a m f x queue placed journal here below fewer acting wanted (steps zero) t e = none-not_some e
   only-put i n v s a m f x queue placed journal here below fewer acting wanted (steps (suc zero)) t e =
-      let g = rw (here, below, acting, wanted, fewer) at e in none-not_some g
+      let r : Run (State Name) = run_with limits (node i) (body_of v [] s a m f) queue placed journal in
+      let k = map-some _ (step (source modules) (steps 1) r.system) t e in
+      let ready : is_local (ready_in (code_with count nodes label) limits.steps (state_of (node i) (body_of v [] s a m f))) ≡ false = rw (here, below, acting, fewer) refl in
+      absurd (not-next modules 1 r.system (state_of (node i) (body_of v [] s a m f)) k.0 refl ready k.1)
   only-put i n v s a m f x queue placed journal here below fewer acting wanted (steps (suc (suc k))) t e = none-not_some e
   only-put i n v s a m f x queue placed journal here below fewer acting wanted (acts zero place) t e = none-not_some e
-  only-put i n v s a m f x queue placed journal here below fewer acting wanted (acts (suc zero) (port zero)) t e = refl
-  only-put i n v s a m f x queue placed journal here below fewer acting wanted (acts (suc zero) (port (suc k))) t e =
-      let g = rw (here, below, acting, wanted, fewer, not-zero k) at e in none-not_some g
-  only-put i n v s a m f x queue placed journal here below fewer acting wanted (acts (suc zero) (reply_cell q)) t e =
-      let g = rw (here, below, acting, wanted, fewer) at e in none-not_some g
-  only-put i n v s a m f x queue placed journal here below fewer acting wanted (acts (suc zero) book) t e =
-      let g = rw (here, below, acting, wanted, fewer) at e in none-not_some g
+  only-put i n v s a m f x queue placed journal here below fewer acting wanted (acts (suc zero) place) t e = by_place place e
+    where
+      r : Run (State Name)
+      r = run_with limits (node i) (body_of v [] s a m f) queue placed journal
+
+      wants_it : (source modules).wanted (state_of (node i) (body_of v [] s a m f)) ≡ Some (to_put 0 x)
+      wants_it = rw (here, acting) wanted
+
+      at_wrong : (place : Place) → some_of (same_place place) (port 0 ∷ []) ≡ false → run_on (source modules) (acts 1 place) r ≡ Some t → acts 1 place ≡ acts 1 (port 0)
+      at_wrong place wrong e =
+          let k = map-some _ (step (source modules) (acts 1 place) r.system) t e in
+          absurd (wrong-place modules 1 place r.system (state_of (node i) (body_of v [] s a m f)) (to_put 0 x) k.0 refl wants_it wrong k.1)
+
+      by_place : (place : Place) → run_on (source modules) (acts 1 place) r ≡ Some t → acts 1 place ≡ acts 1 (port 0)
+      by_place (port zero) e = refl
+      by_place (port (suc k)) e = at_wrong (port (suc k)) (ap (λ b. Rattle.std.specs.Prelude.◌||◌ b false) (not-zero k)) e
+      by_place (reply_cell q) e = at_wrong (reply_cell q) refl e
+      by_place book e = at_wrong book refl e
   only-put i n v s a m f x queue placed journal here below fewer acting wanted (acts (suc (suc k)) place) t e = none-not_some e
 
 only-close : (c : Code) (limits : Limits) (v : Parts Name) (s a m : ℕ) (f : List Name) (queue : List (ℕ × Cell Name)) (placed : ℕ) (journal : List Entry) → nat_lt a greatest_actions ≡ true
@@ -146,7 +173,7 @@ module _ (count : ℕ) (nodes : List Node) (label : ℕ → Fact → Bool) (limi
   close_event = acts 1 (port 1)
 
   -- what is so in the opening state, between lines, at the end before the port is closed, and in the final state
-  pub record IsSoThroughout (IsSo : System → Type 0) : Type 0 where
+  pub record IsSoThroughout (IsSo : System (State Name) → Type 0) : Type 0 where
     pub opening : ((f : Fact) → label 0 f ≡ tells (before_receive (empty_slots count)) f) → IsSo (first_run count nodes label limits arg).system
     pub between : (i : ℕ) (p : Progress) → ((f : Fact) → label i f ≡ tells (variables_with arg p.slots) f) → length p.slots ≡ count → AreTexts p.slots → AreQueued p.queue
         → IsSo (run_at limits arg (node i) p).system
@@ -178,7 +205,7 @@ module _ (count : ℕ) (nodes : List Node) (label : ℕ → Fact → Bool) (limi
   only-line i (TheVariants.Discard k) t p here below fewer h able =
       only-local count nodes label limits arg i (node_for i (TheVariants.Discard k) t) (variables_with arg p.slots) p.steps p.actions p.serial p.finalised p.queue p.placed p.journal here below refl
 
-  module _ (IsSo : System → Type 0) (so : IsSoThroughout IsSo) where
+  module _ (IsSo : System (State Name) → Type 0) (so : IsSoThroughout IsSo) where
     end-only : (p : Progress) → length p.slots ≡ count → AreQueued p.queue → p.actions < greatest_actions → OnlyAlong here_modules IsSo (close_event ∷ []) (arrived (code_with count nodes label) limits arg end p)
     end-only p size queued fewer =
         let ends = subst (λ n. (g : List Name) × (arrive (code_with n nodes label) end (body_at arg p) ≡ ending (gap (gap (gaps (length p.slots)))) p.steps p.actions p.serial g)) size (arrive-end nodes label arg p) in
@@ -215,14 +242,14 @@ module _ (count : ℕ) (nodes : List Node) (label : ℕ → Fact → Bool) (limi
         let more : q.steps + length (next ∷ lines) ≤ limits.steps = omega (arith, behind.steps) in
         let room : q.actions + length (next ∷ lines) < greatest_actions = omega (arith, behind.actions) in
         let step = line-step count nodes label limits arg i line (node (suc i)) p here.0 (lt-ltb p.steps limits.steps below) (lt-ltb p.actions greatest_actions fewer) size well.0 can
-        ∙ ap (λ (r : Run). a_run r) (arrived-kept count nodes label limits arg (suc i) next lines q labels.1) in (
+        ∙ ap (λ (r : Run (State Name)). a_run r) (arrived-kept count nodes label limits arg (suc i) next lines q labels.1) in (
           so.between i p labels.0 size texts queued,
           only-line i line (node (suc i)) p here.0 (lt-ltb p.steps limits.steps below) (lt-ltb p.actions greatest_actions fewer) well.0 can,
           λ t e. subst (OnlyAlong here_modules IsSo (map event_of (next ∷ lines) ++ close_event ∷ [])) (some-injective (sym step ∙ e))
               (lines-only lines next (suc i) q here.1 labels.1 (behind.size ∙ size) (texts-kept count line p well.0 can texts) (queued-kept count line p well.0 can texts queued) well.1 (behind.finds (next ∷ lines) finds) more room),
         )
 
-    body-only : (lines : List Line) → AreSet count nodes label limits arg lines → OnlyAlong here_modules IsSo (all_events count nodes label limits arg lines) (start here_modules limits arg)
+    body-only : (lines : List Line) → AreSet count nodes label limits arg lines → OnlyAlong here_modules IsSo (all_events count nodes label limits arg lines) (start (source here_modules) limits arg)
     body-only [] set =
         let below = lt-ltb 0 limits.steps (omega (arith, set.enough)) in
         let step = take-run count nodes label limits arg end set.here.0 below in
@@ -238,7 +265,7 @@ module _ (count : ℕ) (nodes : List Node) (label : ℕ → Fact → Bool) (limi
         let p : Progress = received count nodes label limits arg in
         let more : 1 + length (line ∷ lines) ≤ limits.steps = omega (arith, set.enough) in
         let room : 1 + length (line ∷ lines) < greatest_actions = omega (arith, set.few) in
-        let step = take-run count nodes label limits arg (node 1) set.here.0 below ∙ ap (λ (r : Run). a_run r) (arrived-kept count nodes label limits arg 1 line lines p set.labels) in
+        let step = take-run count nodes label limits arg (node 1) set.here.0 below ∙ ap (λ (r : Run (State Name)). a_run r) (arrived-kept count nodes label limits arg 1 line lines p set.labels) in
         subst (OnlyAlong here_modules IsSo (acts 1 (port 1) ∷ (map event_of (line ∷ lines) ++ close_event ∷ []))) (sym (start-is count nodes label limits arg set.begins)) (
           so.opening set.begins,
           only-take (node 1) set.here.0 below,
@@ -247,11 +274,11 @@ module _ (count : ℕ) (nodes : List Node) (label : ℕ → Fact → Bool) (limi
         )
 
     -- what is so in the states of these four kinds is so in every state of every run
-    pub states-so : (lines : List Line) → AreSet count nodes label limits arg lines → (events : List Event) (r : Run) → run here_modules events (start here_modules limits arg) ≡ Some r → IsSo r.system
-    states-so lines set events r e = everywhere here_modules IsSo (all_events count nodes label limits arg lines) (start here_modules limits arg) (body-only lines set) events r e
+    pub states-so : (lines : List Line) → AreSet count nodes label limits arg lines → (events : List Event) (r : Run (State Name)) → run (source here_modules) events (start (source here_modules) limits arg) ≡ Some r → IsSo r.system
+    states-so lines set events r e = everywhere here_modules IsSo (all_events count nodes label limits arg lines) (start (source here_modules) limits arg) (body-only lines set) events r e
 
 -- nothing is asked of the states
-abbrev IsAny : System → Type 0
+abbrev IsAny : System (State Name) → Type 0
 IsAny s = ⊤
 
 module _ (count : ℕ) (limits : Limits) (arg : Text) where
@@ -261,9 +288,9 @@ module _ (count : ℕ) (limits : Limits) (arg : Text) where
       let modules : Modules = modules_with (code_with count nodes label) in
       let p : Progress = after_lines lines (received count nodes label limits arg) in
       let ends = lines-end count nodes label limits arg lines set in
-      let final : System = final_system limits p ends.names in
+      let final : System (State Name) = final_system limits p ends.names in
       let any : IsSoThroughout count nodes label limits arg IsAny = record { opening = λ same. tt; between = λ i q same size texts queued. tt; ending = λ q g size queued. tt; final = λ q g size queued. tt } in
-      let b = begins modules IsAny (all_events count nodes label limits arg lines) (start modules limits arg) (record { system = final; journal = journal_of arg (sent_from (values_of (empty_slots count)) lines) })
+      let b = begins modules IsAny (all_events count nodes label limits arg lines) (start (source modules) limits arg) (record { system = final; journal = journal_of arg (sent_from (values_of (empty_slots count)) lines) })
       (body-only count nodes label limits arg IsAny any lines set) ends.is_run events r e in
       (b.0, final, b.1, none-steps (code_with count nodes label) limits p ends.names)
 

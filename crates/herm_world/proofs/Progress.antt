@@ -8,17 +8,21 @@ use Rattle.herm_model.specs.Values.{Cell, Parts, part}
 use Rattle.herm_model.specs.Texts.{text_of}
 use Rattle.herm_journal.specs.Actions.{to_put, put}
 use Rattle.herm_journal.specs.Places.{Limits, Port, first_book, Holding, a_port, after}
-use Rattle.herm_source.specs.Exchanges.{CellReply, CellAction}
+use Rattle.herm_journal.specs.Messages.{CellReply, CellAction}
 use Rattle.herm_journal.specs.Entries.{Text, Entry, Place, port}
 use Rattle.herm_journal.specs.Journals.{entry_behind}
-use Rattle.herm_source.specs.Bodies.{Name, Body, goes, let_go_old}
-use Rattle.herm_source.specs.Edges.{Code, arrive, beyond_declared}
-use Rattle.herm_source.specs.States.{State, act, wants, settle, leads_to, is_action, greatest_actions, answered}
-use Rattle.herm_source.specs.Systems.{Modules, System, Run, run_on, with_made, set_process, set_holding, behind_action, number_of, Event, steps, acts, own_name, main_port, first_message}
+use Rattle.herm_forms.specs.Bodies.{Name, Body, goes, let_go_old}
+use Rattle.herm_forms.specs.Edges.{Code, arrive, beyond_declared}
+use Rattle.herm_source.specs.States.{State, answered, own_name}
+use Rattle.herm_system.specs.Machines.{greatest_actions}
+use Rattle.herm_forms.specs.Acts.{act, wants, settle, leads_to, is_action}
+use Rattle.herm_source.specs.Modules.{Modules}
+use Rattle.herm_system.specs.Systems.{System, Run, run_on, with_made, set_process, set_holding, behind_action, number_of, Event, steps, acts, main_port, first_message}
 use Rattle.herm_compile.specs.Straight.{variable, console, form_of}
 use Rattle.herm_compile.specs.declared.compiled.Line.{Line}
 use Rattle.herm_compile.specs.declared.compiled.Line.TheVariants
 use Rattle.herm_world.proofs.Slots.{Made, Slots, string_cell, strings_of, slot_at, set_slot, part-slot, set-some, set-none, within-slots}
+use Rattle.herm_source.specs.Instance.{source}
 
 abbrev pub types_of : ℕ → List ℕ
 types_of count = 7 ∷ 6 ∷ replicate count 2
@@ -131,26 +135,26 @@ state_of t b = record { code = 0; point = t; body = b }
 abbrev pub open_port : List (ℕ × Cell Name) → ℕ → Port (Cell Name)
 open_port queue placed = record { is_open = true; queue = queue; placed = placed }
 
-abbrev pub system_with : Limits → Target → Body Name → List (Port (Cell Name)) → System
+abbrev pub system_with : Limits → Target → Body Name → List (Port (Cell Name)) → System (State Name)
 system_with limits t b ports = record { processes = state_of t b ∷ []; ports = ports; replies = [] ∷ []; book = first_book limits }
 
 -- the run that has come to a point with this body, where port 1 is open and empty
-abbrev pub run_with : Limits → Target → Body Name → List (ℕ × Cell Name) → ℕ → List Entry → Run
+abbrev pub run_with : Limits → Target → Body Name → List (ℕ × Cell Name) → ℕ → List Entry → Run (State Name)
 run_with limits t b queue placed journal = record { system = system_with limits t b (open_port queue placed ∷ open_port [] 1 ∷ []); journal = journal }
 
-abbrev pub run_at : Limits → Text → Target → Progress → Run
+abbrev pub run_at : Limits → Text → Target → Progress → Run (State Name)
 run_at limits arg t p = run_with limits t (body_at arg p) p.queue p.placed p.journal
 
 -- the same as the edge to the point leaves it
-abbrev pub arrived : Code → Limits → Text → Target → Progress → Run
+abbrev pub arrived : Code → Limits → Text → Target → Progress → Run (State Name)
 arrived c limits arg t p = run_with limits t (arrive c t (body_at arg p)) p.queue p.placed p.journal
 
 -- an action whose answer leads to a state
-pub behind-answer : (modules : Modules) (p : ℕ) (place : Place) (s : System) (c : Code) (state : State Name) (h : Holding (Cell Name) (CellReply Name)) (a : CellAction Name) (next : State Name)
-    → answered own_name c state (number_of place) a ≡ Some next
-    → behind_action modules p place s c state h a ≡ option_map (λ (t : System). record { system = t; done = Some a }) (with_made modules state.body a (set_process p next (set_holding place (after a h) s)))
-behind-answer modules p place s c state h a next e =
-    ap (option_and_then (λ (n : State Name). option_map (λ (t : System). record { system = t; done = Some a }) (with_made modules state.body a (set_process p n (set_holding place (after a h) s))))) e
+pub behind-answer : (modules : Modules) (p : ℕ) (place : Place) (s : System (State Name)) (state : State Name) (h : Holding (Cell Name) (CellReply Name)) (a : CellAction Name) (next : State Name)
+    → (source modules).answered state (number_of place) a ≡ Some next
+    → behind_action (source modules) p place s state h a ≡ option_map (λ (t : System (State Name)). record { system = t; done = Some a }) (with_made (source modules) state a (set_process p next (set_holding place (after a h) s)))
+behind-answer modules p place s state h a next e =
+    ap (option_and_then (λ (n : State Name). option_map (λ (t : System (State Name)). record { system = t; done = Some a }) (with_made (source modules) state a (set_process p n (set_holding place (after a h) s))))) e
 
 module _ (count : ℕ) (nodes : List Node) (label : ℕ → Fact → Bool) (limits : Limits) (arg : Text) where
   abbrev code : Code
@@ -160,7 +164,7 @@ module _ (count : ℕ) (nodes : List Node) (label : ℕ → Fact → Bool) (limi
   pub local-run : (i : ℕ) (n : Node) (t : Target) (v : Parts Name) (s a m : ℕ) (f : List Name) (b : Body Name) (queue : List (ℕ × Cell Name)) (placed : ℕ) (journal : List Entry)
       → slice_get nodes i ≡ Some n → nat_lt s limits.steps ≡ true → is_action code n.form ≡ false
       → act own_name code n.number n.form (body_of v [] (suc s) a m f) ≡ goes ok b → leads_to code n ok ≡ Some t
-      → run_on (modules_with code) (steps 1) (run_with limits (node i) (body_of v [] s a m f) queue placed journal) ≡ Some (run_with limits t (arrive code t b) queue placed journal)
+      → run_on (source (modules_with code)) (steps 1) (run_with limits (node i) (body_of v [] s a m f) queue placed journal) ≡ Some (run_with limits t (arrive code t b) queue placed journal)
   local-run i n t v s a m f b queue placed journal here below local does leads = rw (here, below, local, does, leads) refl
 
   answered-put : (i : ℕ) (n : Node) (t : Target) (v : Parts Name) (s a m : ℕ) (f : List Name) (x : Cell Name) (b : Body Name) (placed : ℕ)
@@ -173,10 +177,10 @@ module _ (count : ℕ) (nodes : List Node) (label : ℕ → Fact → Bool) (limi
       → slice_get nodes i ≡ Some n → nat_lt s limits.steps ≡ true → nat_lt a greatest_actions ≡ true → is_action code n.form ≡ true
       → wants own_name code n.form (body_of v [] s a m f) ≡ Some (to_put 0 x)
       → settle own_name code n.form 0 (put (Some placed) x) (body_of v [] (suc s) (suc a) m f) ≡ goes ok b → leads_to code n ok ≡ Some t
-      → run_on (modules_with code) (acts 1 (port 0)) (run_with limits (node i) (body_of v [] s a m f) queue placed journal)
+      → run_on (source (modules_with code)) (acts 1 (port 0)) (run_with limits (node i) (body_of v [] s a m f) queue placed journal)
       ≡ Some (run_with limits t (arrive code t b) (queue ++ (placed, x) ∷ []) (suc placed) (journal ++ entry_behind journal 1 (port 0) (put (Some placed) (text_of x)) ∷ []))
   put-run i n t v s a m f x b queue placed journal here below fewer acting wanted does leads =
-      rw (here, below, acting, wanted, fewer, behind-answer (modules_with code) 1 (port 0) (system_with limits (node i) (body_of v [] s a m f) (open_port queue placed ∷ open_port [] 1 ∷ [])) code (state_of (node i) (body_of v [] s a m f)) (a_port (open_port queue placed)) (put (Some placed) x) (state_of t (arrive code t b)) (answered-put i n t v s a m f x b placed here does leads)) refl
+      rw (here, below, acting, wanted, fewer, behind-answer (modules_with code) 1 (port 0) (system_with limits (node i) (body_of v [] s a m f) (open_port queue placed ∷ open_port [] 1 ∷ [])) (state_of (node i) (body_of v [] s a m f)) (a_port (open_port queue placed)) (put (Some placed) x) (state_of t (arrive code t b)) (answered-put i n t v s a m f x b placed here does leads)) refl
 
   -- an old value goes
   old-goes : (o : Option Made) (v : Parts Name) (s a m : ℕ) (f : List Name) → let_go_old (option_map string_cell o) (body_of v [] s a m f) ≡ body_of v [] s a m (with_old o f)

@@ -3,14 +3,21 @@ use Rattle.std.proofs.Common.{◌≡◌, ℕ, zero, suc, ◌+◌, List, [], ◌�
 use Rattle.herm_model.specs.Nodes.{Target}
 use Rattle.herm_model.specs.Values.{Kind, Scalar, a_scalar, a_text, an_inport, Cell, Parts, gap, gaps}
 use Rattle.herm_journal.specs.Places.{Limits, Port, left_in}
-use Rattle.herm_source.specs.Bodies.{Name}
-use Rattle.herm_source.specs.Sound.{kinds_of, kinds_in, unfinalised, is_inport_of, one_if, is_open_port}
-use Rattle.herm_source.specs.Statuses.{how_many}
-use Rattle.herm_source.specs.Systems.{console_port}
+use Rattle.herm_forms.specs.Bodies.{Name}
+use Rattle.herm_system.specs.Kinds.{kinds_of, kinds_in, unfinalised, is_inport_of, is_open_port}
+use Rattle.herm_system.specs.Sound.{one_if}
+use Rattle.herm_system.specs.Statuses.{how_many}
+use Rattle.herm_system.specs.Systems.{console_port}
 use Rattle.herm_world.proofs.Slots.{Made, Slots, string_cell, strings_of, empty_slots, gaps-empty}
-use Rattle.herm_world.proofs.Progress.{body_of, system_with}
+use Rattle.herm_world.proofs.Progress.{body_of, system_with, modules_with, state_of}
 use Rattle.herm_world.proofs.Apart.{zero-not, one-far}
 use Rattle.herm_world.proofs.HeldTexts.{AreQueued}
+use Rattle.herm_forms.specs.Edges.{Code}
+use Rattle.herm_source.specs.Instance.{source}
+use Rattle.herm_source.specs.States.{State}
+use Rattle.herm_system.specs.Machines.{Held}
+use Rattle.herm_source.specs.Looking.{values_held}
+use Rattle.herm_source.proofs.instance.HeldValues.{kinds-values}
 
 many-append : (test : Kind → Bool) (xs ys : List Kind) → how_many test (xs ++ ys) ≡ how_many test xs + how_many test ys
 many-append test [] ys = omega arith
@@ -51,8 +58,8 @@ module _ (test : Kind → Bool) (fails : (x : Scalar) → test (a_scalar x) ≡ 
 
 -- ---- in the system
 
-module _ (limits : Limits) (t : Target) (v : Parts Name) (work : List (Cell Name)) (s a m : ℕ) (g : List Name) (p q : Port (Cell Name)) where
-  pub many-unfinalised : (test : Kind → Bool) → how_many test (unfinalised (system_with limits t (body_of v work s a m g) (p ∷ q ∷ [])))
+module _ (c : Code) (limits : Limits) (t : Target) (v : Parts Name) (work : List (Cell Name)) (s a m : ℕ) (g : List Name) (p q : Port (Cell Name)) where
+  pub many-unfinalised : (test : Kind → Bool) → how_many test (unfinalised (source (modules_with c)) (system_with limits t (body_of v work s a m g) (p ∷ q ∷ [])))
       ≡ how_many test (kinds_of console_port) + how_many test (kinds_in v) + how_many test (flat_map kinds_of work) + how_many test (flat_map kinds_of (left_in p)) + how_many test (flat_map kinds_of (left_in q))
   many-unfinalised test =
       let console : List Kind = kinds_of console_port in
@@ -60,10 +67,12 @@ module _ (limits : Limits) (t : Target) (v : Parts Name) (work : List (Cell Name
       let waiting : List Kind = flat_map kinds_of work in
       let first : List Kind = flat_map kinds_of (left_in p) in
       let second : List Kind = flat_map kinds_of (left_in q) in
-      let process : List Kind = own ++ [] ++ waiting in
+      let here : State Name = state_of t (body_of v work s a m g) in
+      let process : List Kind = flat_map (λ (h : Held Name). kinds_of h.value) (values_held c here) in
       let ports : List Kind = first ++ (second ++ []) in
       omega (
         arith,
+        ap (how_many test) (kinds-values c here),
         many-append test own [],
         many-append test (own ++ []) waiting,
         many-append test process [],
@@ -85,12 +94,12 @@ module _ (limits : Limits) (t : Target) (v : Parts Name) (work : List (Cell Name
   -- the console has the inport of port 0, and the process that of port 1 where it is open
   pub inports-open : (b : Bool) → p.is_open ≡ true → q.is_open ≡ b → ((n : ℕ) → how_many (is_inport_of n) (kinds_in v) + how_many (is_inport_of n) (flat_map kinds_of work) ≡ cond b (one_if (nat_eq 1 n)) 0)
       → ((n : ℕ) → how_many (is_inport_of n) (flat_map kinds_of (left_in p)) ≡ 0) → ((n : ℕ) → how_many (is_inport_of n) (flat_map kinds_of (left_in q)) ≡ 0)
-      → (n : ℕ) → how_many (is_inport_of n) (unfinalised (system_with limits t (body_of v work s a m g) (p ∷ q ∷ []))) ≡ one_if (is_open_port (system_with limits t (body_of v work s a m g) (p ∷ q ∷ [])) n)
+      → (n : ℕ) → how_many (is_inport_of n) (unfinalised (source (modules_with c)) (system_with limits t (body_of v work s a m g) (p ∷ q ∷ []))) ≡ one_if (is_open_port (system_with limits t (body_of v work s a m g) (p ∷ q ∷ [])) n)
   inports-open b first second own none nothing n =
       let console : how_many (is_inport_of n) (kinds_of console_port) ≡ one_if (nat_eq 0 n) = inport-more n 0 [] ∙ add-zero (one_if (nat_eq 0 n)) in
       many-unfinalised (is_inport_of n) ∙ omega (arith, console, own n, none n, nothing n) ∙ ports-open b first second n
 
   pub calls-none : (test : Kind → Bool) → how_many test (kinds_of console_port) ≡ 0 → how_many test (kinds_in v) ≡ 0 → how_many test (flat_map kinds_of work) ≡ 0
       → how_many test (flat_map kinds_of (left_in p)) ≡ 0 → how_many test (flat_map kinds_of (left_in q)) ≡ 0
-      → how_many test (unfinalised (system_with limits t (body_of v work s a m g) (p ∷ q ∷ []))) ≡ 0
+      → how_many test (unfinalised (source (modules_with c)) (system_with limits t (body_of v work s a m g) (p ∷ q ∷ []))) ≡ 0
   calls-none test console own waiting first second = omega (arith, many-unfinalised test, console, own, waiting, first, second)

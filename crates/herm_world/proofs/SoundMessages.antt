@@ -8,9 +8,9 @@ use Rattle.herm_model.specs.Values.{Cell, Parts, no_parts, part, has_value, HasE
 use Rattle.herm_model.specs.Typed.{is_text}
 use Rattle.herm_model.proofs.FactTests.{listed-IsIn, IsIn-listed}
 use Rattle.herm_journal.specs.Entries.{Text}
-use Rattle.herm_source.specs.Bodies.{Name}
-use Rattle.herm_source.specs.Messages.{IsMessage}
-use Rattle.herm_source.specs.Systems.{first_message}
+use Rattle.herm_forms.specs.Bodies.{Name}
+use Rattle.herm_journal.specs.Messages.{IsMessage}
+use Rattle.herm_system.specs.Systems.{first_message}
 use Rattle.herm_world.proofs.Slots.{Made, string_cell}
 use Rattle.herm_world.proofs.Apart.{not-zero, far-one}
 use Rattle.herm_model.proofs.NothingThere.{nothing-there}

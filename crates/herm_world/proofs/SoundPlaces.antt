@@ -1,8 +1,8 @@
 -- The cells of a straight-line program at places with types agree with the types of ports 0 and 1.
-use Rattle.std.proofs.Common.{◌≡◌, ℕ, zero, suc, List, [], ◌∷◌, ◌++◌, map, flat_map, Bool, Option, Some, None, option_and_then, replicate, slice_get, inl, inr, refl, sym, subst}
+use Rattle.std.proofs.Common.{◌≡◌, ℕ, zero, suc, List, [], ◌∷◌, ◌++◌, map, flat_map, Bool, Some, None, option_and_then, replicate, slice_get, inl, inr, refl, sym, subst}
 use Rattle.std.specs.Prelude.{⊤}
 use Rattle.std.specs.List.{AllByRecursion}
-use Rattle.herm_model.specs.Lists.{IsIn, list_of}
+use Rattle.herm_model.specs.Lists.{IsIn}
 use Rattle.herm_model.specs.Paths.{Fact}
 use Rattle.herm_model.specs.Types.{predefined}
 use Rattle.herm_model.specs.Calls.{led_to}
@@ -10,14 +10,16 @@ use Rattle.herm_model.specs.Nodes.{Target, Node}
 use Rattle.herm_model.specs.Values.{Kind, a_callmessage, an_inport, an_outport, Cell, Parts, gap, gaps}
 use Rattle.herm_journal.specs.Entries.{Text}
 use Rattle.herm_journal.specs.Places.{Limits, Port, left_in}
-use Rattle.herm_source.specs.Bodies.{Name}
-use Rattle.herm_source.specs.Local.{Calling, calling}
-use Rattle.herm_source.specs.Sound.{each, typed_of, typed_in, typed_by, typed_cells}
-use Rattle.herm_source.specs.Systems.{first_message}
+use Rattle.herm_forms.specs.Bodies.{Name}
+use Rattle.herm_system.specs.Kinds.{each, typed_of, typed_in, typed_held, typed_cells}
+use Rattle.herm_system.specs.Systems.{first_message}
 use Rattle.herm_world.proofs.Slots.{Slots, strings_of, empty_slots, gaps-empty}
 use Rattle.herm_world.proofs.Progress.{types_of, code_with, modules_with, body_of, variables_with, state_of, system_with}
 use Rattle.herm_world.proofs.StraightFacts.{before_receive}
 use Rattle.herm_world.proofs.HeldTexts.{AreQueued}
+use Rattle.herm_source.specs.Instance.{source}
+use Rattle.herm_source.specs.Looking.{values_held}
+use Rattle.herm_source.proofs.instance.HeldValues.{typed-values}
 
 -- the types of port 0, the console's, and of port 1, the process's
 abbrev pub port_types : List ℕ
@@ -77,19 +79,16 @@ first-well arg = (tt, (tt, ((4, refl, refl), tt)))
 
 -- ---- in the system
 
-none-waits : (o : Option Calling) → StandWell (list_of (λ k. []) o)
-none-waits None = tt
-none-waits (Some k) = tt
-
 module _ (count : ℕ) (nodes : List Node) (label : ℕ → Fact → Bool) (limits : Limits) (t : Target) (v : Parts Name) (work : List (Cell Name)) (s a m : ℕ) (g : List Name) (p q : Port (Cell Name)) where
   pub cells-well : VariablesWell count v → StandWell (flat_map (typed_of predefined 2) (left_in p)) → StandWell (flat_map (typed_of predefined 6) (left_in q))
-      → StandWell (typed_cells (modules_with (code_with count nodes label)) port_types (system_with limits t (body_of v work s a m g) (p ∷ q ∷ [])))
+      → StandWell (typed_cells (source (modules_with (code_with count nodes label))) port_types (system_with limits t (body_of v work s a m g) (p ∷ q ∷ [])))
   cells-well variables first second =
       let c = code_with count nodes label in
       let here = state_of t (body_of v work s a m g) in
       let own = typed_in predefined (each (types_of count)) v in
       let console = flat_map (typed_of predefined 2) (left_in p) in
       let start = flat_map (typed_of predefined 6) (left_in q) in
-      well-append (typed_by c here [] ++ []) (console ++ (start ++ []))
-      (well-append (typed_by c here []) [] (well-append (own ++ []) (list_of (λ k. []) (calling c here)) (well-append own [] variables tt) (none-waits (calling c here))) tt)
+      let held = flat_map (typed_held predefined) (values_held c here) in
+      well-append ((held ++ []) ++ []) (console ++ (start ++ []))
+      (well-append (held ++ []) [] (well-append held [] (subst StandWell (sym (typed-values predefined c here)) (well-append own [] variables tt)) tt) tt)
       (well-append console (start ++ []) first (well-append start [] second tt))

@@ -8,11 +8,11 @@ use Rattle.herm_model.specs.Nodes.{Target, node, end, Node}
 use Rattle.herm_model.specs.Values.{Cell, Parts, gap, gaps, has_value, tells, HasExactly}
 use Rattle.herm_model.specs.Typed.{is_text, HasType, HaveTypes}
 use Rattle.herm_journal.specs.Entries.{Text}
-use Rattle.herm_source.specs.Bodies.{Name}
-use Rattle.herm_source.specs.Edges.{Code}
-use Rattle.herm_source.specs.Systems.{main_port}
+use Rattle.herm_forms.specs.Bodies.{Name}
+use Rattle.herm_forms.specs.Edges.{Code}
+use Rattle.herm_system.specs.Systems.{main_port}
 use Rattle.herm_source.specs.Local.{HasFact, IsItem, IsLocallySound}
-use Rattle.herm_source.proofs.Events.{none-not_some}
+use Rattle.herm_model.proofs.Options.{none-not_some}
 use Rattle.herm_world.proofs.Slots.{Slots, strings_of, empty_slots, length-empty}
 use Rattle.herm_world.proofs.Progress.{types_of, code_with, Progress, body_of, variables_with, body_at, state_of}
 use Rattle.herm_world.proofs.Ends.{ending}

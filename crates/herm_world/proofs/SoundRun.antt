@@ -3,14 +3,15 @@ use Rattle.std.proofs.Common.{ℕ, suc, List, [], ◌∷◌, ◌++◌, Bool, ref
 use Rattle.std.specs.Prelude.{IsTrue}
 use Rattle.herm_model.specs.Paths.{Fact}
 use Rattle.herm_model.specs.Nodes.{end, Node}
-use Rattle.herm_model.specs.Values.{gap, gaps}
+use Rattle.herm_model.specs.Values.{gap, gaps, Name}
 use Rattle.herm_model.specs.Typed.{is_text}
 use Rattle.herm_journal.specs.Places.{Limits}
 use Rattle.herm_journal.specs.Entries.{Text, Entry}
-use Rattle.herm_source.specs.Systems.{Modules, System, opening}
-use Rattle.herm_source.specs.Headline.{IsAlong}
+use Rattle.herm_source.specs.Modules.{Modules}
+use Rattle.herm_system.specs.Systems.{System, opening}
+use Rattle.herm_system.specs.Reports.{IsAlong}
 use Rattle.herm_source.specs.Local.{IsLocallySound}
-use Rattle.herm_source.specs.Sound.{IsSound}
+use Rattle.herm_source.specs.Instance.{IsSound, source}
 use Rattle.herm_compile.specs.declared.compiled.Line.{Line}
 use Rattle.herm_world.proofs.Progress.{code_with, modules_with, body_of, state_of, run_with}
 use Rattle.herm_world.proofs.Ends.{ending}
@@ -18,6 +19,7 @@ use Rattle.herm_world.proofs.StraightDone.{AreSet, keeps-once}
 use Rattle.herm_world.proofs.OneRun.{IsSoThroughout, states-so}
 use Rattle.herm_world.proofs.SoundProcess.{opening-local, between-local, ending-local, final-local}
 use Rattle.herm_world.proofs.SoundSystem.{IsSoundAt, opening-sound, between-sound, ending-sound, final-sound}
+use Rattle.herm_source.specs.States.{State}
 
 module _ (count : ℕ) (nodes : List Node) (label : ℕ → Fact → Bool) (limits : Limits) (arg : Text) (text : IsTrue (is_text arg)) where
   abbrev modules : Modules
@@ -36,7 +38,7 @@ module _ (count : ℕ) (nodes : List Node) (label : ℕ → Fact → Bool) (limi
         (final-local count nodes label p.steps (suc p.actions) p.serial ((g ++ (0, 1) ∷ []) ++ [])));
   }
 
-  pub states-sound : (lines : List Line) → AreSet count nodes label limits arg lines → (journal : List Entry) (s : System) → IsAlong modules (opening modules limits arg) journal s → IsSound modules s
+  pub states-sound : (lines : List Line) → AreSet count nodes label limits arg lines → (journal : List Entry) (s : System (State Name)) → IsAlong (source modules) (opening (source modules) limits arg) journal s → IsSound modules s
   states-sound lines set journal s along =
       let so = states-so count nodes label limits arg (IsSoundAt modules) kept lines set along.3.0 (record { system = s; journal = along.0 }) along.3.1 in
       let once = keeps-once modules (code_with count nodes label) limits arg refl s along.0 along.3 in

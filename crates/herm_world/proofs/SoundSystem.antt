@@ -1,5 +1,5 @@
 -- The states of a straight-line program's run are sound, where the process is locally sound.
-use Rattle.std.proofs.Common.{◌≡◌, ℕ, zero, suc, ◌+◌, List, [], ◌∷◌, flat_map, Bool, true, false, nat_eq, Some, length, slice_get, IsTrue, refl, sym, ap, subst, ◌∙◌, arith}
+use Rattle.std.proofs.Common.{◌≡◌, ℕ, zero, suc, ◌+◌, List, [], ◌∷◌, flat_map, Bool, true, false, nat_eq, Some, length, slice_get, IsTrue, refl, sym, ap, subst, ◌∙◌, arith, option_map}
 use Rattle.herm_model.specs.Lists.{IsIn}
 use Rattle.herm_model.specs.Paths.{Fact}
 use Rattle.herm_model.specs.Types.{predefined}
@@ -8,17 +8,18 @@ use Rattle.herm_model.specs.Nodes.{Target, node, end, Node}
 use Rattle.herm_model.specs.Values.{Cell, Parts, gap, part, gaps}
 use Rattle.herm_journal.specs.Entries.{Text, Entry}
 use Rattle.herm_journal.specs.Places.{Limits, Port, empty_port, port_with, left_in, Replies}
-use Rattle.herm_source.specs.Bodies.{Name}
-use Rattle.herm_source.specs.Edges.{Code}
-use Rattle.herm_source.specs.Exchanges.{CellReply}
-use Rattle.herm_source.specs.Ledger.{HasLedger, IsMadeOnce}
+use Rattle.herm_forms.specs.Bodies.{Name}
+use Rattle.herm_forms.specs.Edges.{Code}
+use Rattle.herm_journal.specs.Messages.{CellReply, IsMessage, is_inport}
+use Rattle.herm_system.specs.Ledger.{HasLedger, IsMadeOnce}
 use Rattle.herm_source.specs.Local.{IsLocallySound}
-use Rattle.herm_source.specs.Messages.{IsMessage}
-use Rattle.herm_source.specs.Sound.{kinds_of, kinds_in, unfinalised, replies_of, typed_cells, is_inport_of, is_callmessage_of, one_if, has_open, is_open_port, IsSoundWith}
-use Rattle.herm_source.specs.States.{State, is_inport}
-use Rattle.herm_source.specs.Statuses.{how_many}
-use Rattle.herm_source.specs.Systems.{Modules, System, numbered_from_one, main_port, first_message}
-use Rattle.herm_source.proofs.Events.{some-injective, none-not_some}
+use Rattle.herm_system.specs.Kinds.{kinds_of, kinds_in, unfinalised, replies_of, typed_cells, is_inport_of, is_callmessage_of, has_open, is_open_port}
+use Rattle.herm_system.specs.Sound.{one_if, IsSoundWith}
+use Rattle.herm_source.specs.States.{State, begin}
+use Rattle.herm_system.specs.Statuses.{how_many}
+use Rattle.herm_source.specs.Modules.{Modules}
+use Rattle.herm_system.specs.Systems.{System, numbered_from_one, main_port, first_message}
+use Rattle.herm_model.proofs.Options.{some-injective, none-not_some}
 use Rattle.herm_world.proofs.Slots.{Slots, strings_of, empty_slots}
 use Rattle.herm_world.proofs.Progress.{code_with, modules_with, Progress, body_of, variables_with, body_at, state_of, open_port, system_with, run_with, run_at}
 use Rattle.herm_world.proofs.Ends.{ending}
@@ -27,19 +28,20 @@ use Rattle.herm_world.proofs.HeldTexts.{AreQueued}
 use Rattle.herm_world.proofs.SoundCounts.{inport-more, strings-none, gaps-none, queue-none, inports-open, calls-none}
 use Rattle.herm_world.proofs.SoundMessages.{queue-messages, first-messages}
 use Rattle.herm_world.proofs.SoundPlaces.{port_types, StandWell, well-in, opening-well, between-well, gaps-well, queue-well, first-well, cells-well}
+use Rattle.herm_source.specs.Instance.{source, IsSoundIn}
 
 -- where the ledger holds, the state is sound, with port 0 the console's and port 1 the process's
-abbrev pub IsSoundAt : Modules → System → Type 0
-IsSoundAt modules s = HasLedger s → IsMadeOnce s → IsSoundWith modules port_types s
+abbrev pub IsSoundAt : Modules → System (State Name) → Type 0
+IsSoundAt modules s = HasLedger (source modules) s → IsMadeOnce (source modules) s → IsSoundWith (source modules) (IsSoundIn modules) port_types s
 
 -- What is so of a state with one process and ports 0 and 1, besides the ledger.
-pub record IsPlain (c : Code) (s : System) (here : State Name) (p q : Port (Cell Name)) : Type 0 where
+pub record IsPlain (c : Code) (s : System (State Name)) (here : State Name) (p q : Port (Cell Name)) : Type 0 where
   pub process : IsLocallySound c here
   pub console : (x : Cell Name) → IsIn x (left_in p) → IsMessage predefined 4 x
   pub start : (x : Cell Name) → IsIn x (left_in q) → IsMessage predefined 7 x
-  pub inports : (n : ℕ) → how_many (is_inport_of n) (unfinalised s) ≡ one_if (is_open_port s n)
-  pub calls : (caller call : ℕ) → how_many (is_callmessage_of caller call) (unfinalised s) ≡ 0
-  pub cells : StandWell (typed_cells (modules_with c) port_types s)
+  pub inports : (n : ℕ) → how_many (is_inport_of n) (unfinalised (source (modules_with c)) s) ≡ one_if (is_open_port s n)
+  pub calls : (caller call : ℕ) → how_many (is_callmessage_of caller call) (unfinalised (source (modules_with c)) s) ≡ 0
+  pub cells : StandWell (typed_cells (source (modules_with c)) port_types s)
 
 inports-typed : (n t : ℕ) → slice_get port_types n ≡ Some t → IsTrue (is_inport (slice_get predefined t))
 inports-typed zero t e = subst (λ u. IsTrue (is_inport (slice_get predefined u))) (some-injective e) refl
@@ -50,7 +52,7 @@ module _ (c : Code) (limits : Limits) (t : Target) (v : Parts Name) (work : List
   abbrev here : State Name
   here = state_of t (body_of v work s a m g)
 
-  abbrev system : System
+  abbrev system : System (State Name)
   system = system_with limits t (body_of v work s a m g) (p ∷ q ∷ [])
 
   process-is : (n : ℕ) (state : State Name) → numbered_from_one n system.processes ≡ Some state → (n ≡ 1) × (state ≡ here)
@@ -75,27 +77,28 @@ module _ (c : Code) (limits : Limits) (t : Target) (v : Parts Name) (work : List
   no-replies (suc zero) = refl
   no-replies (suc (suc n)) = refl
 
-  none-open : (n k : ℕ) → has_open system n k ≡ false
+  none-open : (n k : ℕ) → has_open (source (modules_with c)) system n k ≡ false
   none-open zero k = refl
   none-open (suc zero) k = refl
   none-open (suc (suc n)) k = refl
 
-  none-answered : (n k : ℕ) → how_many (is_callmessage_of n k) (unfinalised system) ≡ 0 → how_many (is_callmessage_of n k) (unfinalised system) + how_many (λ (r : ℕ × CellReply Name). nat_eq r.0 k) (replies_of system n) ≡ one_if (has_open system n k)
+  none-answered : (n k : ℕ) → how_many (is_callmessage_of n k) (unfinalised (source (modules_with c)) system) ≡ 0 → how_many (is_callmessage_of n k) (unfinalised (source (modules_with c)) system) + how_many (λ (r : ℕ × CellReply Name). nat_eq r.0 k) (replies_of system n) ≡ one_if (has_open (source (modules_with c)) system n k)
   none-answered n k none =
       let replies : how_many (λ (r : ℕ × CellReply Name). nat_eq r.0 k) (replies_of system n) ≡ 0 = ap (λ (rs : Replies (CellReply Name)). how_many (λ (r : ℕ × CellReply Name). nat_eq r.0 k) rs) (no-replies n) in
-      let closed : one_if (has_open system n k) ≡ 0 = ap one_if (none-open n k) in
+      let closed : one_if (has_open (source (modules_with c)) system n k) ≡ 0 = ap one_if (none-open n k) in
       omega (arith, none, replies, closed)
 
   pub plain-sound : IsPlain c system here p q → IsSoundAt (modules_with c) system
   plain-sound plain ledger once = record {
-    processes = λ n state d e f. process-sound n state d plain.process e f;
+    processes = λ n state e d f. process-sound n state d plain.process e f;
     messages = λ n t r x e f h. messages-typed n t r x plain.console plain.start e f h;
-    replies = λ n state d call r e f k h. absurd (subst (IsIn r) (no-replies n) h);
+    replies = λ n state call r e k h. absurd (subst (IsIn r) (no-replies n) h);
     ledger = ledger;
     once = once;
     ports = record {
       types = refl;
       inport_types = inports-typed;
+      console = refl;
       inports = plain.inports;
       inports_stand = λ t n h. well-in _ _ plain.cells h;
       outports_stand = λ t n h. well-in _ _ plain.cells h;
@@ -105,7 +108,10 @@ module _ (c : Code) (limits : Limits) (t : Target) (v : Parts Name) (work : List
       callmessages_stand = λ t n k h. absurd (well-in _ _ plain.cells h);
     };
     numbers = record {
-      processes = λ n state e. let is = process-is n state e in (ap (λ (x : State Name). x.body.number) is.1 ∙ sym is.0, (c, ap (λ (x : State Name). slice_get (c ∷ []) x.code) is.1));
+      processes = λ n state e. let is = process-is n state e in (
+        ap (λ (x : State Name). x.body.number) is.1 ∙ sym is.0,
+        (main_port, begin c 0 n main_port, ap (λ (x : State Name). option_map (λ d. begin d x.code n main_port) (slice_get (c ∷ []) x.code)) is.1),
+      );
       reply_cells = refl;
       book = (refl, refl);
     };
@@ -132,8 +138,8 @@ module _ (count : ℕ) (nodes : List Node) (label : ℕ → Fact → Bool) (limi
         process = sound;
         console = λ x h. absurd h;
         start = first-messages arg text;
-        inports = inports-open limits (node 0) v [] s a m g p q true refl refl own (λ n. refl) (λ n. refl);
-        calls = λ n k. calls-none limits (node 0) v [] s a m g p q (is_callmessage_of n k) refl (strings-none (is_callmessage_of n k) (λ x. refl) (empty_slots count)) refl refl refl;
+        inports = inports-open code limits (node 0) v [] s a m g p q true refl refl own (λ n. refl) (λ n. refl);
+        calls = λ n k. calls-none code limits (node 0) v [] s a m g p q (is_callmessage_of n k) refl (strings-none (is_callmessage_of n k) (λ x. refl) (empty_slots count)) refl refl refl;
         cells = cells-well count nodes label limits (node 0) v [] s a m g p q (opening-well count (empty_slots count)) tt (first-well arg);
       })
 
@@ -148,9 +154,9 @@ module _ (count : ℕ) (nodes : List Node) (label : ℕ → Fact → Bool) (limi
         process = sound;
         console = queue-messages p.queue queued;
         start = λ x h. absurd h;
-        inports = inports-open limits (node i) v [] p.steps p.actions p.serial p.finalised first second true refl refl own (λ n. queue-none (is_inport_of n) (λ x. refl) p.queue queued) (λ n. refl);
+        inports = inports-open code limits (node i) v [] p.steps p.actions p.serial p.finalised first second true refl refl own (λ n. queue-none (is_inport_of n) (λ x. refl) p.queue queued) (λ n. refl);
         calls = λ n k.
-            calls-none limits (node i) v [] p.steps p.actions p.serial p.finalised first second (is_callmessage_of n k) refl
+            calls-none code limits (node i) v [] p.steps p.actions p.serial p.finalised first second (is_callmessage_of n k) refl
             (strings-none (is_callmessage_of n k) (λ x. refl) p.slots) refl (queue-none (is_callmessage_of n k) (λ x. refl) p.queue queued) refl;
         cells = cells-well count nodes label limits (node i) v [] p.steps p.actions p.serial p.finalised first second (between-well count arg p.slots) (queue-well p.queue queued) tt;
       })
@@ -168,8 +174,8 @@ module _ (count : ℕ) (nodes : List Node) (label : ℕ → Fact → Bool) (limi
         process = sound;
         console = queue-messages queue queued;
         start = λ x h. absurd h;
-        inports = inports-open limits end v work s a m g p q true refl refl own (λ n. queue-none (is_inport_of n) (λ x. refl) queue queued) (λ n. refl);
-        calls = λ n k. calls-none limits end v work s a m g p q (is_callmessage_of n k) refl (gaps-none (is_callmessage_of n k) (λ x. refl) count) refl (queue-none (is_callmessage_of n k) (λ x. refl) queue queued) refl;
+        inports = inports-open code limits end v work s a m g p q true refl refl own (λ n. queue-none (is_inport_of n) (λ x. refl) queue queued) (λ n. refl);
+        calls = λ n k. calls-none code limits end v work s a m g p q (is_callmessage_of n k) refl (gaps-none (is_callmessage_of n k) (λ x. refl) count) refl (queue-none (is_callmessage_of n k) (λ x. refl) queue queued) refl;
         cells = cells-well count nodes label limits end v work s a m g p q (gaps-well count count) (queue-well queue queued) tt;
       })
 
@@ -184,9 +190,9 @@ module _ (count : ℕ) (nodes : List Node) (label : ℕ → Fact → Bool) (limi
         process = sound;
         console = queue-messages p.queue queued;
         start = λ x h. absurd h;
-        inports = inports-open limits end v [] s a m g first second false refl refl own (λ n. queue-none (is_inport_of n) (λ x. refl) p.queue queued) (λ n. refl);
+        inports = inports-open code limits end v [] s a m g first second false refl refl own (λ n. queue-none (is_inport_of n) (λ x. refl) p.queue queued) (λ n. refl);
         calls = λ n k.
-            calls-none limits end v [] s a m g first second (is_callmessage_of n k) refl (gaps-none (is_callmessage_of n k) (λ x. refl) (length p.slots)) refl
+            calls-none code limits end v [] s a m g first second (is_callmessage_of n k) refl (gaps-none (is_callmessage_of n k) (λ x. refl) (length p.slots)) refl
             (queue-none (is_callmessage_of n k) (λ x. refl) p.queue queued) refl;
         cells = cells-well count nodes label limits end v [] s a m g first second (gaps-well count (length p.slots)) (queue-well p.queue queued) tt;
       })

@@ -1,5 +1,5 @@
 -- The final state of a straight-line program, and that it is reached.
-use Rattle.std.proofs.Common.{◌≡◌, ap₂, flat_map, ◌<◌, ◌≤◌, ℕ, zero, suc, ◌+◌, ◌-◌, List, [], ◌∷◌, ◌++◌, map, Bool, false, Option, Some, None, option_and_then, length, length-append, slice_get, slice_set, replicate, nat_eq, refl, sym, ap, subst, ◌∙◌, arith}
+use Rattle.std.proofs.Common.{◌≡◌, ap₂, flat_map, ◌<◌, ◌≤◌, ℕ, zero, suc, ◌+◌, ◌-◌, List, [], ◌∷◌, ◌++◌, map, Bool, false, Option, Some, None, option_and_then, length, length-append, slice_get, slice_set, replicate, nat_eq, refl, sym, ap, subst, ◌∙◌, arith, option_map, append-nil}
 use Rattle.std.specs.List.{AllByRecursion}
 use Rattle.std.proofs.lemmas.Bool.{lt-ltb}
 use Rattle.herm_model.specs.Paths.{Fact}
@@ -12,17 +12,16 @@ use Rattle.herm_journal.specs.Actions.{close}
 use Rattle.herm_journal.specs.Places.{Limits}
 use Rattle.herm_journal.specs.Entries.{Text, Entry, port}
 use Rattle.herm_journal.specs.Journals.{entry_behind}
-use Rattle.herm_source.specs.Bodies.{Name}
-use Rattle.herm_source.specs.Edges.{Code, code_of, arrive}
-use Rattle.herm_source.specs.States.{greatest_actions}
-use Rattle.herm_source.specs.Ledger.{HasLedger, made_in, held_in, queued_in, finalised_in, IsMadeOnce}
-use Rattle.herm_source.specs.Statuses.{counts, one, cut, line, bytes_of}
-use Rattle.herm_source.specs.Systems.{Modules, System, run, run_on, Event, acts, start, IsFinal, opening, Run}
-use Rattle.herm_source.specs.Headline.{AreAccepted, AreCodesOf, IsRunTo}
-use Rattle.herm_source.proofs.Events.{run-joined}
-use Rattle.herm_source.proofs.Numbered.{runs-numbered, numbered-once}
-use Rattle.herm_source.proofs.SystemLedger.{runs-keep}
-use Rattle.herm_source.proofs.KeptSteps.{beginnings-keep, local-steps-keep, answers-keep}
+use Rattle.herm_forms.specs.Bodies.{Name}
+use Rattle.herm_forms.specs.Edges.{Code, code_of, arrive}
+use Rattle.herm_system.specs.Machines.{greatest_actions}
+use Rattle.herm_system.specs.Ledger.{HasLedger, made_in, held_in, queued_in, finalised_in, IsMadeOnce}
+use Rattle.herm_system.specs.Statuses.{counts, one, cut, line, bytes_of}
+use Rattle.herm_source.specs.Modules.{Modules}
+use Rattle.herm_system.specs.Systems.{System, run, run_on, Event, acts, start, IsFinal, opening, main_port}
+use Rattle.herm_source.specs.Headline.{AreAccepted, AreCodesOf}
+use Rattle.herm_system.specs.Reports.{IsRunTo}
+use Rattle.herm_runs.proofs.Events.{run-joined}
 use Rattle.herm_compile.specs.Form.{IsLine, IsBody}
 use Rattle.herm_compile.specs.Straight.{process_of}
 use Rattle.herm_compile.proofs.StraightLaws.{flow_is, straight, carry, hold}
@@ -31,12 +30,16 @@ use Rattle.herm_compile.specs.declared.compiled.Line.TheVariants
 use Rattle.herm_world.specs.Lines.{Values, held, sent_from, sent, FindsStrings}
 use Rattle.herm_world.specs.StraightRuns.{IsRunnable, program_of, closed_at, journal_of, sets, counts_of}
 use Rattle.herm_world.proofs.Slots.{Slots, empty_slots, values_of, values-empty, length-empty}
-use Rattle.herm_world.proofs.Progress.{code_with, modules_with, Progress, body_of, event_of, variables_with, body_at, open_port, system_with, run_with, arrived}
+use Rattle.herm_world.proofs.Progress.{code_with, modules_with, Progress, body_of, event_of, variables_with, body_at, open_port, system_with, run_with, arrived, state_of}
 use Rattle.herm_world.proofs.Ends.{arrive-end, ending, close-run}
 use Rattle.herm_world.proofs.StraightRun.{after_lines, HaveNodes, HaveLabels, received, body-run}
 use Rattle.herm_world.proofs.StraightJournal.{IsClocked, next-clock, either-below, lines-journal, Totals, lines-totals, AreStrings}
 use Rattle.herm_world.proofs.StraightFacts.{before_receive, receive-told, start-told}
 use Rattle.herm_world.proofs.StraightEnd.{nodes-from, code-is, exact-carry, labels-along, steps-of, serials-one, gaps-weigh, strings-weigh, sets-few, same-counts, few-cut}
+use Rattle.herm_source.specs.States.{State, begin}
+use Rattle.herm_source.specs.Instance.{source}
+use Rattle.herm_source.proofs.instance.SourceLaws.{held-weighs, source-keeps-numbers, source-keeps-ledger}
+use Rattle.herm_runs.proofs.LedgerAlong.{ledger-along}
 
 held-one : (o : Option (Option Text)) → length (held o) ≤ 1
 held-one None = omega arith
@@ -56,43 +59,44 @@ strings-lines [] (s ∷ strings) are = absurd are
 strings-lines (q ∷ queue) [] are = absurd are
 strings-lines (q ∷ queue) (s ∷ strings) are = ap₂ (λ (t u : Text). t ++ u) (ap (λ c. line (bytes_of c)) are.0.1) (strings-lines queue strings are.1)
 
-abbrev pub final_system : Limits → Progress → List Name → System
+abbrev pub final_system : Limits → Progress → List Name → System (State Name)
 final_system limits p g =
     system_with limits end (body_of (gap (gap (gaps (length p.slots)))) [] p.steps (suc p.actions) p.serial ((g ++ (0, 1) ∷ []) ++ [])) (open_port p.queue p.placed ∷ record { is_open = false; queue = []; placed = 1 } ∷ [])
 
 abbrev pub final_journal : Progress → List Entry
 final_journal p = p.journal ++ entry_behind p.journal 1 (port 1) (close 0 []) ∷ []
 
-pub none-steps : (c : Code) (limits : Limits) (p : Progress) (g : List Name) → IsFinal (modules_with c) (final_system limits p g)
+pub none-steps : (c : Code) (limits : Limits) (p : Progress) (g : List Name) → IsFinal (source (modules_with c)) (final_system limits p g)
 none-steps c limits p g zero = refl
 none-steps c limits p g (suc zero) = refl
 none-steps c limits p g (suc (suc i)) = refl
 
 -- the numbers of the final state, where the ledger holds
-pub final-counts : (c : Code) (limits : Limits) (q p : Progress) (g : List Name) (lines : List Line) (strings : List Text) → HasLedger (final_system limits p g)
+pub final-counts : (c : Code) (limits : Limits) (q p : Progress) (g : List Name) (lines : List Line) (strings : List Text) → HasLedger (source (modules_with c)) (final_system limits p g)
     → Totals lines [] strings q p → q.serial ≡ 0 → q.steps ≡ 1 → q.actions ≡ 1 → length lines ≤ 1024 → length strings ≤ length lines
-    → counts (modules_with c) (final_system limits p g) ≡ counts_of (TheVariants.Receive ∷ lines) strings
+    → counts (source (modules_with c)) (final_system limits p g) ≡ counts_of (TheVariants.Receive ∷ lines) strings
 final-counts c limits q p g lines strings ledger totals serial_first steps_first actions_first few fewer =
-    let s : System = final_system limits p g in
-    let made : made_in one s ≡ 5 + sets lines = omega (arith, serials-one (λ n. (1, n)) 0 p.serial, totals.serial) in
-    let held : held_in one s ≡ 1 = omega (arith, gaps-weigh one (length p.slots)) in
+    let s : System (State Name) = final_system limits p g in
+    let made : made_in one (source (modules_with c)) s ≡ 5 + sets lines = omega (arith, serials-one (λ n. (1, n)) 0 p.serial, totals.serial) in
+    let held : held_in one (source (modules_with c)) s ≡ 1 = omega (arith, held-weighs (modules_with c) one (state_of end (body_of (gap (gap (gaps (length p.slots)))) [] p.steps (suc p.actions) p.serial ((g ++ (0, 1) ∷ []) ++ []))) c refl, gaps-weigh one (length p.slots)) in
     let queued : queued_in one s ≡ length strings = omega (arith, strings-weigh p.queue strings totals.queue) in
-    let gone : finalised_in one s ≡ 4 + sets lines - length strings = omega (arith, ledger one) in
+    let gone : finalised_in one (source (modules_with c)) s ≡ 4 + sets lines - length strings = omega (arith, ledger one) in
     let small = sets-few lines in
     let steps : p.steps + 0 ≡ length (TheVariants.Receive ∷ lines) = omega (arith, totals.steps) in
     let acted : suc p.actions + 0 ≡ length strings + 2 = omega (arith, totals.actions) in
-    same-counts (p.steps + 0) (length (TheVariants.Receive ∷ lines)) (suc p.actions + 0) (length strings + 2) (cut (made_in one s)) (5 + sets lines) (cut (held_in one s)) 1 (cut (queued_in one s)) (length strings) (cut (finalised_in one s)) (4 + sets lines - length strings)
-    steps acted (few-cut (made_in one s) (omega arith) ∙ made) (few-cut (held_in one s) (omega arith) ∙ held) (few-cut (queued_in one s) (omega arith) ∙ queued) (few-cut (finalised_in one s) (omega arith) ∙ gone)
+    same-counts (p.steps + 0) (length (TheVariants.Receive ∷ lines)) (suc p.actions + 0) (length strings + 2) (cut (made_in one (source (modules_with c)) s)) (5 + sets lines) (cut (held_in one (source (modules_with c)) s)) 1 (cut (queued_in one s)) (length strings) (cut (finalised_in one (source (modules_with c)) s)) (4 + sets lines - length strings)
+    steps acted (few-cut (made_in one (source (modules_with c)) s) (omega arith) ∙ made) (few-cut (held_in one (source (modules_with c)) s) (omega arith) ∙ held) (few-cut (queued_in one s) (omega arith) ∙ queued) (few-cut (finalised_in one (source (modules_with c)) s) (omega arith) ∙ gone)
 
 -- at most one string for each line is sent
 sent-few : (count : ℕ) (lines : List Line) (slots : Slots) → AllByRecursion (IsLine count) lines → FindsStrings (values_of slots) lines → length (sent_from (values_of slots) lines) ≤ length lines
 sent-few count lines slots well finds = sent-most lines (values_of slots)
 
 -- in a state of a run no cell is lost, and none is made twice
-pub keeps-once : (modules : Modules) (c : Code) (limits : Limits) (arg : Text) → slice_get modules.codes modules.main ≡ Some c → (s : System) (journal : List Entry) → IsRunTo modules (opening modules limits arg) journal s → HasLedger s × IsMadeOnce s
+pub keeps-once : (modules : Modules) (c : Code) (limits : Limits) (arg : Text) → slice_get modules.codes modules.main ≡ Some c → (s : System (State Name)) (journal : List Entry) → IsRunTo (source modules) (opening (source modules) limits arg) journal s → HasLedger (source modules) s × IsMadeOnce (source modules) s
 keeps-once modules c limits arg main s journal along =
-    let r : Run = record { system = s; journal = journal } in
-    (runs-keep beginnings-keep local-steps-keep answers-keep modules limits arg c along.0 r main along.1, numbered-once modules s (runs-numbered modules limits arg c along.0 r main along.1))
+    let first = begin c modules.main 1 main_port in
+    let is : (source modules).begin modules.main 1 main_port ≡ Some first = ap (option_map (λ c. begin c modules.main 1 main_port)) main in
+    ledger-along (source modules) (source-keeps-numbers modules) (source-keeps-ledger modules) limits arg first journal s is (journal, [], sym (append-nil journal), along)
 
 -- The lines behind the receive stand as nodes, the labels have what the values tell before each, each finds its string, and
 -- they are few.
@@ -113,7 +117,7 @@ module _ (count : ℕ) (nodes : List Node) (label : ℕ → Fact → Bool) (limi
   first = received count nodes label limits arg
 
   abbrev Ends : List Line → Type 0
-  Ends lines = (g : List Name) × (run modules ((acts 1 (port 1) ∷ map event_of lines) ++ acts 1 (port 1) ∷ []) (start modules limits arg)
+  Ends lines = (g : List Name) × (run (source modules) ((acts 1 (port 1) ∷ map event_of lines) ++ acts 1 (port 1) ∷ []) (start (source modules) limits arg)
       ≡ Some (record { system = final_system limits (after_lines lines first) g; journal = final_journal (after_lines lines first) }))
 
   whole-run : (lines : List Line) → HaveNodes nodes 0 (TheVariants.Receive ∷ lines) → ((f : Fact) → label 0 f ≡ tells (before_receive (empty_slots count)) f) → HaveLabels arg label 1 first lines
@@ -125,8 +129,8 @@ module _ (count : ℕ) (nodes : List Node) (label : ℕ → Fact → Bool) (limi
       let before : List Event = acts 1 (port 1) ∷ map event_of lines in
       let ends = subst (λ n. (g : List Name) × (arrive (code_with n nodes label) end (body_at arg p) ≡ ending (gap (gap (gaps (length p.slots)))) p.steps p.actions p.serial g)) size (arrive-end nodes label arg p) in (
         ends.0,
-        run-joined modules before (close_event ∷ []) (start modules limits arg) (arrived (code_with count nodes label) limits arg end p) (body-run count nodes label limits arg lines here begins labels well finds enough few)
-            ∙ ap (option_and_then (run modules [])) (ap (λ b. run_on modules close_event (run_with limits end b p.queue p.placed p.journal)) ends.1
+        run-joined (source modules) before (close_event ∷ []) (start (source modules) limits arg) (arrived (code_with count nodes label) limits arg end p) (body-run count nodes label limits arg lines here begins labels well finds enough few)
+            ∙ ap (option_and_then (run (source modules) [])) (ap (λ b. run_on (source modules) close_event (run_with limits end b p.queue p.placed p.journal)) ends.1
             ∙ close-run (code_with count nodes label) limits (gap (gap (gaps (length p.slots)))) p.steps p.actions p.serial ends.0 p.queue p.placed p.journal (lt-ltb p.actions greatest_actions fewer)),
       )
 
@@ -149,7 +153,7 @@ module _ (count : ℕ) (nodes : List Node) (label : ℕ → Fact → Bool) (limi
   -- the run of lines to a final state
   pub record HasEnd (lines : List Line) : Type 0 where
     pub names : List Name
-    pub is_run : run modules (all_events lines) (start modules limits arg)
+    pub is_run : run (source modules) (all_events lines) (start (source modules) limits arg)
         ≡ Some (record { system = final_system limits (after_lines lines first) names; journal = journal_of arg (sent_from (values_of (empty_slots count)) lines) })
     pub totals : Totals lines [] (sent_from (values_of (empty_slots count)) lines) first (after_lines lines first)
     pub fewer : length (sent_from (values_of (empty_slots count)) lines) ≤ length lines

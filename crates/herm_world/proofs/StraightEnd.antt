@@ -11,10 +11,10 @@ use Rattle.herm_model.specs.Values.{Cell, gaps, tells}
 use Rattle.herm_model.specs.Texts.{text_of}
 use Rattle.herm_journal.specs.Entries.{Text, Entry}
 use Rattle.herm_journal.specs.Journals.{IsRising, IsRisingFrom}
-use Rattle.herm_source.specs.Bodies.{Name}
-use Rattle.herm_source.specs.Edges.{code_of, loops_in}
-use Rattle.herm_source.specs.Weights.{weigh_all, weigh_in, weigh_serials}
-use Rattle.herm_source.specs.Statuses.{Counts, one, cut}
+use Rattle.herm_forms.specs.Bodies.{Name}
+use Rattle.herm_forms.specs.Edges.{code_of, loops_in}
+use Rattle.herm_journal.specs.Weights.{weigh_all, weigh_in, weigh_serials}
+use Rattle.herm_system.specs.Statuses.{Counts, one, cut}
 use Rattle.herm_compile.specs.Form.{IsLine}
 use Rattle.herm_compile.specs.Straight.{body_of, process_of, ok_hops, IsStep}
 use Rattle.herm_compile.proofs.StraightLaws.{around, nodes_are, straight, at_start, carry, carry_append, hold, walk_over, holds_at}

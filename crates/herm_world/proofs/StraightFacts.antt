@@ -10,9 +10,9 @@ use Rattle.herm_model.specs.Control.{held_behind, held_at_start}
 use Rattle.herm_model.specs.Outcomes.{ok}
 use Rattle.herm_model.proofs.NothingThere.{none-there, none-read}
 use Rattle.herm_model.proofs.Places.{cell_below, cell-below, read_below, read-below, part_at-set_same, part_at-set_other}
-use Rattle.herm_source.specs.Bodies.{Name}
+use Rattle.herm_forms.specs.Bodies.{Name}
 use Rattle.herm_journal.specs.Entries.{Text}
-use Rattle.herm_source.specs.Systems.{main_port, first_message}
+use Rattle.herm_system.specs.Systems.{main_port, first_message}
 use Rattle.herm_compile.proofs.StraightLaws.{hold}
 use Rattle.herm_compile.specs.Form.{IsLine}
 use Rattle.herm_compile.specs.declared.compiled.Line.{Line}

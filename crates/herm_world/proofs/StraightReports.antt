@@ -6,18 +6,18 @@ use Rattle.herm_model.specs.Typed.{is_text}
 use Rattle.herm_model.specs.Values.{Cell}
 use Rattle.herm_journal.specs.Places.{Limits}
 use Rattle.herm_journal.specs.Entries.{Text, Entry}
-use Rattle.herm_source.specs.Bodies.{Name}
-use Rattle.herm_source.specs.Edges.{Code}
-use Rattle.herm_source.specs.Systems.{Modules, System, Run}
+use Rattle.herm_forms.specs.Bodies.{Name}
+use Rattle.herm_forms.specs.Edges.{Code}
+use Rattle.herm_source.specs.Modules.{Modules}
+use Rattle.herm_system.specs.Systems.{System, Run, main_port}
 use Rattle.herm_source.specs.Headline.{AreAccepted, Describes}
-use Rattle.herm_source.specs.Statuses.{line, bytes_of, plainly}
-use Rattle.herm_source.proofs.Events.{run-stamped}
-use Rattle.herm_source.proofs.SystemLedger.{runs-keep}
-use Rattle.herm_source.proofs.KeptSteps.{beginnings-keep, local-steps-keep, answers-keep}
+use Rattle.herm_system.specs.Statuses.{line, bytes_of, plainly}
+use Rattle.herm_runs.proofs.Events.{run-stamped}
+use Rattle.herm_runs.proofs.SystemLedger.{runs-keep}
 use Rattle.herm_compile.specs.declared.compiled.Line.{Line}
 use Rattle.herm_compile.specs.declared.compiled.Line.TheVariants
 use Rattle.herm_world.specs.Lines.{sent_from}
-use Rattle.herm_world.specs.StraightRuns.{IsOfRun, program_of, journal_of, report_of, StraightLinesRun}
+use Rattle.herm_world.specs.StraightRuns.{program_of, journal_of, report_of, StraightLinesRun}
 use Rattle.herm_world.proofs.Slots.{empty_slots, values_of}
 use Rattle.herm_world.proofs.Progress.{Progress, code_with, modules_with}
 use Rattle.herm_world.proofs.StraightRun.{after_lines, received}
@@ -26,10 +26,14 @@ use Rattle.herm_world.proofs.StraightDone.{AreSet, all_events, lines-end, final_
 use Rattle.herm_world.proofs.Accepted.{lines-accepted}
 use Rattle.herm_world.proofs.LineNeeds.{lines-find}
 use Rattle.herm_world.proofs.SoundRun.{states-sound}
+use Rattle.herm_source.specs.States.{State, begin}
+use Rattle.herm_system.specs.Reports.{IsReportOf}
+use Rattle.herm_source.specs.Instance.{source}
+use Rattle.herm_source.proofs.instance.SourceLaws.{source-keeps-ledger}
 
 -- the report of lines that send these strings is that of a run
 abbrev AreOfRun : Limits → Text → List Line → Modules → List Text → Type 0
-AreOfRun limits arg lines modules strings = IsOfRun modules limits arg (report_of arg lines strings)
+AreOfRun limits arg lines modules strings = IsReportOf (source modules) limits arg (report_of arg lines strings)
 
 -- where the modules are accepted, it is all that is claimed of a run
 abbrev AreDescribed : ℕ → Limits → Text → List Text → List Line → Modules → List Text → Type 0
@@ -45,21 +49,21 @@ module _ (count : ℕ) (limits : Limits) (arg : Text) where
       let p : Progress = after_lines lines first in
       let strings : List Text = sent_from (values_of (empty_slots count)) lines in
       let ends = lines-end count nodes label limits arg lines set in
-      let final : System = final_system limits p ends.names in
-      let last : Run = record { system = final; journal = journal_of arg strings } in
+      let final : System (State Name) = final_system limits p ends.names in
+      let last : Run (State Name) = record { system = final; journal = journal_of arg strings } in
       let events = all_events count nodes label limits arg lines in
       let few : length lines ≤ 1024 = omega (arith, set.few) in
       record {
         final = final;
         is_ordered = journal-rising arg strings;
-        is_stamped = run-stamped modules limits arg events last ends.is_run;
+        is_stamped = run-stamped (source modules) limits arg events last ends.is_run;
         is_a_run = (events, ends.is_run);
         is_final = none-steps code limits p ends.names;
         has_ledger = λ s along. keeps-once modules code limits arg refl s along.0 along.3;
         ends = refl;
         queued = ap (λ (ts : List Text). (0, ts) ∷ (1, []) ∷ []) (strings-texts p.queue strings ends.totals.queue);
         counts = final-counts code limits first p ends.names lines strings
-            (runs-keep beginnings-keep local-steps-keep answers-keep modules limits arg code events last refl ends.is_run)
+            (runs-keep (source modules) (source-keeps-ledger modules) limits arg (begin code modules.main 1 main_port) events last refl ends.is_run)
             ends.totals refl refl refl few ends.fewer;
         status = refl;
         text = λ names. append-nil (flat_map (λ c. line (bytes_of c)) (map (λ (q : ℕ × Cell Name). q.1) p.queue)) ∙ strings-lines p.queue strings ends.totals.queue;

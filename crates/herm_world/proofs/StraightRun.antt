@@ -12,10 +12,12 @@ use Rattle.herm_journal.specs.Actions.{take}
 use Rattle.herm_journal.specs.Places.{Limits, empty_port, port_with, a_port}
 use Rattle.herm_journal.specs.Entries.{Text, port}
 use Rattle.herm_journal.specs.Journals.{entry_behind}
-use Rattle.herm_source.specs.Bodies.{Name, Body}
-use Rattle.herm_source.specs.Edges.{arrive}
-use Rattle.herm_source.specs.States.{greatest_actions, answered}
-use Rattle.herm_source.specs.Systems.{Modules, Run, run, run_on, acts, start, own_name, main_port, first_message}
+use Rattle.herm_forms.specs.Bodies.{Name, Body}
+use Rattle.herm_forms.specs.Edges.{arrive}
+use Rattle.herm_system.specs.Machines.{greatest_actions}
+use Rattle.herm_source.specs.States.{answered, own_name, State}
+use Rattle.herm_source.specs.Modules.{Modules}
+use Rattle.herm_system.specs.Systems.{Run, run, run_on, acts, start, main_port, first_message}
 use Rattle.herm_compile.specs.Form.{IsLine}
 use Rattle.herm_compile.specs.declared.compiled.Line.{Line}
 use Rattle.herm_compile.specs.declared.compiled.Line.TheVariants
@@ -23,6 +25,7 @@ use Rattle.herm_world.specs.Lines.{Values, HasString, FindsStrings}
 use Rattle.herm_world.proofs.Slots.{string_cell, strings_of, empty_slots, values_of, gaps-empty, length-empty, length-set_slot, values-set, slot-found}
 use Rattle.herm_world.proofs.Progress.{code_with, modules_with, node_for, Progress, after_set, after_send, after_discard, after_line, event_of, body_of, variables_with, body_at, state_of, system_with, run_with, run_at, arrived, local-run, put-run, does-set, does-discard, does-send, wants-send, behind-answer}
 use Rattle.herm_world.proofs.Ends.{arrive-kept}
+use Rattle.herm_source.specs.Instance.{source}
 
 -- where control goes that goes to these lines, of which the first stands at a place
 abbrev pub next_of : ℕ → List Line → Target
@@ -94,7 +97,7 @@ module _ (count : ℕ) (nodes : List Node) (label : ℕ → Fact → Bool) (limi
 
   pub line-step : (i : ℕ) (line : Line) (t : Target) (p : Progress) → slice_get nodes i ≡ Some (node_for i line t) → nat_lt p.steps limits.steps ≡ true → nat_lt p.actions greatest_actions ≡ true
       → length p.slots ≡ count → IsLine count line → Able (values_of p.slots) line
-      → run_on modules (event_of line) (run_at limits arg (node i) p) ≡ Some (arrived (code_with count nodes label) limits arg t (after_line line p))
+      → run_on (source modules) (event_of line) (run_at limits arg (node i) p) ≡ Some (arrived (code_with count nodes label) limits arg t (after_line line p))
   line-step i TheVariants.Receive t p here below fewer size h able = absurd able
   line-step i (TheVariants.Set k bytes) t p here below fewer size h able =
       let within : k < length p.slots = omega arith in
@@ -119,11 +122,11 @@ module _ (count : ℕ) (nodes : List Node) (label : ℕ → Fact → Bool) (limi
   lines-run : (lines : List Line) (line : Line) (i : ℕ) (p : Progress) → HaveNodes nodes i (line ∷ lines) → HaveLabels arg label i p (line ∷ lines)
       → length p.slots ≡ count → AllByRecursion (IsLine count) (line ∷ lines) → FindsStrings (values_of p.slots) (line ∷ lines)
       → p.steps + length (line ∷ lines) ≤ limits.steps → p.actions + length (line ∷ lines) < greatest_actions
-      → run modules (map event_of (line ∷ lines)) (run_at limits arg (node i) p) ≡ Some (arrived (code_with count nodes label) limits arg end (after_lines (line ∷ lines) p))
+      → run (source modules) (map event_of (line ∷ lines)) (run_at limits arg (node i) p) ≡ Some (arrived (code_with count nodes label) limits arg end (after_lines (line ∷ lines) p))
   lines-run [] line i p here labels size well finds enough few =
       let below : p.steps < limits.steps = omega arith in
       let fewer : p.actions < greatest_actions = omega arith in
-      ap (option_and_then (run modules []))
+      ap (option_and_then (run (source modules) []))
       (line-step i line end p here.0 (lt-ltb p.steps limits.steps below) (lt-ltb p.actions greatest_actions fewer) size well.0 (able count line [] (values_of p.slots) well.0 finds))
   lines-run (next ∷ lines) line i p here labels size well finds enough few =
       let below : p.steps < limits.steps = omega arith in
@@ -133,7 +136,7 @@ module _ (count : ℕ) (nodes : List Node) (label : ℕ → Fact → Bool) (limi
       let q = after_line line p in
       let more : q.steps + length (next ∷ lines) ≤ limits.steps = omega (arith, behind.steps) in
       let room : q.actions + length (next ∷ lines) < greatest_actions = omega (arith, behind.actions) in
-      ap (option_and_then (run modules (map event_of (next ∷ lines))))
+      ap (option_and_then (run (source modules) (map event_of (next ∷ lines))))
       (line-step i line (node (suc i)) p here.0 (lt-ltb p.steps limits.steps below) (lt-ltb p.actions greatest_actions fewer) size well.0 can
       ∙ ap Some (arrived-kept (suc i) next lines q labels.1))
       ∙ lines-run lines next (suc i) q here.1 labels.1 (behind.size ∙ size) well.1 (behind.finds (next ∷ lines) finds) more room
@@ -154,13 +157,13 @@ module _ (count : ℕ) (nodes : List Node) (label : ℕ → Fact → Bool) (limi
   abbrev pub first_variables : Parts Name
   first_variables = part main_port (gap (strings_of (empty_slots count)))
 
-  abbrev pub first_run : Run
+  abbrev pub first_run : Run (State Name)
   first_run = record { system = system_with limits (node 0) (body_of first_variables [] 0 0 0 []) (empty_port ∷ port_with (first_message arg) ∷ []); journal = [] }
 
   first-gaps : gaps {N = Name} (length (replicate {A = ℕ} count 2)) ≡ strings_of (empty_slots count)
   first-gaps = ap gaps (length-replicate count 2) ∙ gaps-empty count
 
-  pub start-is : ((f : Fact) → label 0 f ≡ tells first_variables f) → start modules limits arg ≡ first_run
+  pub start-is : ((f : Fact) → label 0 f ≡ tells first_variables f) → start (source modules) limits arg ≡ first_run
   start-is same =
       ap (λ (ps : Parts Name). record {
         system = system_with limits (node 0) (arrive (code_with count nodes label) (node 0) (body_of (part main_port (gap ps)) [] 0 0 0 [])) (empty_port ∷ port_with (first_message arg) ∷ []);
@@ -174,20 +177,20 @@ module _ (count : ℕ) (nodes : List Node) (label : ℕ → Fact → Bool) (limi
       let place : 1 < suc (suc (size (strings_of (empty_slots count)))) = omega arith in
       rw (here, lt-ltb 1 (suc (suc (size (strings_of (empty_slots count))))) place) refl
 
-  pub take-run : (t : Target) → slice_get nodes 0 ≡ Some (node_for 0 TheVariants.Receive t) → nat_lt 0 limits.steps ≡ true → run_on modules (acts 1 (port 1)) first_run ≡ Some (arrived (code_with count nodes label) limits arg t received)
+  pub take-run : (t : Target) → slice_get nodes 0 ≡ Some (node_for 0 TheVariants.Receive t) → nat_lt 0 limits.steps ≡ true → run_on (source modules) (acts 1 (port 1)) first_run ≡ Some (arrived (code_with count nodes label) limits arg t received)
   take-run t here below =
-      rw (here, below, behind-answer modules 1 (port 1) first_run.system (code_with count nodes label) (state_of (node 0) (body_of first_variables [] 0 0 0 [])) (a_port (port_with (first_message arg))) (take 0 (first_message arg)) (state_of t (arrive (code_with count nodes label) t (body_at arg received))) (answered-take t here)) refl
+      rw (here, below, behind-answer modules 1 (port 1) first_run.system (state_of (node 0) (body_of first_variables [] 0 0 0 [])) (a_port (port_with (first_message arg))) (take 0 (first_message arg)) (state_of t (arrive (code_with count nodes label) t (body_at arg received))) (answered-take t here)) refl
 
   -- the run along the receive and these lines, up to the end of the body
   pub body-run : (lines : List Line) → HaveNodes nodes 0 (TheVariants.Receive ∷ lines) → ((f : Fact) → label 0 f ≡ tells first_variables f) → HaveLabels arg label 1 received lines
       → AllByRecursion (IsLine count) lines → FindsStrings (values_of (empty_slots count)) lines → suc (length lines) ≤ limits.steps → suc (length lines) < greatest_actions
-      → run modules (acts 1 (port 1) ∷ map event_of lines) (start modules limits arg) ≡ Some (arrived (code_with count nodes label) limits arg end (after_lines lines received))
+      → run (source modules) (acts 1 (port 1) ∷ map event_of lines) (start (source modules) limits arg) ≡ Some (arrived (code_with count nodes label) limits arg end (after_lines lines received))
   body-run [] here first labels well finds enough few =
-      ap (run modules (acts 1 (port 1) ∷ [])) (start-is first)
-      ∙ ap (option_and_then (run modules [])) (take-run end here.0 (lt-ltb 0 limits.steps (omega arith)))
+      ap (run (source modules) (acts 1 (port 1) ∷ [])) (start-is first)
+      ∙ ap (option_and_then (run (source modules) [])) (take-run end here.0 (lt-ltb 0 limits.steps (omega arith)))
   body-run (line ∷ lines) here first labels well finds enough few =
       let more : 1 + length (line ∷ lines) ≤ limits.steps = omega arith in
       let room : 1 + length (line ∷ lines) < greatest_actions = omega arith in
-      ap (run modules (acts 1 (port 1) ∷ map event_of (line ∷ lines))) (start-is first)
-      ∙ ap (option_and_then (run modules (map event_of (line ∷ lines)))) (take-run (node 1) here.0 (lt-ltb 0 limits.steps (omega arith)) ∙ ap Some (arrived-kept 1 line lines received labels))
+      ap (run (source modules) (acts 1 (port 1) ∷ map event_of (line ∷ lines))) (start-is first)
+      ∙ ap (option_and_then (run (source modules) (map event_of (line ∷ lines)))) (take-run (node 1) here.0 (lt-ltb 0 limits.steps (omega arith)) ∙ ap Some (arrived-kept 1 line lines received labels))
       ∙ lines-run lines line 1 received here.1 labels (length-empty count) well finds more room

@@ -5,9 +5,9 @@ use Rattle.herm_journal.specs.Actions as actions
 use Rattle.herm_journal.specs.Actions.{values, raised, gone, make_port, make_process, put, take, close, answer, hear}
 use Rattle.herm_journal.specs.Entries as source
 use Rattle.herm_journal.specs.Entries.{Text, Record, port, reply_cell, book}
-use Rattle.herm_source.specs.Headline as headline
-use Rattle.herm_source.specs.Statuses as statuses
-use Rattle.herm_source.specs.Statuses.{Fate, ended_normally, ended_by, waits, spent_steps, spent_actions}
+use Rattle.herm_system.specs.Reports as headline
+use Rattle.herm_system.specs.Statuses as statuses
+use Rattle.herm_system.specs.Statuses.{Fate, ended_normally, ended_by, waits, spent_steps, spent_actions}
 use Rattle.herm_base.specs.declared.numbers.PortNo.{PortNo}
 use Rattle.herm_base.specs.declared.numbers.ProcNo.{ProcNo}
 use Rattle.herm_world.specs.declared.report.Place.{Place}

@@ -3,22 +3,24 @@
 use Rattle.std.specs.Prelude.{ℕ, suc, ◌≡◌, ◌+◌, ◌-◌, ◌≤◌, IsTrue, List, [], ◌∷◌, ◌++◌, length, map, replicate, None, Some, flat_map}
 use Rattle.herm_model.specs.Types.{predefined}
 use Rattle.herm_model.specs.Typed.{is_text}
-use Rattle.herm_model.specs.Values.{a_text}
+use Rattle.herm_model.specs.Values.{a_text, Name}
 use Rattle.herm_model.specs.Texts.{text_of}
 use Rattle.herm_journal.specs.Actions.{put, take, close}
 use Rattle.herm_journal.specs.Entries.{Text, Entry, Place, Record, port}
-use Rattle.herm_source.specs.Evaluate.{scalar_value}
-use Rattle.herm_source.specs.Systems.{Program, Modules, System, opening, first_message, IsFinal, Event, Run, run, start}
+use Rattle.herm_forms.specs.Evaluate.{scalar_value}
+use Rattle.herm_source.specs.Modules.{Program, Modules}
+use Rattle.herm_system.specs.Systems.{System, first_message, IsFinal, Event, Run, run, start}
 use Rattle.herm_journal.specs.Places.{Limits}
-use Rattle.herm_source.specs.Statuses.{Counts, ended_normally, fates, queues, counts, status_of, text_of_run, plainly, line}
-use Rattle.herm_source.specs.Headline.{AreAccepted, IsRunTo, IsAlong, Report, Describes}
-use Rattle.herm_source.specs.Ledger.{HasLedger, IsMadeOnce}
-use Rattle.herm_journal.specs.Journals.{IsRising, IsStamped}
+use Rattle.herm_system.specs.Statuses.{Counts, ended_normally, plainly, line}
+use Rattle.herm_source.specs.Headline.{AreAccepted, Describes}
+use Rattle.herm_system.specs.Reports.{Report, IsReportOf}
 use Rattle.herm_compile.specs.Form.{IsBody}
 use Rattle.herm_compile.specs.Straight.{process_of}
 use Rattle.herm_compile.specs.declared.compiled.Line.{Line}
 use Rattle.herm_compile.specs.declared.compiled.Line.TheVariants.{Receive, Set, Send, Discard}
 use Rattle.herm_world.specs.Lines.{FindsStrings, sent}
+use Rattle.herm_source.specs.States.{State}
+use Rattle.herm_source.specs.Instance.{source}
 
 -- The lines run: the start message is received first and nowhere else, each line speaks of one of so many strings, each
 -- text fits a string, each send and each discard finds its string, and the lines are few.
@@ -118,27 +120,12 @@ report_of arg lines strings = record {
   text = flat_map line strings;
 }
 
--- The report is that of a run to a final state, whatever the argument: its journal is ordered, stamped and that run, every
--- state along it has the ledger, and all else is that of the final state. Language reference, "Reports".
-pub record IsOfRun (modules : Modules) (limits : Limits) (arg : Text) (report : Report) : Type 0 where
-  pub final : System
-  pub is_ordered : IsRising report.journal
-  pub is_stamped : IsStamped report.journal
-  pub is_a_run : IsRunTo modules (opening modules limits arg) report.journal final
-  pub is_final : IsFinal modules final
-  pub has_ledger : (s : System) → IsAlong modules (opening modules limits arg) report.journal s → HasLedger s × IsMadeOnce s
-  pub ends : fates modules final ≡ report.ends
-  pub queued : queues final ≡ report.queued
-  pub counts : counts modules final ≡ report.counts
-  pub status : status_of modules final ≡ report.status
-  pub text : (names : List Text) → text_of_run names plainly modules (record { system = final; journal = report.journal }) ≡ report.text
-
 -- The report is that of a run of these lines, whatever modules are accepted for them, where the limit of steps is not less
 -- than the lines, and nothing more is asked for; where the argument is a text, it is all that is claimed of a run. And there
 -- are such modules. Language reference, "Straight-line programs".
 pub record IsReported (count : ℕ) (lines : List Line) (arg : Text) (report : Report) : Type 0 where
   pub has_modules : (modules : Modules) × AreAccepted (program_of count lines) modules
-  pub is_run : (limits : Limits) (modules : Modules) → length lines ≤ limits.steps → AreAccepted (program_of count lines) modules → IsOfRun modules limits arg report
+  pub is_run : (limits : Limits) (modules : Modules) → length lines ≤ limits.steps → AreAccepted (program_of count lines) modules → IsReportOf (source modules) limits arg report
   pub is_described : (limits : Limits) (modules : Modules) (names : List Text) → IsTrue (is_text arg) → length lines ≤ limits.steps → AreAccepted (program_of count lines) modules
       → Describes modules limits arg names plainly report
 
@@ -148,8 +135,8 @@ StraightLinesRun = (count : ℕ) (lines : List Line) (arg : Text) → IsRunnable
 
 -- Every run from the opening state, whatever its events, goes on to a final state with this journal.
 abbrev pub GoesOnTo : Modules → Limits → (arg : Text) → List Entry → Type 0
-GoesOnTo modules limits arg journal = (events : List Event) (r : Run) → run modules events (start modules limits arg) ≡ Some r →
-    (rest : List Event) × (final : System) × (run modules rest r ≡ Some (record { system = final; journal = journal })) × IsFinal modules final
+GoesOnTo modules limits arg journal = (events : List Event) (r : Run (State Name)) → run (source modules) events (start (source modules) limits arg) ≡ Some r →
+    (rest : List Event) × (final : System (State Name)) × (run (source modules) rest r ≡ Some (record { system = final; journal = journal })) × IsFinal (source modules) final
 
 -- Lines that run have one run: whatever was done, it goes on to that end. Language reference, "Straight-line programs".
 abbrev pub StraightLinesHaveOneRun : Type 0

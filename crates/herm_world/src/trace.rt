@@ -1,5 +1,5 @@
 //! The texts of values.
-ghost use Rattle.std.specs.Prelude.{◌≡◌, ◌++◌, [], ◌∷◌, ◌↔◌, IfOk, OnOk, OnErr, IsTrue, length};
+ghost use Rattle.std.specs.Prelude.{◌≡◌, ◌++◌, [], ◌∷◌, ◌↔◌, IfOk, OnOk, OnErr, IsTrue, length, ℕ, List};
 
 use std::alloc::{AllocError, Global};
 use std::marker::Model;
@@ -11,8 +11,6 @@ pub struct Trace {
 }
 
 impl Model for Trace {
-    ghost use Rattle.std.specs.Prelude.{ℕ, List};
-
     ghost Value = { List ℕ };
 
     ghost view = { λ t. t.text.items };
@@ -49,8 +47,6 @@ pub struct Traces {
 }
 
 impl Model for Traces {
-    ghost use Rattle.std.specs.Prelude.{ℕ, List};
-
     ghost Value = { List (List ℕ) };
 
     ghost view = { λ t. t.texts.items };

@@ -9,27 +9,25 @@ use Rattle.herm_model.specs.Paths.{Path}
 use Rattle.herm_model.specs.Types.{type_at}
 use Rattle.herm_model.specs.Statements.{Form, New, Send, Receive, Select, Call, Return, ReturnBy, Create, Arm}
 use Rattle.herm_model.specs.Nodes.{Node}
-use Rattle.herm_model.specs.Values.{a_callmessage, an_inport, Cell, cell, kind_of, read_at, rename}
+use Rattle.herm_model.specs.Values.{a_callmessage, an_inport, Cell, cell, kind_of, read_at}
 use Rattle.herm_model.specs.Typed.{HaveTypes}
 use Rattle.herm_model.proofs.Lists.{found-in}
-use Rattle.herm_model.proofs.Renaming.{read_at-rename}
 use Rattle.herm_model.proofs.Options.{some-injective, none-not_some, chain-some, map-some}
 use Rattle.herm_journal.specs.Actions.{values, new_port, new_process, to_put, to_take, to_close, to_answer, to_hear}
 use Rattle.herm_journal.specs.Actions
 use Rattle.herm_journal.proofs.Rising.{same-true}
-use Rattle.herm_source.specs.Bodies.{Name, Body}
-use Rattle.herm_source.specs.Bodies
-use Rattle.herm_source.specs.Forms.{inport_number}
-use Rattle.herm_source.specs.Exchanges.{CellWant, CellReply, inport_at, outport_at, ports_at}
-use Rattle.herm_source.specs.Exchanges
-use Rattle.herm_source.specs.Edges.{Code}
-use Rattle.herm_source.specs.States.{State, node_at, item_or, call_or_statement, is_action, wants, wanted, wanted_next}
-use Rattle.herm_source.specs.Systems.{own_name}
-use Rattle.herm_source.specs.Renaming.{rename_body, forget_name, forget_state}
-use Rattle.herm_source.specs.Along.{ports_of, looks_at, port_type}
-use Rattle.herm_source.specs.Sound.{each, typed_in}
-use Rattle.herm_source.proofs.renamed.RenamedForms.{inport_number-renamed}
-use Rattle.herm_source.proofs.Diaries.{cond-both}
+use Rattle.herm_forms.specs.Bodies.{Name, Body}
+use Rattle.herm_forms.specs.Bodies
+use Rattle.herm_forms.specs.Forms.{inport_number}
+use Rattle.herm_journal.specs.Messages.{CellWant, CellReply}
+use Rattle.herm_forms.specs.Exchanges.{inport_at, outport_at, ports_at}
+use Rattle.herm_forms.specs.Exchanges
+use Rattle.herm_forms.specs.Edges.{Code}
+use Rattle.herm_source.specs.States.{State, node_at, item_or, call_or_statement, wanted, wanted_next, own_name}
+use Rattle.herm_forms.specs.Acts.{is_action, wants}
+use Rattle.herm_source.specs.Looking.{ports_of, looks_at, port_type}
+use Rattle.herm_system.specs.Kinds.{each, typed_in}
+use Rattle.herm_runs.proofs.Stands.{cond-both}
 use Rattle.herm_source.proofs.incoming.SuitsReading.{type-read}
 
 -- what is found of a list that has such an element
@@ -42,23 +40,12 @@ find-some {X} test x (z ∷ xs) (inr is) e = by_test (test z) (find-some test x 
     by_test true h = (z, refl)
     by_test false h = h
 
--- the port of an inport does not depend on names
-number-renamed : (i : Path) (b : Body Name) → inport_at i (rename_body forget_name b) ≡ inport_at i b
-number-renamed i b = ap (option_and_then inport_number) (read_at-rename forget_name i b.variables) ∙ of_read (read_at i b.variables)
-  where
-    of_read : (o : Option (Cell Name)) → option_and_then inport_number (option_map (rename forget_name) o) ≡ option_and_then inport_number o
-    of_read None = refl
-    of_read (Some c) = inport_number-renamed forget_name c
-
-pub is-some_of : (n : ℕ) (o : Option ℕ) → some_of (nat_eq n) (list_of (λ k. k ∷ []) o) ≡ true → o ≡ Some n
+is-some_of : (n : ℕ) (o : Option ℕ) → some_of (nat_eq n) (list_of (λ k. k ∷ []) o) ≡ true → o ≡ Some n
 is-some_of n None e = absurd (false≢true e)
 is-some_of n (Some k) e = ap (λ i. Some i) (sym (eqb-true n k (sym (or-false (nat_eq n k)) ∙ e)))
 
-some-looked : (n : ℕ) (i : Path) (s : State Name) → inport_at i s.body ≡ Some n → looks_at n (forget_state s) i ≡ true
-some-looked n i s e = ap (λ o. some_of (nat_eq n) (list_of (λ k. k ∷ []) o)) (number-renamed i s.body ∙ e) ∙ or-false (nat_eq n n) ∙ same-true n
-
-looked-some : (n : ℕ) (i : Path) (s : State Name) → looks_at n (forget_state s) i ≡ true → inport_at i s.body ≡ Some n
-looked-some n i s e = sym (number-renamed i s.body) ∙ is-some_of n (inport_at i (rename_body forget_name s.body)) e
+some-looked : (n : ℕ) (i : Path) (s : State Name) → inport_at i s.body ≡ Some n → looks_at n s i ≡ true
+some-looked n i s e = ap (λ o. some_of (nat_eq n) (list_of (λ k. k ∷ []) o)) e ∙ or-false (nat_eq n n) ∙ same-true n
 
 -- a port of the list is that of an inport at one of the paths
 port-looked : (paths : List Path) (b : Body Name) (ports : List ℕ) (n : ℕ) → ports_at paths b ≡ Some ports → IsIn n ports → (i : Path) × IsIn i paths × (inport_at i b ≡ Some n)
@@ -135,7 +122,7 @@ takes c s ports e = by_next s.body.work s.body.call (node_at c s.point) refl e
 -- the type of the port, and the inport of this type that the process has
 pub record PortTyped (c : Code) (s : State Name) (n : ℕ) : Type 0 where
   pub type : ℕ
-  pub at : port_type c (forget_state s) n ≡ Some type
+  pub at : port_type c s n ≡ Some type
   pub typed : IsIn (type, an_inport n) (typed_in c.types (each c.variables) s.body.variables)
 
 kind-of : (c : Cell Name) (n : ℕ) → inport_number c ≡ Some n → kind_of c ≡ an_inport n
@@ -147,12 +134,12 @@ port-typed c s ports n h e member =
     let x = takes c s ports e in
     let paths = ports_of (x.node).form in
     let i = port-looked paths s.body ports n x.looked member in
-    let first = find-some (looks_at n (forget_state s)) i.0 paths i.1 (some-looked n i.0 s i.2) in
-    let read = chain-some inport_number (read_at first.0 s.body.variables) n (looked-some n first.0 s (found-in (looks_at n (forget_state s)) first.0 paths first.1).1) in
+    let first = find-some (looks_at n s) i.0 paths i.1 (some-looked n i.0 s i.2) in
+    let read = chain-some inport_number (read_at first.0 s.body.variables) n (is-some_of n (inport_at first.0 s.body) (found-in (looks_at n s) first.0 paths first.1).1) in
     let t = type-read Name c.types c.variables first.0 s.body.variables read.0 h read.1 in
     record {
       type = t.type;
-      at = ap (option_and_then (λ (node : Node). option_and_then (type_at c.types c.variables) (find (looks_at n (forget_state s)) (ports_of node.form)))) x.here
+      at = ap (option_and_then (λ (node : Node). option_and_then (type_at c.types c.variables) (find (looks_at n s) (ports_of node.form)))) x.here
           ∙ ap (option_and_then (type_at c.types c.variables)) first.1 ∙ t.at;
       typed = subst (λ k. IsIn (t.type, k) (typed_in c.types (each c.variables) s.body.variables)) (kind-of read.0 n read.2) t.typed;
     }

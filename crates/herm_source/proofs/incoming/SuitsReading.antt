@@ -10,8 +10,8 @@ use Rattle.herm_model.proofs.Lists.{in-append_left, in-append_right, slice_get-m
 use Rattle.herm_model.proofs.Options.{none-not_some, some-injective}
 use Rattle.herm_model.proofs.NothingThere.{none-read}
 use Rattle.herm_model.proofs.Typing.{full-typed}
-use Rattle.herm_source.specs.Sound.{each, part_types_at, typed_of, typed_in}
-use Rattle.herm_source.proofs.TypedReading.{contents-of, typed-part}
+use Rattle.herm_system.specs.Kinds.{each, part_types_at, typed_of, typed_in}
+use Rattle.herm_forms.proofs.TypedReading.{contents-of, typed-part}
 
 module _ (N : Type 0) (table : TypeTable) where
   -- what stands at a place is among the typed cells of the parts

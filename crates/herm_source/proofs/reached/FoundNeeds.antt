@@ -14,11 +14,12 @@ use Rattle.herm_model.proofs.Lists.{in-map, in-flat_map, slice_get-map}
 use Rattle.herm_model.proofs.FactTests.{at-numbered}
 use Rattle.herm_model.proofs.Options.{none-not_some}
 use Rattle.herm_model.proofs.DeterminedRefusals.{accepted-held}
-use Rattle.herm_source.specs.Bodies.{Name}
-use Rattle.herm_source.specs.Edges.{Code, code_of}
+use Rattle.herm_forms.specs.Bodies.{Name}
+use Rattle.herm_forms.specs.Edges.{Code, code_of}
 use Rattle.herm_source.specs.States.{State, node_at}
-use Rattle.herm_source.specs.Systems.{Program}
-use Rattle.herm_source.specs.Local.{IsLabelled, lent, lent_by, calling, HasFact}
+use Rattle.herm_source.specs.Modules.{Program}
+use Rattle.herm_source.specs.Local.{IsLabelled, lent, calling, HasFact}
+use Rattle.herm_forms.specs.Callings.{lent_by}
 use Rattle.herm_source.specs.Headline.{IsCodeOf, AreCodesOf}
 use Rattle.herm_source.specs.NeedsLaws.{SoundStatesFindNeeds}
 
@@ -58,10 +59,10 @@ none-lent : (c : Code) (s : State Name) (f : Fact) → s.body.call ≡ None → 
 none-lent c s f idle = ap (λ (o : Option ℕ). some_of (λ p. is_at_or_below p (path_of f)) (list_of (λ call. list_of (lent_by c) (calling c s)) o)) idle
 
 pub sound-finds : SoundStatesFindNeeds
-sound-finds program modules s accepted stands sound p state c n f here coded at idle need =
+sound-finds program modules s accepted stands sound p state here c n f coded at idle need =
     let m = module-of program program.processes modules.codes accepted.codes state.code c coded in
     let reached = stands p state m.0 here m.1 in
-    let local = sound p state c here coded in
+    let local = sound p state here c coded in
     let label = m.2.0 in
     let has_label : IsLabelled c state.point f =
     subst (λ (d : Code). node_at d state.point ≡ Some n → IsIn f (needs d.types d.variables n.form) → IsLabelled d state.point f) (sym m.2.1)

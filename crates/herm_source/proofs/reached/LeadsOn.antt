@@ -15,11 +15,11 @@ use Rattle.herm_model.proofs.Lists.{in-map, found-in, slice_get-map}
 use Rattle.herm_model.proofs.DifferentOutcomes.{process-EdgesDiffer}
 use Rattle.herm_model.proofs.Reached.{reached-IsLedTo, reached-led}
 use Rattle.herm_model.proofs.Options.{some-injective, none-not_some, chain-some, map-some}
-use Rattle.herm_source.specs.Bodies.{Name, Result, goes, stays, stuck, counted_step}
-use Rattle.herm_source.specs.Exchanges.{CellAction}
-use Rattle.herm_source.specs.Edges.{Code, code_of, arrive}
-use Rattle.herm_source.specs.Systems.{own_name}
-use Rattle.herm_source.specs.States.{State, Next, an_item, a_reply, a_statement, nothing, node_at, call_or_statement, item_or, next_of, leads_to, behind, is_action, act, step_next, settle_next, local_step, answered}
+use Rattle.herm_forms.specs.Bodies.{Name, Result, goes, stays, stuck, counted_step}
+use Rattle.herm_journal.specs.Messages.{CellAction}
+use Rattle.herm_forms.specs.Edges.{Code, code_of, arrive}
+use Rattle.herm_source.specs.States.{own_name, State, Next, an_item, a_reply, a_statement, nothing, node_at, call_or_statement, item_or, next_of, behind, step_next, settle_next, local_step, answered}
+use Rattle.herm_forms.specs.Acts.{leads_to, is_action, act}
 
 -- The point of a state stays, or an exit of its node leads from it to the next one.
 pub data LeadsOn (c : Code) (from : Target) : Target → Type 0 where

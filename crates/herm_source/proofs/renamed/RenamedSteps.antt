@@ -1,144 +1,25 @@
 -- Changing the names of cells commutes with what a process wants, its local step and what an answer leaves.
-use Rattle.std.proofs.Common.{◌≡◌, ℕ, List, [], ◌∷◌, map, flat_map, Bool, true, false, cond, Option, Some, None, option_map, refl, sym, ap, ap₂, ◌∙◌, length}
-use Rattle.std.specs.Prelude.{pred, find, option_and_then, ⊤}
-use Rattle.herm_model.specs.Paths.{Path}
-use Rattle.herm_model.specs.Types.{Parameter, type_at}
-use Rattle.herm_model.specs.Facts.{full_facts, declared_facts}
-use Rattle.herm_model.specs.Lists.{list_of}
-use Rattle.herm_model.specs.Expressions.{Atom}
-use Rattle.herm_model.specs.Statements.{Form, Assign, Move, New, Discard, Unite, Dissolve, Reveal, Case, Wrap, Unwrap, Insert, Remove, Get, For, Connect, Send, Receive, Select, Call, Return, ReturnBy, Create, If, While, Raise, Leave, Arm}
-use Rattle.herm_model.specs.Calls
-use Rattle.herm_model.specs.Calls.{shape_at, call_parameters}
-use Rattle.herm_model.specs.StatementTable.{set_by_call}
+use Rattle.std.proofs.Common.{◌≡◌, ℕ, List, [], ◌∷◌, map, Bool, true, false, cond, Option, Some, None, option_map, refl, sym, ap, ◌∙◌, length}
+use Rattle.std.specs.Prelude.{pred, option_and_then}
 use Rattle.herm_model.specs.Nodes.{Target, Node}
-use Rattle.herm_model.specs.Values.{Cell, Parts, gaps, part, rename, rename_in}
+use Rattle.herm_model.specs.Values.{Cell, gaps, part, rename}
 use Rattle.herm_model.proofs.Renaming.{gaps-rename}
-use Rattle.herm_source.specs.Evaluate.{evaluate, key_values}
-use Rattle.herm_journal.specs.Actions.{values, raised}
-use Rattle.herm_source.specs.Bodies.{Name, Body, Result, goes, stays, stuck, if_there, counted_step, counted_action}
-use Rattle.herm_source.specs.Forms
-use Rattle.herm_source.specs.Exchanges
-use Rattle.herm_source.specs.Exchanges.{CellReply, CellWant, CellAction, Composed, compose}
-use Rattle.herm_source.specs.Edges.{Code, arrive, beyond_full, beyond_declared}
-use Rattle.herm_source.specs.States.{State, begin, Next, an_item, a_reply, a_statement, nothing, node_at, call_or_statement, item_or, next_of, is_action, key_at, act, arguments_at, is_inout, is_out, input_of, inputs_of, composed, kept_at, left_at, given_back, given_at, given_by, wants, settle, settle_reply, leads_to, behind, wanted_next, wanted, step_next, local_step, settle_next, answered}
-use Rattle.herm_source.specs.Renaming.{rename_body, rename_state, rename_action, rename_want}
-use Rattle.herm_source.proofs.renamed.RenamedBodies.{rename_result, rename_taken}
-use Rattle.herm_source.proofs.renamed.RenamedForms
-use Rattle.herm_source.proofs.renamed.RenamedForms.{evaluate-renamed, atom_value-renamed, key_values-renamed, arrive-renamed, beyond-renamed, with_value-renamed, new_value-renamed}
-use Rattle.herm_source.proofs.renamed.RenamedActions.{rename_composed, send_wants-renamed, receive_wants-renamed, select_wants-renamed, call_wants-renamed, return_wants-renamed, work_wants-renamed, send-renamed, receive-renamed, select-renamed, work_done-renamed, hear_call-renamed, call-renamed, give_back-renamed, return-renamed, new_inport-renamed, create-renamed, compose-renamed}
+use Rattle.herm_forms.specs.Bodies.{Name, Body, Result, goes, stays, stuck, counted_step, counted_action}
+use Rattle.herm_forms.specs.Exchanges
+use Rattle.herm_journal.specs.Messages.{CellWant, CellAction}
+use Rattle.herm_forms.specs.Exchanges.{Composed, compose}
+use Rattle.herm_forms.specs.Edges.{Code, arrive}
+use Rattle.herm_source.specs.States.{State, begin, Next, an_item, a_reply, a_statement, nothing, node_at, call_or_statement, item_or, next_of, behind, wanted_next, wanted, step_next, local_step, settle_next, answered}
+use Rattle.herm_forms.specs.Acts.{is_action, act, wants, settle, settle_reply, leads_to}
+use Rattle.herm_forms.specs.Renaming.{rename_body}
+use Rattle.herm_source.specs.Renaming.{rename_state}
+use Rattle.herm_journal.specs.Renaming.{rename_action, rename_want}
+use Rattle.herm_forms.proofs.renamed.RenamedBodies.{rename_result}
+use Rattle.herm_forms.proofs.renamed.RenamedForms.{arrive-renamed}
+use Rattle.herm_forms.proofs.renamed.RenamedActions.{work_wants-renamed, work_done-renamed}
+use Rattle.herm_forms.proofs.renamed.RenamedActs.{again, act-renamed, wants-renamed, settle-renamed, settle_reply-renamed}
 
 module _ {N M : Type 0} (f : N → M) (name : Name → N) where
-  abbrev again : Name → M
-  again n = f (name n)
-
-  beyond_full-renamed : (c : Code) (x : Path) (b : Body N) → beyond_full c x (rename_body f b) ≡ beyond_full c x b
-  beyond_full-renamed c x b = beyond-renamed f c.types (type_at c.types c.variables x) (list_of (λ t. full_facts c.types t (0 ∷ [])) (type_at c.types c.variables x)) x b
-
-  beyond_declared-renamed : (c : Code) (o x : Path) (b : Body N) → beyond_declared c o x (rename_body f b) ≡ beyond_declared c o x b
-  beyond_declared-renamed c o x b = beyond-renamed f c.types (type_at c.types c.variables x) (list_of (λ t. declared_facts c.types t (0 ∷ [])) (Calls.inport_at c.types c.variables o)) x b
-
-  beyond_each-renamed : (c : Code) (paths : List Path) (b : Body N) → flat_map (λ p. beyond_full c p (rename_body f b)) paths ≡ flat_map (λ p. beyond_full c p b) paths
-  beyond_each-renamed c [] b = refl
-  beyond_each-renamed c (p ∷ paths) b = ap₂ (Rattle.std.specs.Prelude.◌++◌) (beyond_full-renamed c p b) (beyond_each-renamed c paths b)
-
-  there-renamed : {X : Type 0} (next : X → Result N) (next' : X → Result M) → ((x : X) → next' x ≡ rename_result f (next x)) → (o : Option X) → if_there next' o ≡ rename_result f (if_there next o)
-  there-renamed next next' e None = refl
-  there-renamed next next' e (Some x) = e x
-
-  -- on with something that names make no difference to
-  same-renamed : {X : Type 0} (next : X → Result N) (next' : X → Result M) → ((x : X) → next' x ≡ rename_result f (next x)) → (o o' : Option X) → o' ≡ o → if_there next' o' ≡ rename_result f (if_there next o)
-  same-renamed next next' e o o' is = ap (if_there next') is ∙ there-renamed next next' e o
-
-  tests-renamed : (e : Rattle.herm_model.specs.Expressions.Expression) (b : Body N)
-      → Forms.with_value Forms.tested (evaluate (rename_body f b).variables e) (rename_body f b) ≡ rename_result f (Forms.with_value Forms.tested (evaluate b.variables e) b)
-  tests-renamed e b =
-      ap (λ v. Forms.with_value Forms.tested v (rename_body f b)) (evaluate-renamed f b.variables e)
-      ∙ with_value-renamed f Forms.tested Forms.tested (RenamedForms.tested-renamed f) (evaluate b.variables e) b
-
-  act-renamed : (c : Code) (s : ℕ) (form : Form) (b : Body N) → act again c s form (rename_body f b) ≡ rename_result f (act name c s form b)
-  act-renamed c s (Assign x e) b =
-      ap (λ v. Forms.with_value (Forms.assign again x) v (rename_body f b)) (evaluate-renamed f b.variables e)
-      ∙ with_value-renamed f (Forms.assign name x) (Forms.assign again x) (RenamedForms.assign-renamed f name x) (evaluate b.variables e) b
-  act-renamed c s (Move y x) b = ap (λ lost. Forms.move lost y x (rename_body f b)) (beyond_full-renamed c y b) ∙ RenamedForms.move-renamed f (beyond_full c y b) y x b
-  act-renamed c s (New x) b = new_value-renamed f name (shape_at c.types c.variables x) x b
-  act-renamed c s (Discard x) b = RenamedForms.discard-renamed f x b
-  act-renamed c s (Unite v i y) b = ap (λ lost. Forms.unite again i lost y v (rename_body f b)) (beyond_full-renamed c y b) ∙ RenamedForms.unite-renamed f name i (beyond_full c y b) y v b
-  act-renamed c s (Dissolve v i y) b = RenamedForms.dissolve-renamed f i v y b
-  act-renamed c s (Reveal v i) b = RenamedForms.reveal-renamed f i v b
-  act-renamed c s (Case v is) b = RenamedForms.choose-renamed f v b
-  act-renamed c s (Wrap y p) b =
-      same-renamed (λ t. Forms.wrap name t (beyond_full c y b) y p b) (λ t. Forms.wrap again t (beyond_full c y (rename_body f b)) y p (rename_body f b))
-      (λ t. ap (λ lost. Forms.wrap again t lost y p (rename_body f b)) (beyond_full-renamed c y b) ∙ RenamedForms.wrap-renamed f name t (beyond_full c y b) y p b)
-      (type_at c.types c.variables y) (type_at c.types c.variables y) refl
-  act-renamed c s (Unwrap p t y) b = RenamedForms.unwrap-renamed f t p y b
-  act-renamed c s (Insert r t) b = ap (λ lost. Forms.insert (key_at c t) lost r t (rename_body f b)) (beyond_full-renamed c r b) ∙ RenamedForms.insert-renamed f (key_at c t) (beyond_full c r b) r t b
-  act-renamed c s (Remove r t keys) b =
-      same-renamed (λ v. Forms.remove (key_at c t) v r t b) (λ v. Forms.remove (key_at c t) v r t (rename_body f b)) (λ v. RenamedForms.remove-renamed f (key_at c t) v r t b)
-      (key_values b.variables keys) (key_values (rename_in f b.variables) keys) (key_values-renamed f b.variables keys)
-  act-renamed c s (Get r t keys) b =
-      same-renamed (λ v. Forms.get name (key_at c t) v r t b) (λ v. Forms.get again (key_at c t) v r t (rename_body f b)) (λ v. RenamedForms.get-renamed f name (key_at c t) v r t b)
-      (key_values b.variables keys) (key_values (rename_in f b.variables) keys) (key_values-renamed f b.variables keys)
-  act-renamed c s (For r t) b = RenamedForms.visit-renamed f name s r t b
-  act-renamed c s (Connect o i) b = RenamedForms.connect-renamed f name o i b
-  act-renamed c s (If e) b = tests-renamed e b
-  act-renamed c s (While e) b = tests-renamed e b
-  act-renamed c s (Raise e) b = refl
-  act-renamed c s Leave b = refl
-  act-renamed c s _ b = refl
-
-  -- calls and returns
-  inputs_of-renamed : (parameters : List Parameter) (atoms : List Atom) (ps : Parts N) → inputs_of parameters atoms (rename_in f ps) ≡ inputs_of parameters atoms ps
-  inputs_of-renamed [] atoms ps = refl
-  inputs_of-renamed (p ∷ parameters) [] ps = refl
-  inputs_of-renamed (p ∷ parameters) (a ∷ atoms) ps = ap₂ (input_of p.mode) (atom_value-renamed f ps a) (inputs_of-renamed parameters atoms ps)
-
-  inputs-renamed : (next : Parts ⊤ → Option (Composed N)) (next' : Parts ⊤ → Option (Composed M)) → ((x : Parts ⊤) → next' x ≡ option_map (rename_composed f) (next x)) → (o : Option (Parts ⊤))
-      → option_and_then next' o ≡ option_map (rename_composed f) (option_and_then next o)
-  inputs-renamed next next' e None = refl
-  inputs-renamed next next' e (Some x) = e x
-
-  composed-renamed : (c : Code) (o : Path) (arguments : List Atom) (b : Body N) → composed again c o arguments (rename_body f b) ≡ option_map (rename_composed f) (composed name c o arguments b)
-  composed-renamed c o arguments b =
-      let modes = map (λ (p : Parameter). p.mode) (call_parameters c.types c.variables o) in
-      let moved = arguments_at c is_inout o arguments in
-      let lost = flat_map (λ (p : Path). beyond_full c p b) moved in
-      ap₂ (λ inputs lost. option_and_then (λ inputs. compose again modes inputs lost moved (rename_body f b)) inputs)
-      (inputs_of-renamed (call_parameters c.types c.variables o) arguments b.variables) (beyond_each-renamed c moved b)
-      ∙ inputs-renamed (λ inputs. compose name modes inputs lost moved b) (λ inputs. compose again modes inputs lost moved (rename_body f b)) (λ inputs. compose-renamed f name modes inputs lost moved b)
-      (inputs_of (call_parameters c.types c.variables o) arguments b.variables)
-
-  given_back-renamed : (c : Code) (given : List Path) (b : Body N) → given_back c given (rename_body f b) ≡ option_map (rename_taken f) (given_back c given b)
-  given_back-renamed c given b = ap (λ lost. Exchanges.give_back lost given (rename_body f b)) (beyond_each-renamed c given b) ∙ give_back-renamed f (flat_map (λ p. beyond_full c p b) given) given b
-
-  wants-renamed : (c : Code) (form : Form) (b : Body N) → wants again c form (rename_body f b) ≡ option_map (rename_want f) (wants name c form b)
-  wants-renamed c (New x) b = refl
-  wants-renamed c (Send x o) b = ap (λ lost. Exchanges.send_wants lost x o (rename_body f b)) (beyond_declared-renamed c o x b) ∙ send_wants-renamed f (beyond_declared c o x b) x o b
-  wants-renamed c (Receive x i) b = receive_wants-renamed f i b
-  wants-renamed c (Select arms) b = select_wants-renamed f (map (λ (a : Arm). a.port) arms) b
-  wants-renamed c (Call o arguments) b = ap (λ x. Exchanges.call_wants x o (rename_body f b)) (composed-renamed c o arguments b) ∙ call_wants-renamed f (composed name c o arguments b) o b
-  wants-renamed c (Return m) b = ap (λ t. Exchanges.return_wants values t m (rename_body f b)) (given_back-renamed c (given_at c m) b) ∙ return_wants-renamed f values values (λ cs. refl) (given_back c (given_at c m) b) m b
-  wants-renamed c (ReturnBy m e) b =
-      ap (λ t. Exchanges.return_wants (raised e) t m (rename_body f b)) (given_back-renamed c (given_by c m e) b) ∙ return_wants-renamed f (raised e) (raised e) (λ cs. refl) (given_back c (given_by c m e) b) m b
-  wants-renamed c (Create o process) b = refl
-  wants-renamed c _ b = refl
-
-  settle-renamed : (c : Code) (form : Form) (at : ℕ) (action : CellAction N) (b : Body N) → settle again c form at (rename_action f action) (rename_body f b) ≡ rename_result f (settle name c form at action b)
-  settle-renamed c (New x) at action b = new_inport-renamed f name x action b
-  settle-renamed c (Send x o) at action b = ap (λ lost. Exchanges.send lost x (rename_action f action) (rename_body f b)) (beyond_declared-renamed c o x b) ∙ send-renamed f (beyond_declared c o x b) x action b
-  settle-renamed c (Receive x i) at action b = receive-renamed f x action b
-  settle-renamed c (Select arms) at action b = select-renamed f (map (λ (a : Arm). a.target) arms) (map (λ (a : Arm). a.port) arms) at action b
-  settle-renamed c (Call o arguments) at action b =
-      ap (λ x. Exchanges.call x (arguments_at c is_out o arguments) (rename_action f action)) (composed-renamed c o arguments b) ∙ call-renamed f (composed name c o arguments b) (arguments_at c is_out o arguments) action
-  settle-renamed c (Return m) at action b = ap (λ t. Exchanges.return t m (rename_action f action)) (given_back-renamed c (given_at c m) b) ∙ return-renamed f (given_back c (given_at c m) b) m action
-  settle-renamed c (ReturnBy m e) at action b = ap (λ t. Exchanges.return t m (rename_action f action)) (given_back-renamed c (given_by c m e) b) ∙ return-renamed f (given_back c (given_by c m e) b) m action
-  settle-renamed c (Create o process) at action b = create-renamed f name o action b
-  settle-renamed c _ at action b = refl
-
-  settle_reply-renamed : (c : Code) (form : Form) (call : ℕ) (action : CellAction N) (b : Body N) → settle_reply c form call (rename_action f action) (rename_body f b) ≡ rename_result f (settle_reply c form call action b)
-  settle_reply-renamed c (Call o arguments) call action b =
-      hear_call-renamed f (set_by_call c.types c.variables o arguments) (arguments_at c is_out o arguments) (kept_at c o arguments) (left_at c o arguments) call action b
-  settle_reply-renamed c _ call action b = refl
-
   -- states
   arrived-renamed : (c : Code) (s : State N) (b : Body N) (o : Option Target)
       → option_map (λ t. record { code = s.code; point = t; body = arrive c t (rename_body f b) }) o ≡ option_map (rename_state f) (option_map (λ t. record { code = s.code; point = t; body = arrive c t b }) o)
@@ -150,7 +31,7 @@ module _ {N M : Type 0} (f : N → M) (name : Name → N) where
   behind-renamed c s n (stays b) = refl
   behind-renamed c s n stuck = refl
 
-  abbrev rename_next : Next N → Next M
+  abbrev pub rename_next : Next N → Next M
   rename_next (an_item item work) = an_item (rename f item) (map (rename f) work)
   rename_next (a_reply call n) = a_reply call n
   rename_next (a_statement n) = a_statement n
@@ -165,51 +46,51 @@ module _ {N M : Type 0} (f : N → M) (name : Name → N) where
   item_or-renamed [] call n = call_or_statement-renamed call n
   item_or-renamed (item ∷ list) call n = refl
 
-  next_of-renamed : (c : Code) (s : State N) → next_of c (rename_state f s) ≡ rename_next (next_of c s)
+  pub next_of-renamed : (c : Code) (s : State N) → next_of c (rename_state f s) ≡ rename_next (next_of c s)
   next_of-renamed c s = item_or-renamed s.body.work s.body.call (node_at c s.point)
 
   wanted_if : (b : Bool) (o : Option (CellWant N)) (o' : Option (CellWant M)) → o' ≡ option_map (rename_want f) o → cond b o' None ≡ option_map (rename_want f) (cond b o None)
   wanted_if true o o' e = e
   wanted_if false o o' e = refl
 
-  wanted_next-renamed : (c : Code) (b : Body N) (next : Next N) → wanted_next again c (rename_body f b) (rename_next next) ≡ option_map (rename_want f) (wanted_next name c b next)
+  wanted_next-renamed : (c : Code) (b : Body N) (next : Next N) → wanted_next (again f name) c (rename_body f b) (rename_next next) ≡ option_map (rename_want f) (wanted_next name c b next)
   wanted_next-renamed c b (an_item item work) = work_wants-renamed f item
   wanted_next-renamed c b (a_reply call n) = refl
-  wanted_next-renamed c b (a_statement n) = wanted_if (is_action c n.form) (wants name c n.form b) (wants again c n.form (rename_body f b)) (wants-renamed c n.form b)
+  wanted_next-renamed c b (a_statement n) = wanted_if (is_action c n.form) (wants name c n.form b) (wants (again f name) c n.form (rename_body f b)) (wants-renamed f name c n.form b)
   wanted_next-renamed c b nothing = refl
 
-  pub wanted-renamed : (c : Code) (s : State N) → wanted again c (rename_state f s) ≡ option_map (rename_want f) (wanted name c s)
-  wanted-renamed c s = ap (wanted_next again c (rename_body f s.body)) (next_of-renamed c s) ∙ wanted_next-renamed c s.body (next_of c s)
+  pub wanted-renamed : (c : Code) (s : State N) → wanted (again f name) c (rename_state f s) ≡ option_map (rename_want f) (wanted name c s)
+  wanted-renamed c s = ap (wanted_next (again f name) c (rename_body f s.body)) (next_of-renamed c s) ∙ wanted_next-renamed c s.body (next_of c s)
 
   stepped_if : (b : Bool) (o : Option (State N)) (o' : Option (State M)) → o' ≡ option_map (rename_state f) o → cond b None o' ≡ option_map (rename_state f) (cond b None o)
   stepped_if true o o' e = refl
   stepped_if false o o' e = e
 
-  step_next-renamed : (c : Code) (s : State N) (next : Next N) → step_next again c (rename_state f s) (rename_next next) ≡ option_map (rename_state f) (step_next name c s next)
+  step_next-renamed : (c : Code) (s : State N) (next : Next N) → step_next (again f name) c (rename_state f s) (rename_next next) ≡ option_map (rename_state f) (step_next name c s next)
   step_next-renamed c s (a_statement n) =
-      stepped_if (is_action c n.form) (behind c s (Some n) (act name c n.number n.form (counted_step s.body))) (behind c (rename_state f s) (Some n) (act again c n.number n.form (counted_step (rename_body f s.body))))
-      (ap (behind c (rename_state f s) (Some n)) (act-renamed c n.number n.form (counted_step s.body)) ∙ behind-renamed c s (Some n) (act name c n.number n.form (counted_step s.body)))
+      stepped_if (is_action c n.form) (behind c s (Some n) (act name c n.number n.form (counted_step s.body))) (behind c (rename_state f s) (Some n) (act (again f name) c n.number n.form (counted_step (rename_body f s.body))))
+      (ap (behind c (rename_state f s) (Some n)) (act-renamed f name c n.number n.form (counted_step s.body)) ∙ behind-renamed c s (Some n) (act name c n.number n.form (counted_step s.body)))
   step_next-renamed c s (an_item item work) = refl
   step_next-renamed c s (a_reply call n) = refl
   step_next-renamed c s nothing = refl
 
-  pub local_step-renamed : (c : Code) (s : State N) → local_step again c (rename_state f s) ≡ option_map (rename_state f) (local_step name c s)
-  local_step-renamed c s = ap (step_next again c (rename_state f s)) (next_of-renamed c s) ∙ step_next-renamed c s (next_of c s)
+  pub local_step-renamed : (c : Code) (s : State N) → local_step (again f name) c (rename_state f s) ≡ option_map (rename_state f) (local_step name c s)
+  local_step-renamed c s = ap (step_next (again f name) c (rename_state f s)) (next_of-renamed c s) ∙ step_next-renamed c s (next_of c s)
 
   settle_next-renamed : (c : Code) (s : State N) (at : ℕ) (action : CellAction N) (next : Next N)
-      → settle_next again c (rename_state f s) at (rename_action f action) (rename_next next) ≡ option_map (rename_state f) (settle_next name c s at action next)
+      → settle_next (again f name) c (rename_state f s) at (rename_action f action) (rename_next next) ≡ option_map (rename_state f) (settle_next name c s at action next)
   settle_next-renamed c s at action (an_item item work) =
       let b : Body N = counted_action (record (s.body) { work = work }) in
       ap (behind c (rename_state f s) None) (work_done-renamed f item action b) ∙ behind-renamed c s None (Exchanges.work_done item action b)
   settle_next-renamed c s at action (a_reply call n) =
-      ap (behind c (rename_state f s) (Some n)) (settle_reply-renamed c n.form call action (counted_action s.body)) ∙ behind-renamed c s (Some n) (settle_reply c n.form call action (counted_action s.body))
+      ap (behind c (rename_state f s) (Some n)) (settle_reply-renamed f name c n.form call action (counted_action s.body)) ∙ behind-renamed c s (Some n) (settle_reply c n.form call action (counted_action s.body))
   settle_next-renamed c s at action (a_statement n) =
       let b = counted_action (counted_step s.body) in
-      ap (behind c (rename_state f s) (Some n)) (settle-renamed c n.form at action b) ∙ behind-renamed c s (Some n) (settle name c n.form at action b)
+      ap (behind c (rename_state f s) (Some n)) (settle-renamed f name c n.form at action b) ∙ behind-renamed c s (Some n) (settle name c n.form at action b)
   settle_next-renamed c s at action nothing = refl
 
-  pub answered-renamed : (c : Code) (s : State N) (at : ℕ) (action : CellAction N) → answered again c (rename_state f s) at (rename_action f action) ≡ option_map (rename_state f) (answered name c s at action)
-  answered-renamed c s at action = ap (settle_next again c (rename_state f s) at (rename_action f action)) (next_of-renamed c s) ∙ settle_next-renamed c s at action (next_of c s)
+  pub answered-renamed : (c : Code) (s : State N) (at : ℕ) (action : CellAction N) → answered (again f name) c (rename_state f s) at (rename_action f action) ≡ option_map (rename_state f) (answered name c s at action)
+  answered-renamed c s at action = ap (settle_next (again f name) c (rename_state f s) at (rename_action f action)) (next_of-renamed c s) ∙ settle_next-renamed c s at action (next_of c s)
 
   pub begin-renamed : (c : Code) (code number : ℕ) (port : Cell N) → begin c code number (rename f port) ≡ rename_state f (begin c code number port)
   begin-renamed c code number port =

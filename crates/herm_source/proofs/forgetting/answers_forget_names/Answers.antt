@@ -1,5 +1,5 @@
-use Rattle.herm_source.specs.Renaming.{forget_name}
-use Rattle.herm_source.specs.Systems.{own_name}
+use Rattle.herm_journal.specs.Renaming.{forget_name}
+use Rattle.herm_source.specs.States.{own_name}
 use Rattle.herm_source.proofs.renamed.RenamedSteps.{answered-renamed}
 use Rattle.herm_source.proofs.forgetting.answers_forget_names.Goals as goal
 

@@ -1,5 +1,6 @@
-use Rattle.herm_source.proofs.Numbered.{numbered-once}
+use Rattle.herm_source.specs.Instance.{source}
+use Rattle.herm_runs.proofs.Numbered.{numbered-once}
 use Rattle.herm_source.proofs.runs.names_are_made_once.Goals as goal
 
 pub returns : goal.returns
-returns c = record { once = numbered-once }
+returns c = record { once = λ modules. numbered-once (source modules) }

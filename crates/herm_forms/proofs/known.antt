@@ -1,0 +1,4 @@
+-- That forms keep what kinds of cells a process has.
+pub mod HeldKinds
+pub mod KindsKept
+pub mod KindsExchanged

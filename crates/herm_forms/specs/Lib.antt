@@ -1,0 +1,17 @@
+pub mod Evaluate
+pub mod Bodies
+pub mod Forms
+pub mod Exchanges
+pub mod Edges
+pub mod Acts
+pub mod Callings
+pub mod Weights
+pub mod Renaming
+pub mod Kept
+pub mod Arrival
+pub mod FormLaws
+pub mod TargetLaws
+pub mod ExpressionLaws
+pub mod Exceptions
+pub mod ComponentLaws
+pub mod CallLaws

@@ -1,0 +1,17 @@
+pub mod Events
+pub mod SystemLedger
+pub mod Numbered
+pub mod Histories
+pub mod RoundsEnd
+pub mod DiariesTold
+pub mod Ordered
+pub mod Stands
+pub mod RunsOrdered
+pub mod KnownPlaces
+pub mod order
+pub mod SuitsMessages
+pub mod SuitsStates
+pub mod SuitsRuns
+pub mod LedgerAlong
+pub mod StayingSo
+pub mod joined

@@ -1,0 +1,75 @@
+-- Laws of places, rounds, runs and journals, as statements about a machine.
+use Rattle.std.specs.Prelude.{ℕ, ◌≤◌, List, Some, ◌≡◌}
+use Rattle.herm_model.specs.Values.{Name, Cell}
+use Rattle.herm_model.specs.Texts.{text_of}
+use Rattle.herm_journal.specs.Places.{Limits, Holding, Fits, after}
+use Rattle.herm_journal.specs.Entries.{Text, Place, Entry, recorded, told}
+use Rattle.herm_journal.specs.Journals.{IsStamped, IsJournalOf, ordered, part_of_process, part_of_place, first_told, at_start, replay, IsLegal}
+use Rattle.herm_journal.specs.Messages.{CellReply, CellWant, CellAction}
+use Rattle.herm_system.specs.Machines.{Machine}
+use Rattle.herm_system.specs.Systems.{System, Event, Run, run, start, opening, main_port, done_at, holding_at, first_message, IsFinal}
+use Rattle.herm_system.specs.Rounds.{rounds}
+use Rattle.herm_system.specs.Ledger.{HasLedger, IsMadeOnce}
+use Rattle.herm_system.specs.Sound.{IsNumbered}
+use Rattle.herm_system.specs.Reports.{IsAlong}
+
+-- What is done at a place fits what is there.
+abbrev pub DoneFits : Type 0
+DoneFits = (w : CellWant Name) (h : Holding (Cell Name) (CellReply Name)) (a : CellAction Name) → done_at w h ≡ Some a → Fits h a
+
+-- An action that fits what is at a place fits, as it is recorded, what the place's history tells; and so does what it
+-- leaves.
+abbrev pub RecordsFit : Type 0
+RecordsFit = (h : Holding (Cell Name) (CellReply Name)) (a : CellAction Name) → Fits h a → Fits (told h) (recorded a)
+
+abbrev pub RecordsLead : Type 0
+RecordsLead = (h : Holding (Cell Name) (CellReply Name)) (a : CellAction Name) → told (after a h) ≡ after (recorded a) (told h)
+
+module _ {P : Type 0} (machine : Machine Name P) where
+  -- this process is main's as it begins
+  abbrev pub IsMain : P → Type 0
+  IsMain first = machine.begin machine.main 1 main_port ≡ Some first
+
+  -- What rounds lead to is led to by a list of events.
+  abbrev pub RoundsAreRuns : Type 0
+  RoundsAreRuns = (most : ℕ) (r t : Run P) → rounds most machine r ≡ Some t → (events : List Event) × (run machine events r ≡ Some t)
+
+  -- The journal of a run has the stamps of the two clocks.
+  abbrev pub RunsAreStamped : Type 0
+  RunsAreStamped = (limits : Limits) (argument : Text) (events : List Event) (r : Run P) → run machine events (start machine limits argument) ≡ Some r → IsStamped r.journal
+
+  -- Every state that a run of modules with a main leads to has the ledger: a cell that was made is held, queued or
+  -- finalised, whatever the schedule.
+  abbrev pub RunsKeepLedger : Type 0
+  RunsKeepLedger = (limits : Limits) (argument : Text) (first : P) (events : List Event) (r : Run P) → IsMain first → run machine events (start machine limits argument) ≡ Some r → HasLedger machine r.system
+
+  -- In every such state the numbers of processes, reply cells and the book agree.
+  abbrev pub RunsAreNumbered : Type 0
+  RunsAreNumbered = (limits : Limits) (argument : Text) (first : P) (events : List Event) (r : Run P) → IsMain first → run machine events (start machine limits argument) ≡ Some r → IsNumbered machine r.system
+
+  -- Where numbers agree, no name was made twice.
+  abbrev pub NamesAreMadeOnce : Type 0
+  NamesAreMadeOnce = (s : System P) → IsNumbered machine s → IsMadeOnce machine s
+
+  -- In every state of a run the entries at a place are a legal history from what the place holds at the start, and tell
+  -- what it holds.
+  abbrev pub HistoriesTell : Type 0
+  HistoriesTell = (limits : Limits) (argument : Text) (events : List Event) (r : Run P) → run machine events (start machine limits argument) ≡ Some r
+      → (place : Place) (h : Holding (Cell Name) (CellReply Name)) → holding_at place r.system ≡ Some h
+      → IsLegal (part_of_place place r.journal) (at_start (first_told limits (text_of (first_message argument)) place))
+      × ((replay (part_of_place place r.journal) (at_start (first_told limits (text_of (first_message argument)) place))).holding ≡ told h)
+
+  -- Where so many rounds suffice, those of modules with a main, where at least one process may be made, lead to a final state.
+  abbrev pub RoundsAreFinal : Type 0
+  RoundsAreFinal = (most : ℕ) (limits : Limits) (argument : Text) (first : P) (t : Run P) → IsMain first → 1 ≤ limits.processes
+      → rounds most machine (start machine limits argument) ≡ Some t → IsFinal machine t.system
+
+  -- A run's entries in order fit its diaries and histories.
+  abbrev pub RunsAreJournals : Type 0
+  RunsAreJournals = (limits : Limits) (argument : Text) (first : P) (events : List Event) (r : Run P) → IsMain first
+      → run machine events (start machine limits argument) ≡ Some r → IsJournalOf (ordered r.journal) (λ p. part_of_process p r.journal) (λ s. part_of_place s r.journal)
+
+  -- Every state along every journal has the ledger, and no name was made twice in it: what a report claims of cells.
+  abbrev pub LedgerAlong : Type 0
+  LedgerAlong = (limits : Limits) (argument : Text) (first : P) (journal : List Entry) (s : System P) → IsMain first
+      → IsAlong machine (opening machine limits argument) journal s → HasLedger machine s × IsMadeOnce machine s

@@ -1,5 +1,0 @@
-use Rattle.herm_source.proofs.Arrivals.{edges-arrive}
-use Rattle.herm_source.proofs.arrival.edges_arrive_soundly.Goals as goal
-
-pub returns : goal.returns
-returns c = record { arrive = edges-arrive }

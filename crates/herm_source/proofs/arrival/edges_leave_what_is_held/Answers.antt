@@ -1,5 +1,0 @@
-use Rattle.herm_source.proofs.Arrived.{edges-exact}
-use Rattle.herm_source.proofs.arrival.edges_leave_what_is_held.Goals as goal
-
-pub returns : goal.returns
-returns c = record { exact = edges-exact }

@@ -1,5 +1,0 @@
-use Rattle.herm_source.proofs.SetValues.{setting-sound}
-use Rattle.herm_source.proofs.arrival.setting_is_sound.Goals as goal
-
-pub returns : goal.returns
-returns c = record { set = setting-sound }

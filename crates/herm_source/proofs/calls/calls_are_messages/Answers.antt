@@ -1,5 +1,0 @@
-use Rattle.herm_source.proofs.called.CallMessages.{calls-messages}
-use Rattle.herm_source.proofs.calls.calls_are_messages.Goals as goal
-
-pub returns : goal.returns
-returns c = record { messages = calls-messages }

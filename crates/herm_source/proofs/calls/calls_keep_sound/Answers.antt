@@ -1,5 +1,0 @@
-use Rattle.herm_source.proofs.called.OpenCalls.{calls-keep}
-use Rattle.herm_source.proofs.calls.calls_keep_sound.Goals as goal
-
-pub returns : goal.returns
-returns c = record { calls = calls-keep }

@@ -1,5 +1,0 @@
-use Rattle.herm_source.proofs.called.HeardReplies.{replies-keep}
-use Rattle.herm_source.proofs.calls.replies_keep_sound.Goals as goal
-
-pub returns : goal.returns
-returns c = record { replies = replies-keep }

@@ -1,5 +1,0 @@
-use Rattle.herm_source.proofs.called.GivenReplies.{returns-give}
-use Rattle.herm_source.proofs.calls.returns_give_replies.Goals as goal
-
-pub returns : goal.returns
-returns c = record { replies = returns-give }

@@ -1,5 +1,0 @@
-use Rattle.herm_source.proofs.called.Returns.{returns-keep}
-use Rattle.herm_source.proofs.calls.returns_keep_sound.Goals as goal
-
-pub returns : goal.returns
-returns c = record { returns = returns-keep }

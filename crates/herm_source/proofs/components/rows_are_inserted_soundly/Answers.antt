@@ -1,5 +1,0 @@
-use Rattle.herm_source.proofs.forms.InsertedRows.{rows-inserted}
-use Rattle.herm_source.proofs.components.rows_are_inserted_soundly.Goals as goal
-
-pub returns : goal.returns
-returns c = record { rows = rows-inserted }

@@ -1,5 +1,0 @@
-use Rattle.herm_source.proofs.forms.VisitedRows.{rows-visited}
-use Rattle.herm_source.proofs.components.rows_are_visited_soundly.Goals as goal
-
-pub returns : goal.returns
-returns c = record { rows = rows-visited }

@@ -1,5 +1,0 @@
-use Rattle.herm_source.proofs.evaluated.RaisedExceptions.{raises-its}
-use Rattle.herm_source.proofs.expressions.evaluations_raise_their_exceptions.Goals as goal
-
-pub returns : goal.returns
-returns start = record { exceptions = raises-its }

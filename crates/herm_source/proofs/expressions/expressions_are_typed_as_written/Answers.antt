@@ -1,5 +1,0 @@
-use Rattle.herm_source.proofs.evaluated.ExampleTyping.{example-typing}
-use Rattle.herm_source.proofs.expressions.expressions_are_typed_as_written.Goals as goal
-
-pub returns : goal.returns
-returns start = record { example = example-typing }

@@ -1,5 +1,0 @@
-use Rattle.herm_source.proofs.evaluated.AssignedExpressions.{typed-values}
-use Rattle.herm_source.proofs.expressions.typed_expressions_have_values.Goals as goal
-
-pub returns : goal.returns
-returns start = record { values = typed-values }

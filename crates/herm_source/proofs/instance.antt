@@ -1,0 +1,5 @@
+-- That the source machine meets the laws of one process.
+pub mod HeldValues
+pub mod SourceLaws
+pub mod SourceForgets
+pub mod SourceLooks

@@ -1,5 +1,0 @@
-use Rattle.herm_source.proofs.forms.AnswersToTargets.{answers-keep}
-use Rattle.herm_source.proofs.targets.answers_keep_sound.Goals as goal
-
-pub returns : goal.returns
-returns c = record { answers = answers-keep }

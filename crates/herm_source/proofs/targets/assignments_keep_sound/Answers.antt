@@ -1,5 +1,0 @@
-use Rattle.herm_source.proofs.forms.SetTargets.{assignments-keep}
-use Rattle.herm_source.proofs.targets.assignments_keep_sound.Goals as goal
-
-pub returns : goal.returns
-returns c = record { assignments = assignments-keep }

@@ -1,5 +1,0 @@
-use Rattle.herm_source.proofs.forms.MovesToTargets.{moves-keep}
-use Rattle.herm_source.proofs.targets.moves_keep_sound.Goals as goal
-
-pub returns : goal.returns
-returns c = record { moves = moves-keep }

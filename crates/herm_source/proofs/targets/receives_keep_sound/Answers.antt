@@ -1,5 +1,0 @@
-use Rattle.herm_source.proofs.forms.ReceivesToTargets.{receives-keep}
-use Rattle.herm_source.proofs.targets.receives_keep_sound.Goals as goal
-
-pub returns : goal.returns
-returns c = record { receives = receives-keep }

@@ -1,5 +1,0 @@
-use Rattle.herm_source.proofs.forms.SentMessages.{returned-sends}
-use Rattle.herm_source.proofs.targets.returned_sends_keep_sound.Goals as goal
-
-pub returns : goal.returns
-returns c = record { returned = returned-sends }

@@ -1,5 +1,0 @@
-use Rattle.herm_source.proofs.forms.SentMessages.{sent-messages}
-use Rattle.herm_source.proofs.targets.sent_are_messages.Goals as goal
-
-pub returns : goal.returns
-returns c = record { messages = sent-messages }

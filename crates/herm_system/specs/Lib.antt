@@ -1,0 +1,9 @@
+pub mod Machines
+pub mod Systems
+pub mod Rounds
+pub mod Ledger
+pub mod Statuses
+pub mod Kinds
+pub mod Sound
+pub mod Along
+pub mod Reports
