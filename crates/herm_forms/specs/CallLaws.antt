@@ -1,10 +1,11 @@
 -- What is claimed of calls and returns.
 use Rattle.std.specs.Prelude.{ℕ, List, [], ◌∷◌, map, filter, Bool, false, cond, nat_eq, Some, None, slice_get, ◌≡◌, IsTrue, ⊤}
 use Rattle.herm_model.specs.Lists.{IsIn, some_of}
-use Rattle.herm_model.specs.Paths.{Path, Fact, path_of, is_at_or_below, are_apart}
+use Rattle.herm_model.specs.Paths.{Path, Fact, path_of, is_at_or_below}
 use Rattle.herm_model.specs.Types.{inport, callmessage, by_in, Parameter, Raised, type_at, is_within_depth, greatest_depth}
 use Rattle.herm_model.specs.Calls.{inport_at, call_raises, kept_for}
 use Rattle.herm_model.specs.Statements.{Form, Call, Return, ReturnBy}
+use Rattle.herm_model.specs.TypedStatements.{AreApart}
 use Rattle.herm_model.specs.StatementTable.{needs, set_by_call, kept_by_call}
 use Rattle.herm_model.specs.Outcomes.{Outcome, disconnected}
 use Rattle.herm_model.specs.Values.{Cell, Parts, Value}
@@ -68,11 +69,6 @@ pub record CallsKeepSound (c : Code) (k : Calling) : Type 0 where
   pub unanswered : HasTargets c k → kept_for (call_raises c.types c.variables k.port) disconnected ≡ []
       → (n call : ℕ) (has : Fact → Bool) (b b' : Body Name) (o : Outcome) → AreSound c (without_lent c k has) b.variables
       → settle_reply c (Call k.port k.arguments) call (hear n gone) b ≡ goes o b' → AreSound c (held_after c.types c.variables (Call k.port k.arguments) o has) b'.variables
-
--- None of the paths is at or below another.
-abbrev pub AreApart : List Path → Type 0
-AreApart [] = ⊤
-AreApart (x ∷ xs) = ((y : Path) → IsIn y xs → IsTrue (are_apart x y)) × AreApart xs
 
 -- The paths have these types, each within the limit of depth.
 abbrev pub HaveTypesAt : Code → List Path → List ℕ → Type 0

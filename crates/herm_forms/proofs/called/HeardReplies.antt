@@ -22,7 +22,8 @@ use Rattle.herm_forms.specs.Edges.{Code}
 use Rattle.herm_forms.specs.Callings.{Calling, returned_types, kept_types}
 use Rattle.herm_journal.specs.Messages.{AreFull}
 use Rattle.herm_forms.specs.Arrival.{AreSound, held_after}
-use Rattle.herm_forms.specs.CallLaws.{HasTargets, AreApart, HaveTypesAt, RepliesKeepSound}
+use Rattle.herm_forms.specs.CallLaws.{HasTargets, HaveTypesAt, RepliesKeepSound}
+use Rattle.herm_model.specs.TypedStatements.{AreApart}
 use Rattle.herm_forms.proofs.Arrived.{old-variables, drop-variables}
 use Rattle.herm_forms.proofs.SetValues.{typed-set}
 use Rattle.herm_forms.proofs.forms.PlainForms.{same_body, same_outcome_of, never, same_facts}

@@ -11,7 +11,7 @@ use Rattle.herm_model.proofs.Lists.{or-either, or-left, or-right}
 use Rattle.herm_model.proofs.Places.{cell_at-set_above, cell_at-set_apart}
 use Rattle.herm_model.proofs.Options.{some-injective, none-not_some}
 use Rattle.herm_forms.specs.Bodies.{Name, Body, cleared, Taken, with_taken, take_all}
-use Rattle.herm_forms.specs.CallLaws.{AreApart}
+use Rattle.herm_model.specs.TypedStatements.{AreApart}
 
 pub clear-append : (xs ys : List Path) (ps : Parts Name) → clear_all (xs ++ ys) ps ≡ clear_all ys (clear_all xs ps)
 clear-append [] ys ps = refl

@@ -16,7 +16,8 @@ use Rattle.herm_forms.specs.Bodies.{Name, Body, cleared, drop, Taken, take_all}
 use Rattle.herm_forms.specs.Edges.{Code, beyond_full}
 use Rattle.herm_journal.specs.Messages.{AreFull}
 use Rattle.herm_forms.specs.Arrival.{AreSound}
-use Rattle.herm_forms.specs.CallLaws.{AreApart, HaveTypesAt}
+use Rattle.herm_forms.specs.CallLaws.{HaveTypesAt}
+use Rattle.herm_model.specs.TypedStatements.{AreApart}
 use Rattle.herm_forms.proofs.Arrived.{drop-variables}
 use Rattle.herm_forms.proofs.forms.SetTargets.{there-direct, in-full}
 use Rattle.herm_forms.proofs.forms.ExcessDropped.{no-source, source-full}

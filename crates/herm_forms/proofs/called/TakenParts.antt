@@ -12,7 +12,7 @@ use Rattle.herm_model.proofs.Beginnings.{below-self}
 use Rattle.herm_model.proofs.Places.{cell_at-set_apart}
 use Rattle.herm_model.proofs.Options.{some-injective, none-not_some}
 use Rattle.herm_forms.specs.Bodies.{Name, Body, cleared, Taken, take_all}
-use Rattle.herm_forms.specs.CallLaws.{AreApart}
+use Rattle.herm_model.specs.TypedStatements.{AreApart}
 use Rattle.herm_forms.proofs.Dropped.{cleared-has}
 use Rattle.herm_forms.proofs.called.LostApart.{First, first-taken}
 
