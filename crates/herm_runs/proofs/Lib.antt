@@ -15,3 +15,4 @@ pub mod SuitsRuns
 pub mod LedgerAlong
 pub mod StayingSo
 pub mod joined
+pub mod OneState
