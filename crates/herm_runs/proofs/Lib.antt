@@ -16,3 +16,4 @@ pub mod LedgerAlong
 pub mod StayingSo
 pub mod joined
 pub mod OneState
+pub mod ClosesTold

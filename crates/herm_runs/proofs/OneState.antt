@@ -36,7 +36,7 @@ abbrev text_taken : Record → Option (ℕ × Text)
 text_taken (take number m) = Some (number, m)
 text_taken a = None
 
-abbrev texts_left : Record → Option (ℕ × List Text)
+abbrev pub texts_left : Record → Option (ℕ × List Text)
 texts_left (close count left) = Some (count, left)
 texts_left a = None
 
