@@ -1,15 +1,15 @@
 -- What the entry of a close tells.
-use Rattle.std.proofs.Common.{◌≡◌, ℕ, List, [], ◌∷◌, ◌++◌, map, length, Bool, true, ◌&&◌, Option, Some, None, refl, sym, ap, subst, ◌∙◌, append-nil, arith, true≢false}
-use Rattle.std.specs.Prelude.{IsTrue, IsFalse, codes, ⊤}
+use Rattle.std.proofs.Common.{◌≡◌, ℕ, List, [], ◌∷◌, ◌++◌, map, length, true, refl, sym, ap, ◌∙◌, append-nil, arith, true≢false}
+use Rattle.std.specs.Prelude.{IsTrue, IsFalse, ⊤}
 use Rattle.herm_model.specs.Lists.{every}
-use Rattle.herm_model.specs.Values.{an_inport, Value}
+use Rattle.herm_model.specs.Values.{Value}
 use Rattle.herm_model.specs.Texts.{text_of}
 use Rattle.herm_model.specs.WellMade.{is_well_made, may_go_on}
 use Rattle.herm_model.proofs.Lists.{and-both, cons-head}
 use Rattle.herm_model.proofs.Options.{some-injective, none-not_some}
 use Rattle.herm_model.proofs.UntypedSpelling.{value-split}
-use Rattle.herm_journal.specs.Actions.{make_port, make_process, put, take, close, answer, hear}
-use Rattle.herm_journal.specs.Entries.{Text, recorded}
+use Rattle.herm_journal.specs.Actions.{close}
+use Rattle.herm_journal.specs.Entries.{Text}
 use Rattle.herm_journal.specs.Messages.{CellAction}
 use Rattle.herm_journal.specs.Renaming.{forget_name}
 use Rattle.herm_system.specs.Along.{IsToldBy}

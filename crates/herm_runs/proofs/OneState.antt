@@ -1,12 +1,10 @@
 -- A diary leads to one state.
-use Rattle.std.proofs.Common.{◌≡◌, ℕ, zero, suc, List, [], ◌∷◌, ◌++◌, map, Bool, true, cond, Option, Some, None, option_and_then, refl, sym, ap, ap₂, subst, ◌∙◌, true≢false}
-use Rattle.std.specs.Prelude.{IsFalse, IsTrue, ⊤}
-use Rattle.herm_model.specs.Lists.{every}
+use Rattle.std.proofs.Common.{◌≡◌, ℕ, zero, suc, List, [], ◌∷◌, ◌++◌, Option, Some, None, refl, sym, ap, ap₂, subst, ◌∙◌, true≢false}
+use Rattle.std.specs.Prelude.{IsFalse, ⊤}
 use Rattle.herm_model.specs.Types.{TypeTable}
 use Rattle.herm_model.specs.Values.{Value}
 use Rattle.herm_model.specs.Texts.{text_of, begins_with_digit}
 use Rattle.herm_model.specs.Typed.{whole, partly}
-use Rattle.herm_model.specs.WellMade.{is_well_made}
 use Rattle.herm_model.proofs.Options.{some-injective, none-not_some, chain-some}
 use Rattle.herm_model.proofs.Spelling.{text-split}
 use Rattle.herm_model.proofs.UntypedSpelling.{lists-split}
@@ -15,7 +13,7 @@ use Rattle.herm_journal.specs.Entries.{Text, Entry, Record, map_reply, texts_of,
 use Rattle.herm_journal.specs.Messages.{CellReply, CellWant, CellAction, OfType, message_of_port, IsMessage, AreFull, types_back, types_kept, IsReplyTo}
 use Rattle.herm_system.specs.Machines.{Machine, OpenCall}
 use Rattle.herm_system.specs.Systems.{number_of}
-use Rattle.herm_system.specs.Along.{has_local_step, local_steps, Answers, Suits, IsToldBy, IsBehind, IsAfter, after_steps, after_entry}
+use Rattle.herm_system.specs.Along.{has_local_step, local_steps, Answers, Suits, IsBehind, IsAfter, after_steps, after_entry}
 use Rattle.herm_runs.specs.DiaryLaws.{EntriesTellOneAction, DiariesLeadToOneState}
 use Rattle.herm_runs.proofs.Stands.{cond-both}
 

@@ -1,5 +1,5 @@
 -- Which messages a port takes and which replies a call does not depend on the names of cells.
-use Rattle.std.proofs.Common.{◌≡◌, ◌⊎◌, inl, inr, ℕ, List, [], ◌∷◌, map, ◌&&◌, Option, Some, None, refl, sym, ap₂, subst}
+use Rattle.std.proofs.Common.{◌≡◌, inl, inr, ℕ, List, [], ◌∷◌, map, ◌&&◌, Option, Some, None, refl, sym, ap₂, subst}
 use Rattle.std.specs.Prelude.{IsTrue, ◌↔◌}
 use Rattle.herm_model.specs.Lists.{IsIn, every}
 use Rattle.herm_model.specs.Paths.{Fact, init, case}

@@ -12,7 +12,8 @@ use Rattle.herm_system.specs.Machines.{Machine}
 use Rattle.herm_system.specs.Systems.{System, Moved, Event, steps, acts, Run, run, run_on, step, start, main_port, number_of, numbered_from_one}
 use Rattle.herm_system.specs.Along.{Suits, IsToldBy, IsAfter}
 
--- What comes in with an event suits the process: its message or reply is one that it waits for.
+-- What comes in with an event suits the process: its message or reply is one that it waits for, and what is left with
+-- a close is well made.
 abbrev pub EventSuits : {P : Type 0} → Machine Name P → Event → System P → Type 0
 EventSuits machine (steps p) s = ⊤
 EventSuits {P} machine (acts p place) s =

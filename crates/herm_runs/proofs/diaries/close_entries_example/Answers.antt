@@ -1,6 +1,6 @@
-use Rattle.std.proofs.Common.{[], ◌∷◌, refl}
+use Rattle.std.proofs.Common.{refl}
 use Rattle.std.specs.Prelude.{codes}
-use Rattle.herm_model.specs.Values.{a_scalar, a_text, an_inport}
+use Rattle.herm_model.specs.Values.{an_inport}
 use Rattle.herm_journal.specs.Actions.{to_close}
 use Rattle.herm_system.specs.Along.{IsBehind}
 use Rattle.herm_runs.specs.examples.Closes.{alone, integer, with_part}
