@@ -6,7 +6,7 @@ use Rattle.herm_forms.specs.Bodies.{Name, Body, goes}
 use Rattle.herm_forms.specs.Edges.{Code}
 use Rattle.herm_forms.specs.Acts.{act}
 
--- Where a form that is a local step raises an exception, the body is as it was before, but for the step that was
--- counted. Language reference, "Exceptions".
+-- Where a form that is a local step raises an exception, it leaves the body that it was given.
+-- Language reference, "Exceptions".
 abbrev pub ExceptionsLeaveAll : Type 0
 ExceptionsLeaveAll = (name : Name → Name) (c : Code) (statement : ℕ) (form : Form) (b b' : Body Name) (e : ℕ) → act name c statement form b ≡ goes (raised e) b' → b' ≡ b

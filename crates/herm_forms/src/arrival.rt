@@ -3,12 +3,14 @@
 ghost use Rattle.herm_forms.specs.Edges.{Code};
 ghost use Rattle.herm_forms.specs.Arrival.{ClearingIsSound, EdgesAreExact, EdgesArrive, PlainFormsAreSound, SendsAreSound, SettingIsSound};
 
-/// Behind an edge there is a value exactly where the facts of its target say so, and each is of its type.
+/// Where sound values have all facts of an edge's target, and these are closed, the edge leaves sound values with
+/// exactly these facts. Here and below types are within the limit of depth.
 pub fn edges_leave_what_is_held()
     ensures exact { EdgesAreExact }
 {}
 
-/// what its outcome says leaves sound values.
+/// With exact labels of a well formed body, at a point that a control path reaches: values that are sound with what
+/// is held behind an edge are sound behind it with the facts of its target.
 pub fn edges_arrive_soundly()
     ensures arrive { EdgesArrive }
 {}
@@ -18,17 +20,20 @@ pub fn clearing_is_sound()
     ensures clear { ClearingIsSound }
 {}
 
-/// A full value that is set at a path adds its full facts and keeps the values sound.
+/// Where sound values have a place at a path, and a full value of the path's type is set there, they are sound with
+/// its full facts in place of those at the path and below it.
 pub fn setting_is_sound()
     ensures set { SettingIsSound }
 {}
 
-/// `discard`, the tests of `if` and `while`, `raise` and `leave` do what the statement table says of them.
+/// Behind `discard`, the tests of `if` and `while`, `raise` and `leave` sound values are sound with what the
+/// statement table says is held.
 pub fn plain_forms_are_sound()
     ensures forms { (c : Code) → PlainFormsAreSound c }
 {}
 
-/// So does a `send` whose message was placed: what it held beyond its facts is dropped, and the message is gone.
+/// So they are behind a `send` whose message was placed, where what the message held beyond its declared facts was
+/// dropped before.
 pub fn sends_are_sound()
     ensures sends { SendsAreSound }
 {}

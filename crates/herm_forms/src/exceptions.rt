@@ -2,7 +2,8 @@
 
 ghost use Rattle.herm_forms.specs.Exceptions.{ExceptionsLeaveAll};
 
-/// Where a local step raises an exception, nothing but its count has changed, for every form.
+/// Where a form that is a local step raises an exception, it leaves the body that it was given. The count of its step
+/// comes before, and what the edge to a handler finalises after.
 pub fn exceptions_leave_all_as_it_was()
     ensures as_before { ExceptionsLeaveAll }
 {}

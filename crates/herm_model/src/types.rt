@@ -54,7 +54,7 @@ pub fn facts_are_compared()
     ensures facts { TestsEquality same_fact }
 {}
 
-/// The predefined types and those of the examples: their depths, their paths and which are copyable.
+/// Depths, paths and copyable types among those of the examples, and a bound on the depth of the predefined `start`.
 pub fn paths_of_types_example()
     ensures depths { map (λ n. is_within_depth n example_types 9) (2 ∷ 3 ∷ []) ≡ false ∷ true ∷ [] }
     ensures empty_call { map (λ n. is_within_depth n example_types 18) (0 ∷ 1 ∷ []) ≡ false ∷ true ∷ [] }

@@ -29,7 +29,7 @@ use Rattle.herm_runs.proofs.Numbered.{set-found_from_one, step-numbered, opening
 use Rattle.herm_runs.proofs.RoundsEnd.{made-book}
 use Rattle.herm_runs.proofs.SystemLedger.{process-some, processes-stay}
 use Rattle.herm_runs.proofs.Stands.{cond-both, seen-local, seen-acting, stands-as, set-absent_from_one, IsNew, made-found, made-absent, place-limits, unmoved-absent}
-use Rattle.herm_runs.proofs.SuitsMessages.{message-renamed, renamed-message, reply-renamed, renamed-reply}
+use Rattle.herm_runs.proofs.SuitsMessages.{message-renamed, renamed-message, reply-renamed, renamed-reply, well_made-forgotten}
 
 -- what is recorded does not depend on names
 texts-forget : (cs : List (Cell Name)) → more_texts_of (map (rename forget_name) cs) ≡ more_texts_of cs
@@ -149,7 +149,7 @@ module _ {P Q : Type 0} (machine : Machine Name P) (nameless : Machine ⊤ Q) (w
   suits-nameless x at (make_port made) h = tt
   suits-nameless x at (make_process code made) h = tt
   suits-nameless x at (put number m) h = tt
-  suits-nameless x at (close count left) h = tt
+  suits-nameless x at (close count left) h = well_made-forgotten forget_name left ∙ h
   suits-nameless x at (answer call r) h = tt
 
   pub nameless-suits : (x : P) (at : ℕ) (a : CellAction Name) → Suits nameless (without x) at (rename_action forget_name a) → Suits machine x at a
@@ -160,7 +160,7 @@ module _ {P Q : Type 0} (machine : Machine Name P) (nameless : Machine ⊤ Q) (w
   nameless-suits x at (make_port made) h = tt
   nameless-suits x at (make_process code made) h = tt
   nameless-suits x at (put number m) h = tt
-  nameless-suits x at (close count left) h = tt
+  nameless-suits x at (close count left) h = sym (well_made-forgotten forget_name left) ∙ h
   nameless-suits x at (answer call r) h = tt
 
   module _ (keeps : KeepsNumbers machine) (limits : Limits) where

@@ -15,3 +15,5 @@ pub mod SuitsRuns
 pub mod LedgerAlong
 pub mod StayingSo
 pub mod joined
+pub mod OneState
+pub mod ClosesTold

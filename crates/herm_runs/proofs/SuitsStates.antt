@@ -2,25 +2,27 @@
 use Rattle.std.proofs.Common.{◌≡◌, ◌⊎◌, inl, inr, ℕ, zero, suc, ◌+◌, List, [], ◌∷◌, map, filter, flat_map, length, Bool, true, false, cond, Option, Some, None, option_and_then, refl, sym, ap, ◌∙◌, subst, arith}
 use Rattle.std.proofs.lemmas.Bool.{eqb-true}
 use Rattle.std.proofs.Math.Bool.{or-false}
-use Rattle.std.specs.Prelude.{nat_eq, slice_get}
+use Rattle.std.specs.Prelude.{nat_eq, slice_get, IsTrue}
 use mathlib.Core.Bool.{false≢true}
-use Rattle.herm_model.specs.Lists.{IsIn, some_of, list_of, numbered}
+use Rattle.herm_model.specs.Lists.{IsIn, every, some_of, list_of, numbered}
 use Rattle.herm_model.specs.Values.{Kind, an_inport, Cell, Name}
 use Rattle.herm_model.proofs.Lists.{in-map, in-append_left, in-flat_map, or-either}
 use Rattle.herm_model.proofs.FactTests.{numbered-IsIn}
 use Rattle.herm_model.proofs.Options.{some-injective, none-not_some, map-some}
 use Rattle.herm_journal.specs.Actions.{new_port, new_process, to_put, to_take, to_close, to_answer, to_hear, make_port, make_process, put, take, close, answer, hear}
-use Rattle.herm_journal.specs.Places.{Port, first_of, Replies, Holding, a_port, replies, a_book}
+use Rattle.herm_journal.specs.Places.{Port, first_of, left_in, Replies, Holding, a_port, replies, a_book}
 use Rattle.herm_journal.specs.Entries.{Place, port, reply_cell, book, same_place}
 use Rattle.herm_journal.proofs.Rising.{same-true}
 use Rattle.herm_journal.specs.Messages.{CellReply, CellWant, CellAction}
 use Rattle.herm_system.specs.Systems.{System, numbered_from_one, holding_at, places_for, done_at, number_of}
 use Rattle.herm_system.specs.Statuses.{how_many}
+use Rattle.herm_model.specs.WellMade.{is_well_made}
 use Rattle.herm_system.specs.Machines.{OpenCall, Machine}
 use Rattle.herm_system.specs.Along.{Suits}
 use Rattle.herm_system.specs.Kinds.{typed_held, typed_replies, typed_process, typed_port, typed_cells, replies_of, open_number, has_open, is_callmessage_of, unfinalised}
 use Rattle.herm_system.specs.Sound.{one_if, IsSoundWith}
 use Rattle.herm_runs.specs.SuitsLaws.{LooksAtHeld}
+use Rattle.herm_runs.proofs.SuitsMessages.{messages-well_made}
 
 -- the first element is in the list
 first-in : {X : Type 0} (x : X) (xs : List X) → first_of xs ≡ Some x → IsIn x xs
@@ -76,6 +78,35 @@ does-hear (to_put n x) (a_port p) k r e = none-not_some (ap (option_and_then hea
 does-hear (to_close n) (a_port p) k r e = none-not_some (ap (option_and_then heard_of) e)
 does-hear (to_answer caller call x) (replies rs) k r e = none-not_some (ap (option_and_then heard_of) e)
 does-hear w h k r e = none-not_some e
+
+-- what is left with a close is what the port there has
+abbrev left_of : CellAction Name → Option (List (Cell Name))
+left_of (close count left) = Some left
+left_of a = None
+
+record ClosedAt (h : Holding (Cell Name) (CellReply Name)) (left : List (Cell Name)) : Type 0 where
+  from : Port (Cell Name)
+  holds : h ≡ a_port from
+  all : left_in from ≡ left
+
+does-close : (w : CellWant Name) (h : Holding (Cell Name) (CellReply Name)) (count : ℕ) (left : List (Cell Name)) → done_at w h ≡ Some (close count left) → ClosedAt h left
+does-close (to_take ports) (a_port p) count left e =
+    let x = map-some (λ (q : ℕ × Cell Name). take q.0 q.1) (first_of p.queue) (close count left) e in none-not_some (ap left_of x.2)
+does-close to_hear (replies rs) count left e =
+    let x = map-some (λ (q : ℕ × CellReply Name). hear q.0 q.1) (first_of rs) (close count left) e in none-not_some (ap left_of x.2)
+does-close new_port (a_book b) count left e = none-not_some (ap (option_and_then left_of) e)
+does-close (new_process code) (a_book b) count left e = none-not_some (ap (option_and_then left_of) e)
+does-close (to_put n x) (a_port p) count left e = none-not_some (ap (option_and_then left_of) e)
+does-close (to_close n) (a_port p) count left e = record { from = p; holds = refl; all = some-injective (ap (option_and_then left_of) e) }
+does-close (to_answer caller call x) (replies rs) count left e = none-not_some (ap (option_and_then left_of) e)
+does-close w h count left e = none-not_some e
+
+-- an element is there where a list of the same length has one
+there-too : {X Y : Type 0} (xs : List X) (ys : List Y) (n : ℕ) (y : Y) → length xs ≡ length ys → slice_get ys n ≡ Some y → (x : X) × (slice_get xs n ≡ Some x)
+there-too xs [] n y same e = none-not_some e
+there-too [] (z ∷ ys) n y same e = let no : ⊥ = omega (arith, same) in absurd no
+there-too (x ∷ xs) (z ∷ ys) zero y same e = (x, refl)
+there-too (x ∷ xs) (z ∷ ys) (suc n) y same e = there-too xs ys n y (let p : length xs ≡ length ys = omega (arith, same) in p) e
 
 -- the port, and the replies, that are at a place
 abbrev port_of : Holding (Cell Name) (CellReply Name) → Option (Port (Cell Name))
@@ -168,6 +199,17 @@ module _ {P : Type 0} (machine : Machine Name P) (s : System P) (p : ℕ) (x : P
         let own : q ≡ p = eqb-true q p (sym (or-false (nat_eq q p)) ∙ among) in
         hear-suits rs q k r (sym (ap (λ i. numbered_from_one i s.replies) own) ∙ x.1 ∙ ap replies_at x.2) first
 
+    -- what is left with a close
+    close-suits : (n : ℕ) (q : Port (Cell Name)) → slice_get s.ports n ≡ Some q → IsTrue (every is_well_made (left_in q))
+    close-suits n q at =
+        let t = there-too types s.ports n q sound.ports.types at in
+        messages-well_made machine.types t.0 (left_in q) (λ m member. sound.messages n t.0 q m t.1 at member)
+
+    close-at : (place : Place) (q : Port (Cell Name)) → holding_at place s ≡ Some (a_port q) → IsTrue (every is_well_made (left_in q))
+    close-at (port n) q at = let x = map-some a_port (slice_get s.ports n) (a_port q) at in close-suits n q (x.1 ∙ ap port_of x.2)
+    close-at (reply_cell r) q at = let x = map-some replies (numbered_from_one r s.replies) (a_port q) at in none-not_some (ap port_of x.2)
+    close-at book q at = none-not_some (ap (option_and_then port_of) at)
+
     pub done-suits : (place : Place) (w : CellWant Name) (h : Holding (Cell Name) (CellReply Name)) (a : CellAction Name) → machine.wanted x ≡ Some w → some_of (same_place place) (places_for p w) ≡ true
         → holding_at place s ≡ Some h → done_at w h ≡ Some a → Suits machine x (number_of place) a
     done-suits place w h (take k m) wants among at e =
@@ -179,5 +221,7 @@ module _ {P : Type 0} (machine : Machine Name P) (s : System P) (p : ℕ) (x : P
     done-suits place w h (make_port made) wants among at e = tt
     done-suits place w h (make_process code made) wants among at e = tt
     done-suits place w h (put number m) wants among at e = tt
-    done-suits place w h (close count left) wants among at e = tt
+    done-suits place w h (close count left) wants among at e =
+        let x = does-close w h count left e in
+        subst (λ ms. IsTrue (every is_well_made ms)) x.all (close-at place x.from (at ∙ ap (λ v. Some v) x.holds))
     done-suits place w h (answer call r) wants among at e = tt

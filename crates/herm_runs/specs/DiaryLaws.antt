@@ -10,9 +10,10 @@ use Rattle.herm_journal.specs.Journals.{part_of_process}
 use Rattle.herm_journal.specs.Messages.{CellAction}
 use Rattle.herm_system.specs.Machines.{Machine}
 use Rattle.herm_system.specs.Systems.{System, Moved, Event, steps, acts, Run, run, run_on, step, start, main_port, number_of, numbered_from_one}
-use Rattle.herm_system.specs.Along.{Suits, IsAfter}
+use Rattle.herm_system.specs.Along.{Suits, IsToldBy, IsAfter}
 
--- What comes in with an event suits the process: its message or reply is one that it waits for.
+-- What comes in with an event suits the process: its message or reply is one that it waits for, and what is left with
+-- a close is well made.
 abbrev pub EventSuits : {P : Type 0} → Machine Name P → Event → System P → Type 0
 EventSuits machine (steps p) s = ⊤
 EventSuits {P} machine (acts p place) s =
@@ -48,3 +49,12 @@ DiariesTell {P} {Q} machine nameless without = (limits : Limits) (argument : Tex
 -- What comes in suits a process exactly where it suits the process without names.
 abbrev pub SuitsWithoutNames : {P Q : Type 0} → Machine Name P → Machine ⊤ Q → (P → Q) → Type 0
 SuitsWithoutNames {P} {Q} machine nameless without = (x : P) (at : ℕ) (a : CellAction Name) → Suits machine x at a ↔ Suits nameless (without x) at (rename_action forget_name a)
+
+-- An entry tells of one action: where two have its texts, answer what is wanted and suit, they are the same.
+-- Language reference, "Diaries".
+abbrev pub EntriesTellOneAction : {P : Type 0} → Machine ⊤ P → Type 0
+EntriesTellOneAction {P} machine = (x : P) (e : Entry) (a b : CellAction ⊤) → IsToldBy machine x e a → IsToldBy machine x e b → a ≡ b
+
+-- A diary, with so many local steps behind it, leads to one state. Language reference, "Diaries".
+abbrev pub DiariesLeadToOneState : {P : Type 0} → Machine ⊤ P → Type 0
+DiariesLeadToOneState {P} machine = (limit : ℕ) (s t u : P) (entries : List Entry) (n : ℕ) → IsAfter machine limit s entries n t → IsAfter machine limit s entries n u → t ≡ u

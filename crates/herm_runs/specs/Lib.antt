@@ -6,3 +6,4 @@ pub mod RunLaws
 pub mod Throughout
 pub mod Joining
 pub mod Countdowns
+pub mod examples

@@ -1,4 +1,4 @@
-// Laws of rounds, runs and journals.
+// Laws of rounds, runs and journals. Runs are those of machines with a main.
 
 ghost use Rattle.herm_model.specs.Values.{Name};
 ghost use Rattle.herm_system.specs.Machines.{Machine};
@@ -11,7 +11,7 @@ pub fn rounds_are_runs<P>()
     ensures runs { (machine : Machine Name P) → RoundsAreRuns machine }
 {}
 
-/// Where a number of rounds suffices, rounds end where no process can step.
+/// Where a number of rounds suffices, and at least one process may be made, rounds end where no process can step.
 pub fn rounds_are_final<P>()
     ensures final_ { (machine : Machine Name P) → KeepsNumbers machine → RoundsAreFinal machine }
 {}
@@ -52,7 +52,7 @@ pub fn names_are_made_once<P>()
     ensures once { (machine : Machine Name P) → NamesAreMadeOnce machine }
 {}
 
-/// So along every journal each cell that was made is held, queued or finalised exactly once, whatever the modules.
+/// So along every journal each cell that was made is held, queued or finalised exactly once.
 pub fn ledger_along_journals<P>()
     ensures ledger { (machine : Machine Name P) → KeepsNumbers machine → KeepsLedger machine → LedgerAlong machine }
 {}

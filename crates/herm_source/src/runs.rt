@@ -1,5 +1,5 @@
-// Laws of runs of the source machine, for any modules: each is the law over any machine (herm_runs), which the source machine
-// meets.
+// Laws of runs of the source machine, for any modules with a main: each is the law over any machine (herm_runs), which the
+// source machine meets.
 
 ghost use Rattle.herm_runs.specs.OrderLaws.{OrderedJournalsAreRuns};
 ghost use Rattle.herm_runs.specs.RunLaws.{HistoriesTell, LedgerAlong, NamesAreMadeOnce, RoundsAreFinal, RoundsAreRuns, RunsAreJournals, RunsAreNumbered, RunsAreStamped, RunsKeepLedger};
@@ -12,7 +12,7 @@ pub fn rounds_are_runs()
     ensures runs { (modules : Modules) → RoundsAreRuns (source modules) }
 {}
 
-/// Where a number of rounds suffices, rounds end where no process can step.
+/// Where a number of rounds suffices, and at least one process may be made, rounds end where no process can step.
 pub fn rounds_are_final()
     ensures final_ { (modules : Modules) → RoundsAreFinal (source modules) }
 {}
@@ -52,7 +52,7 @@ pub fn names_are_made_once()
     ensures once { (modules : Modules) → NamesAreMadeOnce (source modules) }
 {}
 
-/// So along every journal each cell that was made is held, queued or finalised exactly once, whatever the modules.
+/// So along every journal each cell that was made is held, queued or finalised exactly once.
 pub fn ledger_along_journals()
     ensures ledger { (modules : Modules) → LedgerAlong (source modules) }
 {}
@@ -63,14 +63,15 @@ pub fn histories_tell()
     ensures told { (modules : Modules) → HistoriesTell (source modules) }
 {}
 
-/// Whatever the schedule, where each message and reply that comes in suits its process, every process of a run is what
-/// its diary says, but for the names of its cells.
+/// Whatever the schedule, where what comes in with each action suits its process, every process of a run is what its
+/// diary says, but for the names of its cells.
 pub fn diaries_tell()
     ensures told { SourceDiariesTell }
 {}
 
-/// In a sound state each message and reply that comes in suits its process: a message is one of the port's type with
-/// exactly the declared facts, a reply is one that the open call waits for.
+/// In a sound state what comes in suits its process, where all codes have the modules' table of types: a message is
+/// one of the port's type with exactly the declared facts, a reply is one that the open call waits for, and messages
+/// that are left with a close are well made.
 pub fn sound_states_suit()
     ensures suits { SourceStatesSuit }
 {}

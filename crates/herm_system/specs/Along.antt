@@ -1,6 +1,7 @@
 -- A process along the entries of its diary. It has values without names; the list of its finalised names is a count.
 use Rattle.std.specs.Prelude.{ℕ, zero, suc, List, [], ◌∷◌, Bool, cond, Option, Some, None, option_and_then, length, ◌≡◌, ⊤, IsTrue, IsFalse}
-use Rattle.herm_model.specs.Lists.{some_of}
+use Rattle.herm_model.specs.Lists.{every, some_of}
+use Rattle.herm_model.specs.WellMade.{is_well_made}
 use Rattle.herm_journal.specs.Actions.{Want, new_port, new_process, to_put, to_take, to_close, to_answer, to_hear, Action, make_port, make_process, put, take, close, answer, hear}
 use Rattle.herm_journal.specs.Entries.{Place, same_place, Entry, recorded}
 use Rattle.herm_journal.specs.Messages.{CellWant, CellAction, IsMessage, IsReplyTo}
@@ -29,10 +30,12 @@ Answers to_hear (hear call r) = ⊤
 Answers w a = ⊥
 
 -- What comes in with an action is what the process waits for: a message of its port's type with exactly the declared
--- facts; a reply to the open call with the values or the exception that it waits for. Language reference, "Diaries".
+-- facts; a reply to the open call with the values or the exception that it waits for; and with a close, whose port may
+-- have any type, messages that are well made. Language reference, "Diaries".
 abbrev pub Suits : {N P : Type 0} → Machine N P → P → (at : ℕ) → CellAction N → Type 0
 Suits machine x at (take number m) = (t : ℕ) × (machine.port_type x at ≡ Some t) × IsMessage machine.types t m
 Suits machine x at (hear k r) = (call : OpenCall) × (machine.open_call x ≡ Some call) × (call.number ≡ k) × IsReplyTo machine.types call.call_type r
+Suits machine x at (close count left) = IsTrue (every is_well_made left)
 Suits machine x at a = ⊤
 
 -- what is wanted is done at a place where that may be done

@@ -40,7 +40,7 @@ module _ {N P Q : Type 0} (a : Machine N P) (b : Machine N Q) (types : a.types �
   suits-same at (make_port made) h = tt
   suits-same at (make_process code made) h = tt
   suits-same at (put number m) h = tt
-  suits-same at (close count left) h = tt
+  suits-same at (close count left) h = h
   suits-same at (answer call r) h = tt
 
   pub fulfils-same : (place : Place) (action : CellAction N) → Fulfils a x place action → Fulfils b y place action
