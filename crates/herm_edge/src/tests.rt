@@ -240,6 +240,9 @@ fn a_shelf_over_the_system_fails_where_a_file_is_out_of_reach(rt: HostRuntime) -
     let circle = format!(in alloc; "{folder}/herm_edge_circle")?;
     let closed = format!(in alloc; "{folder}/herm_edge_closed")?;
     let mut shelf = DirShelf::new(&rt);
+    // A run that was cut off may have left its files behind.
+    let _ = fs::remove_file(&rt, &circle);
+    let _ = fs::remove_file(&rt, &closed);
     symlink(&rt, &circle, &circle)?;
     loads(&rt, &mut shelf, &circle, 9, Want::Failed);
     fs::remove_file(&rt, &circle)?;

@@ -1,8 +1,9 @@
 //! The program `hermes`: reads files by their names, writes to standard output, and ends with the call's status.
 #![tactic(auto)]
 
-ghost use Rattle.std.specs.Prelude.{◌≡◌, OnErr, map, string_bytes};
+ghost use Rattle.std.specs.Prelude.{◌≡◌, ℕ, None, IfOk, OnErr, map, string_bytes};
 ghost use Rattle.std.specs.Process.{exit_status};
+ghost use Rattle.herm_edge.specs.Shelf.{faults_after};
 ghost use Rattle.herm_driver.specs.Due.{EndsWith};
 
 use herm_driver::hermes;
@@ -43,7 +44,9 @@ fn run<R: Files + AllocGlobal, W: Write + Drop>(
     words: Result<Vec<String>, AllocError>,
     writer: W,
 ) -> ExitCode
-    ensures { OnErr words (exit_status result ≡ 5) }
+    ensures memory { OnErr words (exit_status result ≡ 5) }
+    ensures ends { IfOk words (λ words. (shelf : ℕ) × (sink : ℕ) × EndsWith (λ before load after. after ≡ faults_after load.answer before) (λ n. n)
+        None 0 shelf (map string_bytes words.items) 0 sink None None (exit_status result)) }
 {
     let words = match words {
         Ok(words) => words,
