@@ -7,6 +7,7 @@ ghost use Rattle.std.specs.Cmp.{partial_equiv_from_equiv};
 ghost use Rattle.std.specs.Cmp.Rules.{hashing};
 ghost use Rattle.std.specs.Cmp.Lexicographic.{slice_cmp, nat_list_eq_equiv, nat_list_cmp_total, texts_ties, texts_po};
 
+use smallvec::SmallVec;
 use std::alloc::{AllocError, Global};
 use std::cmp::Ordering;
 use std::hash::{Hash, Hasher};
@@ -22,7 +23,7 @@ pub struct Span {
 /// A small text, seen as the list of its bytes.
 #[derive(Debug, Drop)]
 pub struct Word {
-    bytes: Vec<u8>,
+    bytes: SmallVec<u8, 16>,
 }
 
 impl Model for Word {
@@ -36,7 +37,7 @@ impl Word {
     pub fn of(alloc: Global, bytes: &[u8]) -> Result<Word, AllocError>
         ensures bytes { IfOk result (λ w. w ≡ bytes.now) }
     {
-        let bytes = Vec::from_slice(alloc, bytes)?;
+        let bytes = SmallVec::from_slice(alloc, bytes)?;
         Ok(Word { bytes })
     }
 
@@ -44,7 +45,7 @@ impl Word {
     pub fn from_vec(bytes: Vec<u8>) -> Word
         ensures bytes { result ≡ bytes.items }
     {
-        Word { bytes }
+        Word { bytes: SmallVec::from_vec(bytes) }
     }
 
     pub fn bytes(&self) -> &[u8]
