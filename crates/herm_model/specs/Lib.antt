@@ -25,3 +25,4 @@ pub mod TypeLaws
 pub mod ValueLaws
 pub mod TextLaws
 pub mod TypedExpressions
+pub mod WellFormedTables
