@@ -4,3 +4,4 @@ pub mod Extended
 pub mod Walks
 pub mod Few
 pub mod PathFacts
+pub mod Repeats

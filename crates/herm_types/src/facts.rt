@@ -2,12 +2,15 @@
 ghost use Rattle.std.specs.Prelude.{◌≡◌, ◌<◌, ◌∷◌, IfOk, map, length};
 ghost use Rattle.herm_model.specs.Paths as model;
 ghost use Rattle.herm_model.specs.Types.{all_parts, steps};
-ghost use Rattle.herm_model.specs.Facts.{full_facts};
+ghost use Rattle.herm_model.specs.Facts.{full_facts, declared_facts};
 ghost use Rattle.herm_types.specs.View.{path_view, fact_view};
 ghost use Rattle.herm_types.specs.Chosen.{lists};
+ghost use Rattle.herm_types.specs.Messages.{IsInport};
 
 use crate::fact::{Fact, Path};
+use crate::messages::{all_said, listed, without_repeats};
 use crate::paths::{Choice, paths_from};
+use crate::shape::Shape;
 use crate::table::TypeTable;
 use herm_base::{TypeNo, VarNo};
 use std::alloc::{AllocError, Global};
@@ -47,5 +50,31 @@ impl TypeTable {
         )?;
         let facts = inits(alloc, p.var, paths)?;
         Ok(facts)
+    }
+
+    /// The facts at which messages of an inport type travel, said of a message at a path: `init` of the message and the
+    /// listed facts, each behind those before it, or those of a full message where none is listed.
+    pub fn declared_facts(
+        &self,
+        alloc: Global,
+        p: &Path,
+        port: TypeNo,
+    ) -> Result<Vec<Fact>, AllocError>
+        requires { IsInport self.now.shapes port.0 }
+        ensures { IfOk result (λ v. map fact_view v.items ≡ declared_facts self.now.shapes port.0 (path_view p.now)) }
+    {
+        match self.shape(port) {
+            Shape::Inport { message, facts } => {
+                if facts.as_slice().is_empty() {
+                    let full = self.full_facts(alloc, p, *message)?;
+                    return Ok(full);
+                }
+                let listed = listed(alloc, self.shapes.as_slice(), *message, facts.as_slice())?;
+                let distinct = without_repeats(alloc, listed)?;
+                let said = all_said(alloc, p, distinct.as_slice())?;
+                Ok(said)
+            }
+            _ => Ok(Vec::new(alloc)),
+        }
     }
 }

@@ -95,11 +95,7 @@ fn full_of(alloc: Global, shape: &Shape) -> Result<Vec<(u32, TypeNo)>, AllocErro
 }
 
 /// The parts of a shape that are gone through, by place and type.
-fn parts_of(
-    alloc: Global,
-    choice: Choice,
-    shape: &Shape,
-) -> Result<Vec<(u32, TypeNo)>, AllocError>
+fn parts_of(alloc: Global, choice: Choice, shape: &Shape) -> Result<Vec<(u32, TypeNo)>, AllocError>
     requires { width shape.now < 2 ^ 32 }
     ensures { IfOk result (λ v. map part_seen v.items ≡ chosen choice (shape_view shape.now)) }
 {
@@ -155,14 +151,6 @@ pub fn paths_from(
 {
     let mut at = Vec::from_slice(alloc, from)?;
     let mut out = Vec::new(alloc);
-    walk(
-        alloc,
-        shapes,
-        choice,
-        GREATEST_DEPTH,
-        t,
-        &mut at,
-        &mut out,
-    )?;
+    walk(alloc, shapes, choice, GREATEST_DEPTH, t, &mut at, &mut out)?;
     Ok(out)
 }

@@ -9,5 +9,5 @@ decreases-walk l = l.depth
 abbrev pub invariant-loop-part : goal.invariant-loop-part
 invariant-loop-part l = record {
   at : l.at.items ≡ l.fn.at.items;
-  out : lists l.out.items ≡ (lists l.fn.out.items ++ l.fn.at.items ∷ []) ++ onward l.choice (l.depth - 1) (shapes_view l.shapes) l.fn.at.items (map part_seen (take l.part-index l.part-items))
+  out : lists l.out.items ≡ (lists l.fn.out.items ++ l.fn.at.items ∷ []) ++ onward l.choice (l.depth - 1) (shapes_view l.shapes) l.fn.at.items (map part_seen (take l.part-index l.part-items));
 }
