@@ -1,2 +1,5 @@
 -- What the code of definitions computes, in plain definitions.
 pub mod Seen
+pub mod Few
+pub mod Found
+pub mod Kept

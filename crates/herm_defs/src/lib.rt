@@ -1,4 +1,7 @@
 //! Definitions of types: modules are read into a table of types, or refused at each wrong name.
 #![tactic(auto)]
 
+mod gather;
 mod items;
+mod names;
+mod outline;
