@@ -1,3 +1,4 @@
 pub mod Finding
 pub mod Keeping
 pub mod Gathering
+pub mod Reaching

@@ -2,4 +2,6 @@
 pub mod Seen
 pub mod Few
 pub mod Found
+pub mod Graph
+pub mod Links
 pub mod Kept

@@ -2,6 +2,8 @@
 #![tactic(auto)]
 
 mod gather;
+mod graph;
 mod items;
+mod links;
 mod names;
 mod outline;
