@@ -2,3 +2,4 @@ pub mod Finding
 pub mod Keeping
 pub mod Gathering
 pub mod Reaching
+pub mod Counting

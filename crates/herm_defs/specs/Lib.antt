@@ -2,6 +2,7 @@
 pub mod Seen
 pub mod Few
 pub mod Found
+pub mod Depth
 pub mod Graph
 pub mod Links
 pub mod Kept
