@@ -3,3 +3,4 @@ pub mod Keeping
 pub mod Gathering
 pub mod Reaching
 pub mod Counting
+pub mod Relations

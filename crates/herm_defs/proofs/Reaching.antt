@@ -16,7 +16,7 @@ set-missing [] t d l e = absurd (omega (arith, l))
 set-missing (b ∷ bs) zero d l e = rw e (omega arith)
 set-missing (b ∷ bs) (suc t) d l e = omega (arith, set-missing bs t d (omega (arith, l)) e)
 
-says-set : (found : List Bool) (t u : ℕ) → IsTrue (says (set found t true) u) → (u ≡ t) ⊎ IsTrue (says found u)
+pub says-set : (found : List Bool) (t u : ℕ) → IsTrue (says (set found t true) u) → (u ≡ t) ⊎ IsTrue (says found u)
 says-set [] t u h = inr h
 says-set (b ∷ bs) zero zero h = inl refl
 says-set (b ∷ bs) zero (suc u) h = inr h

@@ -85,6 +85,34 @@ fn pass(rule: Rule, goal: &[bool], next: &[Vec<u32>], found: &mut [bool]) -> boo
     changed
 }
 
+/// The same from the last type to the first.
+fn pass_back(rule: Rule, goal: &[bool], next: &[Vec<u32>], found: &mut [bool]) -> bool
+    requires each { length found.old ≡ length next.now }
+    requires few { length next.now < 2 ^ 32 }
+    ensures reached { AreReached rule goal.now (lists next.now) found.old → AreReached rule goal.now (lists next.now) found.new }
+    ensures count { missing found.new + cond result 1 0 ≤ missing found.old }
+{
+    let mut changed = false;
+    for place in (0..next.len()).rev() {
+        let more = visit(rule, goal, next, place as u32, found);
+        changed = changed || more;
+    }
+    changed
+}
+
+/// Looks at all types again in both orders, and says whether one more was found. Types that name those behind them are
+/// found in one order, types that name those before them in the other.
+fn both_passes(rule: Rule, goal: &[bool], next: &[Vec<u32>], found: &mut [bool]) -> bool
+    requires each { length found.old ≡ length next.now }
+    requires few { length next.now < 2 ^ 32 }
+    ensures reached { AreReached rule goal.now (lists next.now) found.old → AreReached rule goal.now (lists next.now) found.new }
+    ensures count { missing found.new + cond result 1 0 ≤ missing found.old }
+    ensures done { result ≡ false → (t : ℕ) → t < length next.now → IsDoneAt rule goal.now (lists next.now) found.new t }
+{
+    pass_back(rule, goal, next, found);
+    pass(rule, goal, next, found)
+}
+
 /// Which types are reached.
 pub fn reached(
     alloc: Global,
@@ -96,6 +124,6 @@ pub fn reached(
     ensures { IfOk result (λ v. (t : ℕ) → IsTrue (says v.items t) ↔ IsReached rule goal.now (lists next.now) t) }
 {
     let mut found = vec![in alloc; false; next.len()]?;
-    'passes: while pass(rule, goal, next, found.as_mut_slice()) {}
+    'passes: while both_passes(rule, goal, next, found.as_mut_slice()) {}
     Ok(found)
 }

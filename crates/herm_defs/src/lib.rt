@@ -1,6 +1,7 @@
 //! Definitions of types: modules are read into a table of types, or refused at each wrong name.
 #![tactic(auto)]
 
+mod cycles;
 mod depth;
 mod gather;
 mod graph;
