@@ -4,3 +4,4 @@ pub mod Gathering
 pub mod Reaching
 pub mod Counting
 pub mod Relations
+pub mod Meeting

@@ -4,5 +4,6 @@ pub mod Few
 pub mod Found
 pub mod Depth
 pub mod Graph
+pub mod Met
 pub mod Links
 pub mod Kept
