@@ -1,5 +1,5 @@
 -- A name is found at its first place.
-use Rattle.std.proofs.Common.{◌≡◌, ◌<◌, ℕ, zero, suc, ◌+◌, Bool, true, false, cond, List, [], ◌∷◌, ◌++◌, length, Option, Some, None, is_some, refl, sym, ◌∙◌, ap, subst, arith, length-append, true≢false}
+use Rattle.std.proofs.Common.{◌≡◌, ◌<◌, ℕ, zero, suc, ◌+◌, Bool, true, false, cond, List, [], ◌∷◌, ◌++◌, length, Option, Some, None, is_some, refl, sym, ◌∙◌, ap, subst, arith, length-append, true≢false, ◌≤◌, not}
 use Rattle.std.specs.Str.{bytes_eq}
 use Rattle.std.proofs.lemmas.Slice.Eq.{bytes_eq-Decides}
 use Rattle.std.proofs.lemmas.Bool.{eq-eqb, eqb-true}
@@ -74,3 +74,11 @@ module _ {K : Type 0} (bytes : K → List ℕ) where
 pub none-there : {X : Type 0} (o : Option X) → is_some o ≡ false → o ≡ None
 none-there None e = refl
 none-there (Some x) e = absurd (true≢false e)
+
+pub place-within : (names : List (List ℕ)) (name : List ℕ) → place_of names name ≤ length names
+place-within [] name = omega arith
+place-within (n ∷ ns) name = by (bytes_eq name n) (place-within ns name)
+  where
+    by : (b : Bool) → place_of ns name ≤ length ns → cond (not b) (1 + place_of ns name) 0 ≤ length (n ∷ ns)
+    by true l = omega arith
+    by false l = omega (arith, l)

@@ -8,6 +8,9 @@ use Rattle.herm_syntax.specs.declared.definitions.DefItem.{DefItem}
 use Rattle.herm_syntax.specs.Trees.{Letters, Shape}
 use Rattle.herm_model.specs.Lists.{IsIn}
 use Rattle.herm_meaning.specs.Items.{Placed, types_in, types_by, exceptions_in, exceptions_by}
+use Rattle.herm_types.specs.declared.shape.Shape.{Shape as Code}
+use Rattle.herm_types.specs.View.{shape_view}
+use Rattle.herm_meaning.specs.Meaning.{outline, numbered_shape, type_names, exception_names}
 use Rattle.herm_defs.specs.Seen.{item_seen}
 
 map-append : {X Y : Type 0} (f : X → Y) (xs ys : List X) → map f (xs ++ ys) ≡ map f xs ++ map f ys
@@ -48,3 +51,13 @@ pub seen-in : (items : List (ℕ × Bor DefItem)) (i : ℕ) (o : ℕ × Bor DefI
 seen-in [] i o l e = absurd (omega (arith, l))
 seen-in (x ∷ xs) zero o l e = inl (ap item_seen e)
 seen-in (x ∷ xs) (suc i) o l e = inr (seen-in xs i o (omega (arith, l)) e)
+
+map-length : {X Y : Type 0} (f : X → Y) (xs : List X) → length (map f xs) ≡ length xs
+map-length f [] = refl
+map-length f (x ∷ xs) = ap suc (map-length f xs)
+
+-- there are as many shapes as names
+pub as-many-shapes : (items : List Placed) (shapes : List Code) → map shape_view shapes ≡ (outline items).shapes → length shapes ≡ length (type_names items)
+as-many-shapes items shapes e =
+    let same = ap length e in
+    omega (arith, map-length shape_view shapes, same, map-length (λ (d : Letters × Shape). numbered_shape (type_names items) (exception_names items) d.1) (types_in items), map-length (λ (d : Letters × Shape). d.0) (types_in items))

@@ -80,23 +80,27 @@ module _ (shapes : TypeTable) (next : List (List ℕ)) (same : next ≡ map name
   ends known goal tests count k n r t h cycle = founded shapes next same known goal (keeps known count k n) AllOf refl t ((r t).0 h) cycle
 
   pub itself : (goal tests : List Bool) (t : ℕ) → IsTrue (says goal t) → ((u : ℕ) → IsTrue (says goal u) → u ≡ t) → ((u : ℕ) → IsTrue (says tests u) ↔ IsReached AnyOf goal next u) → IsTrue (says tests t) ↔ Reaches shapes t t
-  itself goal tests t g alone r =
-      (λ h. let l = leads shapes next same goal AnyOf refl t ((r t).0 h) in subst (λ w. Reaches shapes t w) (alone l.0 l.2) l.1,
-       λ c. (r t).1 (led shapes next same goal t t c g))
+  itself goal tests t g alone r = (
+    λ h. let l = leads shapes next same goal AnyOf refl t ((r t).0 h) in subst (λ w. Reaches shapes t w) (alone l.0 l.2) l.1,
+    λ c. (r t).1 (led shapes next same goal t t c g),
+  )
 
   pub cycles-all : (n : ℕ) (tests : List Bool) → length tests ≡ n → length next ≤ n → n ≤ length next → SayCyclesBelow n shapes tests → SayCycles shapes tests
-  cycles-all n tests each low high said t =
-      (λ h. (said t (omega (arith, said-within tests t h, each))).0 h,
-       λ c. (said t (omega (arith, there shapes t (names-some shapes t t c), as-many, low))).1 c)
+  cycles-all n tests each low high said t = (
+    λ h. (said t (omega (arith, said-within tests t h, each))).0 h,
+    λ c. (said t (omega (arith, there shapes t (names-some shapes t t c), as-many, low))).1 c,
+  )
 
   pub meets-all : (n : ℕ) (goal found tests : List Bool) → length tests ≡ n → length next ≤ n → length goal ≡ length next → ((u : ℕ) → u < n → says tests u ≡ (says goal u || says found u)) → ((u : ℕ) → IsTrue (says found u) ↔ IsReached AnyOf goal next u) → (t : ℕ) → IsTrue (says tests t) ↔ MeetsGoal shapes goal t
-  meets-all n goal found tests each low many said r t =
-      (λ h. to (or-either (says goal t) (says found t) (sym (said t (omega (arith, said-within tests t h, each))) ∙ h)),
-       λ m. from m.0 m.1 m.2)
+  meets-all n goal found tests each low many said r t = (
+    λ h. to (or-either (says goal t) (says found t) (sym (said t (omega (arith, said-within tests t h, each))) ∙ h)),
+    λ m. from m.0 m.1 m.2,
+  )
     where
       to : IsTrue (says goal t) ⊎ IsTrue (says found t) → MeetsGoal shapes goal t
       to (inl g) = (t, inl refl, g)
       to (inr f) = let l = leads shapes next same goal AnyOf refl t ((r t).0 f) in (l.0, inr l.1, l.2)
+
       from : (u : ℕ) → (t ≡ u) ⊎ Reaches shapes t u → IsTrue (says goal u) → IsTrue (says tests t)
       from u (inl e) g =
           let here = subst (λ w. IsTrue (says goal w)) (sym e) g in

@@ -36,11 +36,7 @@ fn all_known(alloc: Global, next: &[Vec<u32>], count: u32) -> Result<Vec<Vec<u32
 }
 
 /// Which types end, since all that they name and that are there end too.
-fn ending(
-    alloc: Global,
-    shapes: &[Shape],
-    next: &[Vec<u32>],
-) -> Result<Vec<bool>, AllocError>
+fn ending(alloc: Global, shapes: &[Shape], next: &[Vec<u32>]) -> Result<Vec<bool>, AllocError>
     requires few { length next.now < 2 ^ 32 }
     requires named { lists next.now ≡ map named_types (shapes_view shapes.now) }
     ensures { IfOk result (λ v. SayEnding (shapes_view shapes.now) v.items) }
@@ -108,7 +104,8 @@ pub fn cycles_of(
 ) -> Result<Vec<bool>, AllocError>
     requires few { length next.now < 2 ^ 32 }
     requires named { lists next.now ≡ map named_types (shapes_view shapes.now) }
-    ensures { IfOk result (λ v. SayCycles (shapes_view shapes.now) v.items) }
+    ensures said { IfOk result (λ v. SayCycles (shapes_view shapes.now) v.items) }
+    ensures each { IfOk result (λ v. length v.items ≡ length next.now) }
 {
     let ends = ending(alloc, shapes, next)?;
     let mut cycles = Vec::with_capacity(alloc, next.len())?;

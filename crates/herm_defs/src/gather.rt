@@ -72,7 +72,9 @@ fn push_shape(
     exceptions: &Names,
     item: &DefItem,
 ) -> Result<(), AllocError>
-    requires { form_total item.now.form < 2 ^ 31 }
+    requires few { form_total item.now.form < 2 ^ 31 }
+    requires types { length types.now < 2 ^ 32 }
+    requires exceptions { length exceptions.now < 2 ^ 32 }
     ensures shapes { OnOk result (map shape_view shapes.new.items ≡ map shape_view shapes.old.items ++ map (λ d. numbered_shape types.now exceptions.now d.1) (types_by item.now.name.text item.now.form [])) }
     ensures parts { OnOk result (map parts_view shapes.new.items ≡ map parts_view shapes.old.items ++ map (λ d. part_names d.1) (types_by item.now.name.text item.now.form [])) }
 {
@@ -94,6 +96,8 @@ pub fn shapes_of(
     items: &[(u32, &DefItem)],
 ) -> Result<Vec<Shape>, AllocError>
     requires few { AreFew (map item_seen items.now) }
+    requires few_types { length types.now < 2 ^ 32 }
+    requires few_exceptions { length exceptions.now < 2 ^ 32 }
     requires types { types.now ≡ type_names (map item_seen items.now) }
     requires exceptions { exceptions.now ≡ exception_names (map item_seen items.now) }
     ensures shapes { IfOk result (λ v. map shape_view v.items ≡ (outline (map item_seen items.now)).shapes) }

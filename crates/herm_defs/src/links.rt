@@ -1,9 +1,9 @@
 //! The types that each type names.
-ghost use Rattle.std.specs.Prelude.{◌≡◌, [], ◌∷◌, IfOk, map, ◌&&◌, cond};
+ghost use Rattle.std.specs.Prelude.{◌≡◌, [], ◌∷◌, IfOk, map, length, ◌&&◌, cond};
 ghost use Rattle.herm_model.specs.Types.{named_types, is_composed, is_plain};
 ghost use Rattle.herm_types.specs.View.{shape_view, param_view};
 ghost use Rattle.herm_types.specs.Chosen.{lists};
-ghost use Rattle.herm_defs.specs.Links.{composed_types};
+ghost use Rattle.herm_defs.specs.Links.{composed_types, path_types};
 
 use herm_types::{Param, Part, Shape};
 use std::alloc::{AllocError, Global};
@@ -73,14 +73,20 @@ pub fn named_types(alloc: Global, shape: &Shape) -> Result<Vec<u32>, AllocError>
 pub fn is_composed(shape: &Shape) -> bool
     ensures { result ≡ is_composed (shape_view shape.now) }
 {
-    matches!(shape, Shape::Fields(_) | Shape::Cases(_) | Shape::Rows { row: _, keys: _ })
+    matches!(
+        shape,
+        Shape::Fields(_) | Shape::Cases(_) | Shape::Rows { row: _, keys: _ }
+    )
 }
 
 /// Whether values of this shape are one cell and may be copied.
 pub fn is_plain(shape: &Shape) -> bool
     ensures { result ≡ is_plain (shape_view shape.now) }
 {
-    matches!(shape, Shape::Boolean | Shape::Integer | Shape::Text | Shape::Names(_) | Shape::Outport { port: _ })
+    matches!(
+        shape,
+        Shape::Boolean | Shape::Integer | Shape::Text | Shape::Names(_) | Shape::Outport { port: _ }
+    )
 }
 
 /// The types of the parts of a copyable shape.
@@ -96,7 +102,8 @@ fn composed_types(alloc: Global, shape: &Shape) -> Result<Vec<u32>, AllocError>
 
 /// The types that each shape names.
 pub fn all_named(alloc: Global, shapes: &[Shape]) -> Result<Vec<Vec<u32>>, AllocError>
-    ensures { IfOk result (λ v. lists v.items ≡ map named_types (map shape_view shapes.now)) }
+    ensures named { IfOk result (λ v. lists v.items ≡ map named_types (map shape_view shapes.now)) }
+    ensures each { IfOk result (λ v. length v.items ≡ length shapes.now) }
 {
     let mut all = Vec::with_capacity(alloc, shapes.len())?;
     for shape in shapes {
@@ -108,11 +115,45 @@ pub fn all_named(alloc: Global, shapes: &[Shape]) -> Result<Vec<Vec<u32>>, Alloc
 
 /// The types of the parts of each copyable shape.
 pub fn all_composed(alloc: Global, shapes: &[Shape]) -> Result<Vec<Vec<u32>>, AllocError>
-    ensures { IfOk result (λ v. lists v.items ≡ map composed_types (map shape_view shapes.now)) }
+    ensures composed { IfOk result (λ v. lists v.items ≡ map composed_types (map shape_view shapes.now)) }
+    ensures each { IfOk result (λ v. length v.items ≡ length shapes.now) }
 {
     let mut all = Vec::with_capacity(alloc, shapes.len())?;
     for shape in shapes {
         let types = composed_types(alloc, shape)?;
+        all.push(types)?;
+    }
+    Ok(all)
+}
+
+/// The types of the parts that paths go through.
+fn part_links_of(alloc: Global, shape: &Shape) -> Result<Vec<u32>, AllocError>
+    ensures { IfOk result (λ v. v.items ≡ path_types (shape_view shape.now)) }
+{
+    match shape {
+        Shape::Fields(parts) => {
+            let types = part_types(alloc, parts.as_slice())?;
+            Ok(types)
+        }
+        Shape::Cases(parts) => {
+            let types = part_types(alloc, parts.as_slice())?;
+            Ok(types)
+        }
+        Shape::CallMessage { params, raises: _ } => {
+            let types = param_types(alloc, params.as_slice())?;
+            Ok(types)
+        }
+        _ => Ok(Vec::new(alloc)),
+    }
+}
+
+/// The types of the parts of each type that paths go through.
+pub fn part_links(alloc: Global, shapes: &[Shape]) -> Result<Vec<Vec<u32>>, AllocError>
+    ensures { IfOk result (λ v. lists v.items ≡ map path_types (map shape_view shapes.now)) }
+{
+    let mut all = Vec::with_capacity(alloc, shapes.len())?;
+    for shape in shapes {
+        let types = part_links_of(alloc, shape)?;
         all.push(types)?;
     }
     Ok(all)

@@ -13,7 +13,7 @@ use std::marker::Model;
 #[derive(Drop)]
 pub struct Names {
     words: Vec<Word>,
-    firsts: IndexMap<Vec<u8>, u32>,
+    firsts: IndexMap<Vec<u8>, usize>,
 }
 
 impl Model for Names {
@@ -31,9 +31,9 @@ impl Model for Names {
 /// One name more.
 fn add(
     alloc: Global,
-    firsts: &mut IndexMap<Vec<u8>, u32>,
+    firsts: &mut IndexMap<Vec<u8>, usize>,
     word: &Word,
-    number: u32,
+    number: usize,
 ) -> Result<(), AllocError>
     ensures { OnOk result ((names : List (List ℕ)) → length names ≡ number → Finds (λ k. k.items) names firsts.old.entries → Finds (λ k. k.items) (names ++ word.now ∷ []) firsts.new.entries) }
 {
@@ -46,13 +46,12 @@ fn add(
 }
 
 /// The first number of each name.
-fn firsts_of(alloc: Global, words: &[Word]) -> Result<IndexMap<Vec<u8>, u32>, AllocError>
-    requires { length words.now < 2 ^ 32 }
+fn firsts_of(alloc: Global, words: &[Word]) -> Result<IndexMap<Vec<u8>, usize>, AllocError>
     ensures { IfOk result (λ m. Finds (λ k. k.items) words.now m.entries) }
 {
-    let mut firsts: IndexMap<Vec<u8>, u32> = IndexMap::with_capacity(alloc, words.len())?;
+    let mut firsts: IndexMap<Vec<u8>, usize> = IndexMap::with_capacity(alloc, words.len())?;
     for (number, word) in words.iter().enumerate() {
-        add(alloc, &mut firsts, word, number as u32)?;
+        add(alloc, &mut firsts, word, number)?;
     }
     Ok(firsts)
 }
@@ -60,7 +59,6 @@ fn firsts_of(alloc: Global, words: &[Word]) -> Result<IndexMap<Vec<u8>, u32>, Al
 impl Names {
     /// These names, by number.
     pub fn of(alloc: Global, words: Vec<Word>) -> Result<Names, AllocError>
-        requires { length words.items < 2 ^ 32 }
         ensures { IfOk result (λ n. n ≡ words.items) }
     {
         let firsts = firsts_of(alloc, words.as_slice())?;
@@ -68,21 +66,29 @@ impl Names {
     }
 
     /// How many names there are.
-    pub fn len(&self) -> u32
+    pub fn len(&self) -> usize
         ensures { result ≡ length self.now }
     {
-        let count = self.words.len();
-        count as u32
+        self.words.len()
     }
 
-    /// The number of a name, or that of all names where it is not there.
-    pub fn place(&self, name: &[u8]) -> u32
+    /// The place of a name, or the number of all names where it is not there.
+    pub fn place(&self, name: &[u8]) -> usize
         ensures { result ≡ place_of self.now name.now }
     {
         match self.firsts.get(name) {
             Some(number) => *number,
-            None => self.len(),
+            None => self.words.len(),
         }
+    }
+
+    /// The same as a number of 32 bits.
+    pub fn number(&self, name: &[u8]) -> u32
+        requires { length self.now < 2 ^ 32 }
+        ensures { result ≡ place_of self.now name.now }
+    {
+        let place = self.place(name);
+        place as u32
     }
 
     pub fn words(&self) -> &[Word]

@@ -16,9 +16,10 @@ use herm_types::{Mode, Param, Part, RaiseDecl, Shape};
 use std::alloc::{AllocError, Global};
 
 fn number_of(names: &Names, name: &Name) -> TypeNo
+    requires { length names.now < 2 ^ 32 }
     ensures { result.0 ≡ place_of names.now (letters name.now) }
 {
-    TypeNo(names.place(name.text.bytes()))
+    TypeNo(names.number(name.text.bytes()))
 }
 
 fn words_of(alloc: Global, names: &[Name]) -> Result<Vec<Word>, AllocError>
@@ -33,6 +34,7 @@ fn words_of(alloc: Global, names: &[Name]) -> Result<Vec<Word>, AllocError>
 }
 
 fn parts_of(alloc: Global, types: &Names, fields: &[Field]) -> Result<Vec<Part>, AllocError>
+    requires { length types.now < 2 ^ 32 }
     ensures types { IfOk result (λ v. map (λ p. p.of.0) v.items ≡ map (λ f. place_of types.now f.1) (map field_of fields.now)) }
     ensures names { IfOk result (λ v. map (λ p. p.name) v.items ≡ map (λ f. f.0) (map field_of fields.now)) }
 {
@@ -56,6 +58,7 @@ fn mode_of(mode: ModeForm) -> Mode
 }
 
 fn params_of(alloc: Global, types: &Names, params: &[ParamForm]) -> Result<Vec<Param>, AllocError>
+    requires { length types.now < 2 ^ 32 }
     ensures types { IfOk result (λ v. map param_view v.items ≡ map (parameter_meant types.now) (map param_of params.now)) }
     ensures names { IfOk result (λ v. map (λ p. p.name) v.items ≡ map (λ p. p.1.0) (map param_of params.now)) }
 {
@@ -92,11 +95,7 @@ fn push_if(numbers: &mut Vec<u32>, test: bool, number: u32) -> Result<(), AllocE
 }
 
 /// The places of the parameters that are kept, rising.
-fn kept_places(
-    alloc: Global,
-    params: &[ParamForm],
-    keeps: &[Name],
-) -> Result<Vec<u32>, AllocError>
+fn kept_places(alloc: Global, params: &[ParamForm], keeps: &[Name]) -> Result<Vec<u32>, AllocError>
     requires { length params.now < 2 ^ 31 }
     ensures { IfOk result (λ v. v.items ≡ kept_places 0 (map (λ p. p.1.0) (map param_of params.now)) (map letters keeps.now)) }
 {
@@ -118,12 +117,13 @@ fn raises_of(
     params: &[ParamForm],
     raises: &[RaiseForm],
 ) -> Result<Vec<RaiseDecl>, AllocError>
-    requires { length params.now < 2 ^ 31 }
+    requires few { length params.now < 2 ^ 31 }
+    requires exceptions { length exceptions.now < 2 ^ 32 }
     ensures { IfOk result (λ v. map raise_view v.items ≡ map (raising_meant types.now exceptions.now (map param_of params.now)) (map raising_of raises.now)) }
 {
     let mut numbered = Vec::new(alloc);
     for raise in raises {
-        let exc = ExcNo(exceptions.place(raise.name.text.bytes()));
+        let exc = ExcNo(exceptions.number(raise.name.text.bytes()));
         let keeps = kept_places(alloc, params, raise.keeps.as_slice())?;
         numbered.push(RaiseDecl { exc, keeps })?;
     }
@@ -137,7 +137,9 @@ pub fn numbered_shape(
     exceptions: &Names,
     shape: &ShapeForm,
 ) -> Result<Shape, AllocError>
-    requires { part_total shape.now < 2 ^ 31 }
+    requires few { part_total shape.now < 2 ^ 31 }
+    requires types { length types.now < 2 ^ 32 }
+    requires exceptions { length exceptions.now < 2 ^ 32 }
     ensures shape { IfOk result (λ s. shape_view s ≡ numbered_shape types.now exceptions.now (shape_of shape.now)) }
     ensures parts { IfOk result (λ s. parts_view s ≡ part_names (shape_of shape.now)) }
 {

@@ -5,8 +5,8 @@ use Rattle.herm_types.specs.Chosen.{lists}
 use Rattle.herm_defs.proofs.Meeting.{cycles-all}
 use Rattle.herm_defs.proofs.cycles.cycles_of.Goals as goal
 
-pub returns : goal.returns
-returns c =
+pub returns-clause-said : goal.returns-clause-said
+returns-clause-said c =
     let many = length-map (λ (v : Vec ℕ Global). v.items) c.args.next.now in
     let low : length (lists c.args.next.now) ≤ c.loop-t.t = omega (arith, many, c.loop-t-test.false) in
     let high : c.loop-t.t ≤ length (lists c.args.next.now) = omega (arith, many, c.loop-t.auto.t-end) in

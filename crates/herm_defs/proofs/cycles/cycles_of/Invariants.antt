@@ -6,5 +6,5 @@ use Rattle.herm_defs.proofs.cycles.cycles_of.Given as goal
 abbrev pub invariant-loop-t : goal.invariant-loop-t
 invariant-loop-t l = record {
   each : length l.cycles.items ≡ l.t;
-  said : SayCyclesBelow l.t (shapes_view l.shapes) l.cycles.items
+  said : SayCyclesBelow l.t (shapes_view l.shapes) l.cycles.items;
 }

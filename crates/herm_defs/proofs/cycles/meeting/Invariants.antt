@@ -6,5 +6,5 @@ use Rattle.herm_defs.proofs.cycles.meeting.Given as goal
 abbrev pub invariant-loop-t : goal.invariant-loop-t
 invariant-loop-t l = record {
   each : length l.meets.items ≡ l.t;
-  said : (u : ℕ) → u < l.t → says l.meets.items u ≡ (says l.goal u || says l.reaching u)
+  said : (u : ℕ) → u < l.t → says l.meets.items u ≡ (says l.goal u || says l.reaching u);
 }

@@ -8,5 +8,5 @@ use Rattle.herm_defs.proofs.depth.paths_by.Given as goal
 abbrev pub invariant-loop-part : goal.invariant-loop-part
 invariant-loop-part l = record {
   few : l.paths ≤ 1025;
-  sum : paths_by l.counts l.paths (drop l.part-index l.parts) ≡ paths_by l.counts 1 l.parts
+  sum : paths_by l.counts l.paths (drop l.part-index l.parts) ≡ paths_by l.counts 1 l.parts;
 }

@@ -7,5 +7,5 @@ abbrev pub invariant-loop-place : goal.invariant-loop-place
 invariant-loop-place l = record {
   reached : AreReached l.rule l.goal (lists l.next) l.fn.found → AreReached l.rule l.goal (lists l.next) l.found;
   count : missing l.found + cond l.changed 1 0 ≤ missing l.fn.found;
-  done : l.changed ≡ false → (t : ℕ) → t < l.place → IsDoneAt l.rule l.goal (lists l.next) l.found t
+  done : l.changed ≡ false → (t : ℕ) → t < l.place → IsDoneAt l.rule l.goal (lists l.next) l.found t;
 }

@@ -6,7 +6,7 @@ use Rattle.herm_defs.proofs.graph.reached.Given as goal
 abbrev pub invariant-passes : goal.invariant-passes
 invariant-passes l = record {
   each : length l.found.items ≡ length l.next;
-  reached : AreReached l.rule l.goal (lists l.next) l.found.items
+  reached : AreReached l.rule l.goal (lists l.next) l.found.items;
 }
 
 abbrev pub decreases-passes : goal.decreases-passes
