@@ -5,3 +5,4 @@ pub mod Reaching
 pub mod Counting
 pub mod Relations
 pub mod Meeting
+pub mod Copying

@@ -1,5 +1,5 @@
 //! What is known of all types before their names are judged.
-ghost use Rattle.std.specs.Prelude.{◌≡◌, ◌<◌, ◌^◌, ◌||◌, ℕ, not, nat_lt, IfOk, map, length};
+ghost use Rattle.std.specs.Prelude.{◌≡◌, ◌<◌, ◌^◌, ◌||◌, ℕ, not, nat_lt, IfOk, IsTrue, ◌↔◌, map, length};
 ghost use Rattle.std.specs.List.{list_any};
 ghost use Rattle.herm_model.specs.Types as types;
 ghost use Rattle.herm_types.specs.Table.{says};
@@ -8,6 +8,7 @@ ghost use Rattle.herm_types.specs.Chosen.{lists};
 ghost use Rattle.herm_meaning.specs.Meaning.{type_names, exception_names, outline};
 ghost use Rattle.herm_defs.specs.Seen.{item_seen};
 ghost use Rattle.herm_defs.specs.Few.{AreFew};
+ghost use Rattle.herm_defs.specs.Links.{composed_types};
 
 use crate::cycles::{cycles_of, meeting};
 use crate::depth::{path_counts, within_depth};
@@ -218,6 +219,8 @@ fn copyable_of(
     composed: &[Vec<u32>],
 ) -> Result<Vec<bool>, AllocError>
     requires few { length composed.now < 2 ^ 32 }
+    requires composed { lists composed.now ≡ map composed_types (map shape_view shapes.now) }
+    ensures { IfOk result (λ v. (t : ℕ) → IsTrue (says v.items t) ↔ types.IsCopyable (map shape_view shapes.now) t) }
 {
     let may = may_copy(alloc, shapes)?;
     let copyable = reached(alloc, Rule::AllOf, may.as_slice(), composed)?;
