@@ -1,0 +1,2 @@
+-- What definitions modules mean, and where they are faulty.
+pub mod Names

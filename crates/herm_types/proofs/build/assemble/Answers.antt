@@ -1,0 +1,14 @@
+use Rattle.std.proofs.Common.{ap, ◌∙◌, length, List, subst}
+use Rattle.herm_model.specs.Types.{greatest_depth}
+use Rattle.herm_types.specs.declared.shape.Shape.{Shape}
+use Rattle.herm_types.specs.Table.{SayCopyable, shapes_view}
+use Rattle.herm_types.proofs.build.assemble.Goals as goal
+
+pub invariant_of-result : goal.invariant_of-result
+invariant_of-result c = record {
+  well_named = c.requires.well_named;
+  few = c.requires.few;
+  tested = c.in_ok-copyable.ensures.each ∙ ap length c.as_slice.ensures.value;
+  indexed = c.in_ok-index.ensures ∙ c.as_slice-2.ensures.value;
+  copyable = subst (λ (shapes : List Shape). SayCopyable greatest_depth (shapes_view shapes) c.in_ok-copyable.copyable.items) c.as_slice.ensures.value c.in_ok-copyable.ensures.says;
+}

@@ -1,0 +1,3 @@
+-- How contracts see the types of the code.
+pub mod View
+pub mod Table

@@ -1,0 +1,44 @@
+-- What a table of types of the code stands for, and what it keeps.
+use Rattle.std.specs.Prelude.{ℕ, List, [], ◌∷◌, map, Bool, true, false, slice_get, Some, ◌≡◌, ◌↔◌, ◌&&◌, ◌||◌, IsTrue, length, ◌<◌, ◌^◌}
+use Rattle.herm_model.specs.Types as types
+use Rattle.herm_model.specs.Lists.{with_some, every}
+use Rattle.herm_syntax.specs.Trees.{Letters}
+use Rattle.herm_meaning.specs.Names.{NamedTable, behind_predefined, IsWellNamed}
+use Rattle.herm_types.specs.declared.shape.Shape.{Shape}
+use Rattle.herm_types.specs.declared.table.TypeTable.TheInside.{Inside}
+use Rattle.herm_types.specs.View.{shape_view, parts_view}
+
+-- the shapes of the model
+abbrev pub shapes_view : List Shape → types.TypeTable
+shapes_view shapes = map shape_view shapes
+
+-- the table with these names of types, shapes and names of exceptions
+abbrev pub table_of : List Letters → List Shape → List Letters → NamedTable
+table_of names shapes exceptions = record { names = names; shapes = map shape_view shapes; parts = map parts_view shapes; exceptions = exceptions }
+
+-- the table with the predefined types and exceptions and then these
+abbrev pub defined_table : List (Letters × Shape) → List Letters → NamedTable
+defined_table defined exceptions = behind_predefined (table_of (map (λ d. d.0) defined) (map (λ d. d.1) defined) exceptions)
+
+abbrev pub table_view : Inside → NamedTable
+table_view a = table_of a.names.items a.shapes.items a.exceptions.items
+
+-- what a list of tests says of a type
+abbrev pub says : List Bool → ℕ → Bool
+says tests t = with_some false (λ b. b) (slice_get tests t)
+
+-- whether a type of this shape is copyable where the tests say it of the types that it names
+abbrev pub copies : List Bool → types.Shape → Bool
+copies tests s = types.is_plain s || (types.is_composed s && every (says tests) (types.named_types s))
+
+-- the tests say which types are copyable within so many types on the way
+abbrev pub SayCopyable : ℕ → types.TypeTable → List Bool → Type 0
+SayCopyable n table tests = (t : ℕ) → says tests t ≡ types.is_copyable_within n table t
+
+-- A table is well formed, its names are found by their bytes, and its tests say which types are copyable.
+pub record IsKept (a : Inside) : Type 0 where
+  pub well_named : IsWellNamed (table_view a)
+  pub few : length a.names.items < 2 ^ 32
+  pub tested : length a.copyable.items ≡ length a.shapes.items
+  pub indexed : map (λ k. k.items) a.index.keys ≡ a.names.items
+  pub copyable : SayCopyable types.greatest_depth (shapes_view a.shapes.items) a.copyable.items

@@ -1,0 +1,14 @@
+//! The types of a program by number, and the facts of their values.
+#![tactic(auto)]
+
+mod build;
+mod copyable;
+mod copying;
+mod fact;
+mod predefined;
+mod shape;
+mod table;
+
+pub use fact::{DeclFact, Fact, Path};
+pub use shape::{Mode, Param, Part, RaiseDecl, Shape};
+pub use table::TypeTable;
