@@ -5,12 +5,12 @@ use Rattle.std.specs.Str.{bytes_eq}
 use Rattle.std.specs.List.{flat_map, AllByRecursion, IsDistinct}
 use Rattle.std.proofs.lemmas.List.Sums.{position_or_len_is}
 use Rattle.std.proofs.lemmas.Bool.{lt-ltb}
-use Rattle.herm_lexer.specs.declared.token.Token.{Token}
-use Rattle.herm_lexer.specs.declared.token.TokenKind.{TokenKind}
-use Rattle.herm_lexer.specs.declared.token.TokenKind.TheVariants.{Key, Ident, Text, Sign}
-use Rattle.herm_lexer.specs.declared.keyword.Keyword.TheVariants.{KwSend, KwDiscard}
-use Rattle.herm_lexer.specs.declared.sign.Mark.{Mark}
-use Rattle.herm_lexer.specs.declared.sign.Mark.TheVariants.{BraceClose, Comma, Semicolon, Colon, Becomes}
+use Rattle.herm_alphabet.specs.declared.token.Token.{Token}
+use Rattle.herm_alphabet.specs.declared.token.TokenKind.{TokenKind}
+use Rattle.herm_alphabet.specs.declared.token.TokenKind.TheVariants.{Key, Ident, Text, Sign}
+use Rattle.herm_alphabet.specs.declared.keyword.Keyword.TheVariants.{KwSend, KwDiscard}
+use Rattle.herm_alphabet.specs.declared.sign.Mark.{Mark}
+use Rattle.herm_alphabet.specs.declared.sign.Mark.TheVariants.{BraceClose, Comma, Semicolon, Colon, Becomes}
 use Rattle.herm_compile.specs.Form.{declaration, becoming, to_console, name_of, line_tokens, kinds}
 use Rattle.herm_compile.specs.Reading.{Takes, number_of, set_at, send_at, discard_at, line_at, declaration_at, first_is, is_token, IsNumbered, AreNames, ReadLines}
 use Rattle.herm_compile.specs.declared.compiled.Line.{Line}

@@ -12,9 +12,9 @@ use Rattle.herm_compile.proofs.CheckLaws.{drop_end}
 use Rattle.herm_compile.proofs.TokenFacts.{StandsWithin, tokens_within}
 use Rattle.herm_compile.specs.declared.places.Place.{Place}
 use Rattle.herm_lexer.specs.Spelling.{HasTokens}
-use Rattle.herm_lexer.specs.declared.token.Token.{Token}
-use Rattle.herm_lexer.specs.declared.token.TokenKind.TheVariants.{Sign}
-use Rattle.herm_lexer.specs.declared.sign.Mark.TheVariants.{Semicolon}
+use Rattle.herm_alphabet.specs.declared.token.Token.{Token}
+use Rattle.herm_alphabet.specs.declared.token.TokenKind.TheVariants.{Sign}
+use Rattle.herm_alphabet.specs.declared.sign.Mark.TheVariants.{Semicolon}
 use Rattle.herm_compile.specs.declared.compiled.Line.{Line}
 
 declarations_len : (names : List (List ℕ)) → length (flat_map declaration names) ≡ 4 * length names

@@ -12,11 +12,11 @@ use Rattle.herm_compile.specs.declared.check.Gap.{Gap}
 use Rattle.herm_compile.specs.declared.fault.Fault.{Fault}
 use Rattle.herm_compile.proofs.StraightLaws.{gaps_are_missing, steps_of_read}
 use Rattle.herm_lexer.specs.Spelling.{HasTokens}
-use Rattle.herm_lexer.specs.declared.token.Token.{Token}
-use Rattle.herm_lexer.specs.declared.token.TokenKind.{TokenKind}
-use Rattle.herm_lexer.specs.declared.token.TokenKind.TheVariants.{Sign}
-use Rattle.herm_lexer.specs.declared.sign.Mark.{Mark}
-use Rattle.herm_lexer.specs.declared.sign.Mark.TheVariants.{BraceClose, Semicolon}
+use Rattle.herm_alphabet.specs.declared.token.Token.{Token}
+use Rattle.herm_alphabet.specs.declared.token.TokenKind.{TokenKind}
+use Rattle.herm_alphabet.specs.declared.token.TokenKind.TheVariants.{Sign}
+use Rattle.herm_alphabet.specs.declared.sign.Mark.{Mark}
+use Rattle.herm_alphabet.specs.declared.sign.Mark.TheVariants.{BraceClose, Semicolon}
 use Rattle.herm_lexer.proofs.FileLaws.{one_token_list}
 use Rattle.herm_compile.specs.Form.{head, program_tokens, declaration, receiving, line_tokens, kinds, IsLine, IsBody, IsProgram, IsOfForm, IsFormBy}
 use Rattle.herm_compile.specs.Reading.{strip, Takes, first_is, IsPhrase, IsNumbered, IsRead, AreNames, ReadLines, up_to_lines, lines_and_brace}

@@ -7,15 +7,15 @@ use Rattle.std.proofs.lemmas.List.{map-append}
 use Rattle.std.proofs.lemmas.Grind.{flat_map-append}
 use Rattle.std.proofs.lemmas.List.Quantifiers.{position-Some}
 use Rattle.std.proofs.lemmas.Slice.Eq.{bytes_eq-Decides}
-use Rattle.herm_lexer.specs.Letters.{letters, characters}
+use Rattle.herm_alphabet.specs.Letters.{letters, characters}
 use Rattle.herm_lexer.specs.Spelling.{HasTokens}
-use Rattle.herm_lexer.specs.declared.token.Token.{Token}
-use Rattle.herm_lexer.specs.declared.token.TokenKind.{TokenKind}
-use Rattle.herm_lexer.specs.declared.token.TokenKind.TheVariants.{Key, Ident, Int, Text, Sign}
-use Rattle.herm_lexer.specs.declared.keyword.Keyword.{Keyword}
-use Rattle.herm_lexer.specs.declared.keyword.Keyword.TheVariants.{KwSend, KwDiscard}
-use Rattle.herm_lexer.specs.declared.sign.Mark.{Mark}
-use Rattle.herm_lexer.specs.declared.sign.Mark.TheVariants.{Comma, Semicolon, Colon, Becomes}
+use Rattle.herm_alphabet.specs.declared.token.Token.{Token}
+use Rattle.herm_alphabet.specs.declared.token.TokenKind.{TokenKind}
+use Rattle.herm_alphabet.specs.declared.token.TokenKind.TheVariants.{Key, Ident, Int, Text, Sign}
+use Rattle.herm_alphabet.specs.declared.keyword.Keyword.{Keyword}
+use Rattle.herm_alphabet.specs.declared.keyword.Keyword.TheVariants.{KwSend, KwDiscard}
+use Rattle.herm_alphabet.specs.declared.sign.Mark.{Mark}
+use Rattle.herm_alphabet.specs.declared.sign.Mark.TheVariants.{Comma, Semicolon, Colon, Becomes}
 use Rattle.herm_compile.specs.Form.{head, program_tokens, declaration, becoming, receiving, to_console, name_of, line_tokens, kinds, IsLine, IsFree, IsBody, IsProgram}
 use Rattle.herm_compile.specs.Reading.{◌>>=◌, is_token, IsPhrase, strip, Takes, name_in, name_first, text_in, text_first, first_is, number_of, set_at, send_at, discard_at, line_at, declaration_at, IsNumbered, IsRead}
 use Rattle.herm_compile.specs.declared.compiled.Line.{Line}

@@ -1,7 +1,7 @@
 -- Phrases at the front of tokens.
 use Rattle.std.proofs.Common.{◌≡◌, ◌<◌, List, [], ◌∷◌, length, None, refl, arith}
 use Rattle.herm_compile.specs.Reading.{phrase_tokens, strip}
-use Rattle.herm_lexer.specs.declared.token.Token.{Token}
+use Rattle.herm_alphabet.specs.declared.token.Token.{Token}
 use Rattle.herm_compile.specs.declared.phrase.Piece.{Piece}
 
 -- no phrase stands where no token is left

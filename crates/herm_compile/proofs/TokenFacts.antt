@@ -7,23 +7,24 @@ use Rattle.std.proofs.lemmas.Bool.Decides.{nat_tests}
 use Rattle.std.proofs.lemmas.List.{length-append, length-take}
 use Rattle.herm_model.specs.Lists.{every}
 use Rattle.herm_model.specs.Typed.{is_text, is_text_byte}
-use Rattle.herm_lexer.specs.Letters.{letters, characters}
-use Rattle.herm_lexer.specs.Reading.{keyword_of, sign_at, single_sign}
+use Rattle.herm_alphabet.specs.Letters.{letters, characters}
+use Rattle.herm_alphabet.specs.Letters.{keyword_of}
+use Rattle.herm_lexer.specs.Reading.{sign_at, single_sign}
 use Rattle.herm_lexer.specs.Spelling.{Spells, SpellsPiece, IsWithinLimit, IsPieceWithinLimit, is_content, Part, AreParts, token_at, tokens_of, HasTokens}
 use Rattle.herm_lexer.specs.Faults.{FaultAt, HasFault, kept}
 use Rattle.herm_lexer.specs.Laws.{AreRising}
 use Rattle.herm_lexer.specs.declared.piece.Piece.{Piece}
 use Rattle.herm_lexer.specs.declared.piece.Piece.TheVariants.{Blank, Comment, Token as Lexeme}
 use Rattle.herm_lexer.specs.declared.piece.Stop.{Stop}
-use Rattle.herm_lexer.specs.declared.token.Token.{Token}
-use Rattle.herm_lexer.specs.declared.token.TokenKind.{TokenKind}
-use Rattle.herm_lexer.specs.declared.token.TokenKind.TheVariants.{Text, Sign}
-use Rattle.herm_lexer.specs.declared.keyword.Keyword.{Keyword}
-use Rattle.herm_lexer.specs.declared.sign.Mark.{Mark}
-use Rattle.herm_lexer.specs.declared.sign.Mark.TheVariants.{ParenOpen}
+use Rattle.herm_alphabet.specs.declared.token.Token.{Token}
+use Rattle.herm_alphabet.specs.declared.token.TokenKind.{TokenKind}
+use Rattle.herm_alphabet.specs.declared.token.TokenKind.TheVariants.{Text, Sign}
+use Rattle.herm_alphabet.specs.declared.keyword.Keyword.{Keyword}
+use Rattle.herm_alphabet.specs.declared.sign.Mark.{Mark}
+use Rattle.herm_alphabet.specs.declared.sign.Mark.TheVariants.{ParenOpen}
 use Rattle.herm_lexer.specs.declared.fault.LexFault.{LexFault}
 use Rattle.herm_lexer.specs.declared.fault.LexFault.TheVariants as lexical
-use Rattle.herm_lexer.proofs.Names.{keyword_of-letters}
+use Rattle.herm_alphabet.proofs.Keywords.{keyword_of-letters}
 use Rattle.herm_lexer.proofs.Files.{ReadTo-le}
 use Rattle.herm_lexer.proofs.FileLaws.{tokens_spell_file}
 use Rattle.herm_compile.specs.Form.{kinds}

@@ -3,11 +3,11 @@ use Rattle.std.specs.Prelude.{◌≡◌, ◌<◌, ◌≤◌, ℕ, Bool, false, I
 use Rattle.std.specs.List.{flat_map, list_any, AllByRecursion, IsDistinct}
 use Rattle.std.specs.Str.{bytes_eq}
 use Rattle.herm_lexer.specs.Spelling.{HasTokens}
-use Rattle.herm_lexer.specs.declared.token.Token.{Token}
-use Rattle.herm_lexer.specs.declared.token.TokenKind.{TokenKind}
-use Rattle.herm_lexer.specs.declared.token.TokenKind.TheVariants.{Key, Ident, Text, Sign}
-use Rattle.herm_lexer.specs.declared.keyword.Keyword.TheVariants.{KwProcess, KwVar, KwReceive, KwFrom, KwSend, KwTo, KwOut, KwDiscard}
-use Rattle.herm_lexer.specs.declared.sign.Mark.TheVariants.{ParenOpen, ParenClose, BraceOpen, BraceClose, Comma, Semicolon, Colon, Becomes, Dot}
+use Rattle.herm_alphabet.specs.declared.token.Token.{Token}
+use Rattle.herm_alphabet.specs.declared.token.TokenKind.{TokenKind}
+use Rattle.herm_alphabet.specs.declared.token.TokenKind.TheVariants.{Key, Ident, Text, Sign}
+use Rattle.herm_alphabet.specs.declared.keyword.Keyword.TheVariants.{KwProcess, KwVar, KwReceive, KwFrom, KwSend, KwTo, KwOut, KwDiscard}
+use Rattle.herm_alphabet.specs.declared.sign.Mark.TheVariants.{ParenOpen, ParenClose, BraceOpen, BraceClose, Comma, Semicolon, Colon, Becomes, Dot}
 use Rattle.herm_model.specs.Typed.{is_text}
 use Rattle.herm_compile.specs.declared.compiled.Line.{Line}
 use Rattle.herm_compile.specs.declared.compiled.Line.TheVariants.{Receive, Set, Send, Discard}

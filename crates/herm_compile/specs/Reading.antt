@@ -2,12 +2,12 @@
 use Rattle.std.specs.Prelude.{◌≡◌, ◌<◌, ℕ, Bool, false, if◌then◌else◌, Option, Some, None, List, [], ◌∷◌, ◌++◌, map, codes, length}
 use Rattle.std.specs.List.{position, flat_map, AllByRecursion, IsDistinct}
 use Rattle.std.specs.Str.{bytes_eq}
-use Rattle.herm_lexer.specs.Letters.{letters, characters}
-use Rattle.herm_lexer.specs.declared.token.Token.{Token}
-use Rattle.herm_lexer.specs.declared.token.TokenKind.{TokenKind}
-use Rattle.herm_lexer.specs.declared.token.TokenKind.TheVariants.{Key, Ident, Int, Text, Sign}
-use Rattle.herm_lexer.specs.declared.keyword.Keyword.TheVariants.{KwSend, KwDiscard}
-use Rattle.herm_lexer.specs.declared.sign.Mark.TheVariants.{BraceClose, Comma, Semicolon, Colon, Becomes}
+use Rattle.herm_alphabet.specs.Letters.{letters, characters}
+use Rattle.herm_alphabet.specs.declared.token.Token.{Token}
+use Rattle.herm_alphabet.specs.declared.token.TokenKind.{TokenKind}
+use Rattle.herm_alphabet.specs.declared.token.TokenKind.TheVariants.{Key, Ident, Int, Text, Sign}
+use Rattle.herm_alphabet.specs.declared.keyword.Keyword.TheVariants.{KwSend, KwDiscard}
+use Rattle.herm_alphabet.specs.declared.sign.Mark.TheVariants.{BraceClose, Comma, Semicolon, Colon, Becomes}
 use Rattle.herm_compile.specs.Form.{head, declaration, to_console, kinds, line_tokens, IsFree}
 use Rattle.herm_compile.specs.declared.phrase.Piece.{Piece}
 use Rattle.herm_compile.specs.declared.phrase.Piece.TheVariants as piece

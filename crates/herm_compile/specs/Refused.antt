@@ -9,7 +9,7 @@ use Rattle.herm_model.specs.Control as control
 use Rattle.herm_model.specs.Refusals.{Refusal, IsMissing}
 use Rattle.herm_lexer.specs.Spelling.{HasTokens}
 use Rattle.herm_lexer.specs.Faults.{HasFault}
-use Rattle.herm_lexer.specs.declared.token.Token.{Token}
+use Rattle.herm_alphabet.specs.declared.token.Token.{Token}
 use Rattle.herm_lexer.specs.declared.fault.LexFault.{LexFault}
 use Rattle.herm_lexer.specs.declared.fault.LexFault.TheVariants as lexical
 use Rattle.herm_compile.specs.Front.{front}

@@ -4,9 +4,9 @@ ghost use Rattle.herm_compile.specs.Gives.{Gives};
 ghost use Rattle.herm_compile.specs.Reading.{number_of, set_at, send_at, discard_at, line_at, declaration_at, Takes, IsNumbered, AreNames, ReadLines, first_is};
 ghost use Rattle.herm_compile.specs.Form.{declaration, line_tokens, kinds};
 ghost use Rattle.std.specs.List.{flat_map, AllByRecursion};
-ghost use Rattle.herm_lexer.specs.declared.token.TokenKind.{TokenKind};
-ghost use Rattle.herm_lexer.specs.declared.token.TokenKind.TheVariants.{Sign};
-ghost use Rattle.herm_lexer.specs.declared.sign.Mark.TheVariants.{Semicolon, BraceClose};
+ghost use Rattle.herm_alphabet.specs.declared.token.TokenKind.{TokenKind};
+ghost use Rattle.herm_alphabet.specs.declared.token.TokenKind.TheVariants.{Sign};
+ghost use Rattle.herm_alphabet.specs.declared.sign.Mark.TheVariants.{Semicolon, BraceClose};
 ghost use Rattle.herm_compile.specs.declared.stop.Stop.TheVariants.{NotBuilt};
 ghost use Rattle.herm_compile.specs.declared.compiled.Line.{Line};
 

@@ -4,7 +4,7 @@ ghost use Rattle.std.specs.List.{flat_map};
 ghost use Rattle.herm_compile.specs.Form.{program_tokens, IsProgram, kinds};
 ghost use Rattle.herm_compile.specs.Reading.{Takes, IsRead, AreNames, up_to_lines, lines_and_brace};
 ghost use Rattle.herm_compile.specs.declared.compiled.Line.{Line};
-ghost use Rattle.herm_lexer.specs.declared.token.TokenKind.{TokenKind};
+ghost use Rattle.herm_alphabet.specs.declared.token.TokenKind.{TokenKind};
 ghost use Rattle.herm_compile.specs.declared.stop.Stop.TheVariants.{NotBuilt};
 
 use crate::compiled::{Compiled, Line};

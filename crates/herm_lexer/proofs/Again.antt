@@ -3,7 +3,7 @@ use Rattle.std.proofs.Common.{◌≡◌, ℕ, ◌+◌, ◌<◌, ◌⊎◌, inl, 
 use Rattle.std.specs.Prelude.{pos, negsuc}
 use Rattle.std.proofs.lemmas.List.{length-append}
 use Rattle.herm_lexer.specs.Bytes.{is_blank, is_allowed, is_line_byte}
-use Rattle.herm_lexer.specs.Letters.{letters, characters}
+use Rattle.herm_alphabet.specs.Letters.{letters, characters}
 use Rattle.herm_lexer.specs.Runs.{Stops}
 use Rattle.herm_lexer.specs.Spelling.{Spells, SpellsPiece, IsPieceWithinLimit, IsWithinLimit, Ends}
 use Rattle.herm_lexer.specs.Faults.{IsOpenString, HasStrayByte, BeginsNoToken, FaultAt}
@@ -15,10 +15,10 @@ use Rattle.herm_lexer.specs.declared.piece.Stop.{Stop}
 use Rattle.herm_lexer.specs.declared.piece.Stop.TheVariants as stops
 use Rattle.herm_lexer.specs.declared.fault.LexFault.{LexFault}
 use Rattle.herm_lexer.specs.declared.fault.LexFault.TheVariants as faults
-use Rattle.herm_lexer.specs.declared.token.TokenKind.{TokenKind}
-use Rattle.herm_lexer.specs.declared.token.TokenKind.TheVariants.{Key, Ident, Int, Text, Sign}
-use Rattle.herm_lexer.specs.declared.sign.Mark.{Mark}
-use Rattle.herm_lexer.specs.declared.sign.Mark.TheVariants.{ParenOpen, Colon, Less, Greater, Minus}
+use Rattle.herm_alphabet.specs.declared.token.TokenKind.{TokenKind}
+use Rattle.herm_alphabet.specs.declared.token.TokenKind.TheVariants.{Key, Ident, Int, Text, Sign}
+use Rattle.herm_alphabet.specs.declared.sign.Mark.{Mark}
+use Rattle.herm_alphabet.specs.declared.sign.Mark.TheVariants.{ParenOpen, Colon, Less, Greater, Minus}
 use Rattle.herm_lexer.proofs.Explained.{Explains, IsNoToken}
 use Rattle.herm_lexer.proofs.ByteFacts.{stray_no_blank, stray_no_letter, stray_no_digit, stray_not}
 use Rattle.herm_lexer.proofs.Choices.{or_false, false_not_true}

@@ -12,9 +12,9 @@ use Rattle.herm_lexer.specs.declared.piece.Piece.TheVariants.{Blank, Comment, To
 use Rattle.herm_lexer.specs.declared.piece.Stop.{Stop}
 use Rattle.herm_lexer.specs.declared.fault.LexFault.{LexFault}
 use Rattle.herm_lexer.specs.declared.fault.LexFault.TheVariants as faults
-use Rattle.herm_lexer.specs.declared.token.Token.{Token}
-use Rattle.herm_lexer.specs.declared.token.TokenKind.{TokenKind}
-use Rattle.herm_lexer.specs.declared.token.TokenKind.TheVariants.{Key, Ident, Int, Text, Sign}
+use Rattle.herm_alphabet.specs.declared.token.Token.{Token}
+use Rattle.herm_alphabet.specs.declared.token.TokenKind.{TokenKind}
+use Rattle.herm_alphabet.specs.declared.token.TokenKind.TheVariants.{Key, Ident, Int, Text, Sign}
 use Rattle.herm_lexer.proofs.Explained.{Explains}
 use Rattle.herm_lexer.proofs.Pieces.{explained}
 use Rattle.herm_lexer.proofs.Again.{piece_some, fault_again, fault_some}

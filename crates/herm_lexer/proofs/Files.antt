@@ -9,7 +9,7 @@ use Rattle.herm_lexer.specs.declared.piece.Stop.{Stop}
 use Rattle.herm_lexer.specs.declared.piece.Stop.TheVariants as stops
 use Rattle.herm_lexer.specs.declared.fault.LexFault.{LexFault}
 use Rattle.herm_lexer.specs.declared.fault.LexFault.TheVariants as faults
-use Rattle.herm_lexer.specs.declared.token.Token.{Token}
+use Rattle.herm_alphabet.specs.declared.token.Token.{Token}
 use Rattle.herm_lexer.proofs.Explained.{Explains, Found}
 use Rattle.herm_lexer.proofs.Pieces.{explained}
 use Rattle.herm_lexer.proofs.Again.{part_again, piece_some}

@@ -21,7 +21,7 @@ use Rattle.herm_lexer.specs.declared.piece.Piece.{Piece}
 use Rattle.herm_lexer.specs.declared.piece.Piece.TheVariants.{Token as Lexeme}
 use Rattle.herm_lexer.specs.declared.piece.Stop.{Stop}
 use Rattle.herm_lexer.specs.declared.piece.Stop.TheVariants as stops
-use Rattle.herm_lexer.specs.declared.token.TokenKind.TheVariants.{Int}
+use Rattle.herm_alphabet.specs.declared.token.TokenKind.TheVariants.{Int}
 use Rattle.herm_lexer.proofs.Explained.{Explains}
 use Rattle.herm_lexer.proofs.ByteFacts.{digit_no_blank, digit_no_letter, no_name_byte_no_digit}
 use Rattle.herm_lexer.proofs.Choices.{by_test, and_true, or_true, or_false, or_right, is_n}

@@ -5,18 +5,19 @@ use Rattle.std.specs.List.{AllByRecursion, flat_map}
 use Rattle.std.specs.Char.{is_ascii_alphabetic, is_ascii_digit}
 use Rattle.std.proofs.lemmas.List.{length-append}
 use Rattle.herm_lexer.specs.Bytes.{is_blank, is_line_byte, is_name_byte}
-use Rattle.herm_lexer.specs.Letters.{characters}
+use Rattle.herm_alphabet.specs.Letters.{characters}
 use Rattle.herm_lexer.specs.Runs.{Goes, Stops, run_length}
 use Rattle.herm_lexer.specs.Spelling.{IsName, Spells, SpellsPiece, Ends, escaped, is_content, piece_goes_on, sign_goes_on}
-use Rattle.herm_lexer.specs.Reading.{double_sign, keyword_of, kind_of}
+use Rattle.herm_alphabet.specs.Letters.{keyword_of}
+use Rattle.herm_lexer.specs.Reading.{double_sign, kind_of}
 use Rattle.herm_lexer.specs.Laws.{IsLongest, IsApart, PiecesAreLongest}
 use Rattle.herm_lexer.specs.declared.run.Run.TheVariants.{Name, Digits, Line, Inside}
 use Rattle.herm_lexer.specs.declared.piece.Piece.{Piece}
 use Rattle.herm_lexer.specs.declared.piece.Piece.TheVariants.{Blank, Comment, Token as Lexeme}
-use Rattle.herm_lexer.specs.declared.token.TokenKind.{TokenKind}
-use Rattle.herm_lexer.specs.declared.token.TokenKind.TheVariants.{Key, Ident, Int, Text, Sign}
-use Rattle.herm_lexer.specs.declared.sign.Mark.{Mark}
-use Rattle.herm_lexer.specs.declared.sign.Mark.TheVariants.{Colon, Becomes, NotEqual, Less, LessEqual, Greater, GreaterEqual, Minus}
+use Rattle.herm_alphabet.specs.declared.token.TokenKind.{TokenKind}
+use Rattle.herm_alphabet.specs.declared.token.TokenKind.TheVariants.{Key, Ident, Int, Text, Sign}
+use Rattle.herm_alphabet.specs.declared.sign.Mark.{Mark}
+use Rattle.herm_alphabet.specs.declared.sign.Mark.TheVariants.{Colon, Becomes, NotEqual, Less, LessEqual, Greater, GreaterEqual, Minus}
 use Rattle.herm_lexer.proofs.ByteFacts.{letter_no_blank, digit_no_blank, digit_no_letter}
 use Rattle.herm_lexer.proofs.Choices.{by_test, not_both, or_false, is_n}
 use Rattle.herm_lexer.proofs.RunFacts.{Goes-from_all, run_length-of, run_length-le}

@@ -1,35 +1,31 @@
 -- Keywords and other names.
 use Rattle.std.proofs.Common.{◌≡◌, ◌≢◌, ℕ, suc, ◌<◌, ◌≤◌, Bool, true, false, ◌&&◌, nat_lt, List, [], ◌∷◌, ◌++◌, length, take, Option, Some, None, Ok, Err, refl, sym, ap, subst, ◌∙◌, arith}
-use Rattle.std.specs.Prelude.{IsTrue, IfSome, IfNone, bytes_eq}
-use Rattle.std.specs.List.{find, list_all, AllByRecursion}
+use Rattle.std.specs.Prelude.{IsTrue}
+use Rattle.std.specs.List.{list_all, AllByRecursion}
 use Rattle.std.specs.Char.{is_ascii_alphabetic}
-use Rattle.std.proofs.lemmas.Slice.Eq.{bytes_eq-Decides}
 use Rattle.std.proofs.lemmas.Bool.{le-ltb, lt-ltb, ltb-false, ltb-true}
 use Rattle.std.proofs.lemmas.List.{take_at}
 use Rattle.herm_lexer.specs.Bytes.{is_name_byte}
-use Rattle.herm_lexer.specs.Letters.{letters, keywords}
+use Rattle.herm_alphabet.specs.Letters.{letters}
+use Rattle.herm_alphabet.proofs.Keywords.{keyword_of-letters, keyword_of-some, keyword_of-none}
 use Rattle.herm_lexer.specs.Runs.{Goes, Stops, run_length}
 use Rattle.herm_lexer.specs.Spelling.{IsName, Spells, IsWithinLimit}
-use Rattle.herm_lexer.specs.Reading.{keyword_of, kind_of, name_of, name_at, piece_at}
+use Rattle.herm_alphabet.specs.Letters.{keyword_of}
+use Rattle.herm_lexer.specs.Reading.{kind_of, name_of, name_at, piece_at}
 use Rattle.herm_lexer.specs.declared.run.Run.TheVariants.{Name}
-use Rattle.herm_lexer.specs.declared.keyword.Keyword.{Keyword}
-use Rattle.herm_lexer.specs.declared.keyword.Keyword.TheVariants.{KwAnd}
+use Rattle.herm_alphabet.specs.declared.keyword.Keyword.{Keyword}
+use Rattle.herm_alphabet.specs.declared.keyword.Keyword.TheVariants.{KwAnd}
 use Rattle.herm_lexer.specs.Spelling.{Ends, piece_goes_on}
 use Rattle.herm_lexer.specs.declared.piece.Piece.{Piece}
 use Rattle.herm_lexer.specs.declared.piece.Piece.TheVariants.{Token as Lexeme}
 use Rattle.herm_lexer.specs.declared.piece.Stop.TheVariants as stops
-use Rattle.herm_lexer.specs.declared.token.TokenKind.TheVariants.{Key, Ident}
+use Rattle.herm_alphabet.specs.declared.token.TokenKind.TheVariants.{Key, Ident}
 use Rattle.herm_lexer.proofs.Explained.{Explains}
 use Rattle.herm_lexer.proofs.ByteFacts.{letter_no_blank, letter_name_byte}
 use Rattle.herm_lexer.proofs.Choices.{by_test, and_true}
 use Rattle.herm_lexer.proofs.RunFacts.{IsPlain, Goes-from_all, run_length-of}
 
 -- ---- keywords
-
-pub keyword_of-letters : (k : Keyword) → keyword_of (letters k) ≡ Some k
-unfolding keyword_of
-keyword_of-letters KwAnd = refl
-keyword_of-letters _ = refl
 
 -- whether a text is a name
 abbrev is_name : List ℕ → Bool
@@ -57,33 +53,6 @@ letters_len _ = refl
 
 pub length-letters-le : (k : Keyword) → length (letters k) ≤ 64
 length-letters-le k = ltb-false _ _ (letters_len k)
-
--- what is found passes the test
-found_passes : {X : Type 0} (test : X → Bool) (xs : List X) (x : X) → find test xs ≡ Some x → test x ≡ true
-found_passes test [] x e = absurd cc
-found_passes test (y ∷ ys) x e =
-    let choose : (v : Bool) → test y ≡ v → test x ≡ true =
-    λ v. elim v as (λ v. test y ≡ v → test x ≡ true) [
-      | true ↦ λ h. let same : Some y ≡ Some x = rw h at e in let is : y ≡ x = cc in ap test (sym is) ∙ h
-      | false ↦ λ h. found_passes test ys x (rw h at e)
-    ]
-    in
-    choose (test y) refl
-
-pub keyword_of-some : (text : List ℕ) (k : Keyword) → keyword_of text ≡ Some k → text ≡ letters k
-unfolding keyword_of
-keyword_of-some text k e = sym ((bytes_eq-Decides (letters k) text).0 (found_passes (λ k. bytes_eq (letters k) text) keywords k e))
-
-pub keyword_of-none : (text : List ℕ) (k : Keyword) → keyword_of text ≡ None → text ≢ letters k
-keyword_of-none text k e same = let found : keyword_of text ≡ Some k = ap keyword_of same ∙ keyword_of-letters k in cc
-
-pub found_letters : (text : List ℕ) (found : Option Keyword) → found ≡ keyword_of text → IfSome found (λ k. text ≡ letters k)
-found_letters text (Some k) e = keyword_of-some text k (sym e)
-found_letters text None e = tt
-
-pub no_letters : (text : List ℕ) (found : Option Keyword) → found ≡ keyword_of text → IfNone found ((k : Keyword) → text ≢ letters k)
-no_letters text (Some k) e = tt
-no_letters text None e = λ k. keyword_of-none text k (sym e)
 
 -- ---- names
 

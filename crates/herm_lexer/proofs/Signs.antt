@@ -6,15 +6,15 @@ use Rattle.std.specs.Char.{is_ascii_alphabetic, is_ascii_digit}
 use Rattle.std.proofs.lemmas.Bool.Decides.{nat_tests}
 use Rattle.herm_base.specs.Decimal.{IsDecimalText}
 use Rattle.herm_lexer.specs.Bytes.{is_blank, is_allowed}
-use Rattle.herm_lexer.specs.Letters.{letters, characters}
+use Rattle.herm_alphabet.specs.Letters.{letters, characters}
 use Rattle.herm_lexer.specs.Spelling.{IsName, Spells, Ends, sign_goes_on}
 use Rattle.herm_lexer.specs.Reading.{single_sign, single_signs, sign_among, single_of, sign_of, sign_at, piece_at}
 use Rattle.herm_lexer.specs.declared.piece.Piece.TheVariants.{Token as Lexeme}
 use Rattle.herm_lexer.specs.declared.piece.Stop.TheVariants as stops
-use Rattle.herm_lexer.specs.declared.token.TokenKind.{TokenKind}
-use Rattle.herm_lexer.specs.declared.token.TokenKind.TheVariants.{Key, Ident, Int, Text, Sign}
-use Rattle.herm_lexer.specs.declared.sign.Mark.{Mark}
-use Rattle.herm_lexer.specs.declared.sign.Mark.TheVariants.{ParenOpen, ParenClose, BraceOpen, BraceClose, BracketOpen, BracketClose, Comma, Semicolon, Colon, Becomes, Dot, Hash, Equal, NotEqual, Less, LessEqual, Greater, GreaterEqual, Plus, Minus, Star, Ampersand}
+use Rattle.herm_alphabet.specs.declared.token.TokenKind.{TokenKind}
+use Rattle.herm_alphabet.specs.declared.token.TokenKind.TheVariants.{Key, Ident, Int, Text, Sign}
+use Rattle.herm_alphabet.specs.declared.sign.Mark.{Mark}
+use Rattle.herm_alphabet.specs.declared.sign.Mark.TheVariants.{ParenOpen, ParenClose, BraceOpen, BraceClose, BracketOpen, BracketClose, Comma, Semicolon, Colon, Becomes, Dot, Hash, Equal, NotEqual, Less, LessEqual, Greater, GreaterEqual, Plus, Minus, Star, Ampersand}
 use Rattle.herm_lexer.proofs.Explained.{Explains, Found}
 use Rattle.herm_lexer.proofs.Integers.{digits_to}
 use Rattle.herm_lexer.proofs.Names.{letters_IsName}

@@ -16,7 +16,7 @@ use Rattle.herm_lexer.specs.declared.piece.Piece.{Piece}
 use Rattle.herm_lexer.specs.declared.piece.Piece.TheVariants.{Token as Lexeme}
 use Rattle.herm_lexer.specs.declared.piece.Stop.{Stop}
 use Rattle.herm_lexer.specs.declared.piece.Stop.TheVariants as stops
-use Rattle.herm_lexer.specs.declared.token.TokenKind.TheVariants.{Text}
+use Rattle.herm_alphabet.specs.declared.token.TokenKind.TheVariants.{Text}
 use Rattle.herm_lexer.proofs.Explained.{Explains}
 use Rattle.herm_lexer.proofs.ByteFacts.{stray_not, stray_no_line_byte}
 use Rattle.herm_lexer.proofs.Integers.{index_rest}

@@ -6,9 +6,9 @@ use Rattle.herm_lexer.specs.Bytes.{is_blank, is_allowed, is_name_byte}
 use Rattle.herm_lexer.specs.Runs.{Goes, Stops}
 use Rattle.herm_lexer.specs.Spelling.{Spells, IsWithinLimit, Ends, ReadTo}
 use Rattle.herm_lexer.specs.declared.run.Run.TheVariants.{Digits, Inside}
-use Rattle.herm_lexer.specs.declared.token.Token.{Token}
-use Rattle.herm_lexer.specs.declared.token.TokenKind.{TokenKind}
-use Rattle.herm_lexer.specs.declared.token.TokenKind.TheVariants.{Text}
+use Rattle.herm_alphabet.specs.declared.token.Token.{Token}
+use Rattle.herm_alphabet.specs.declared.token.TokenKind.{TokenKind}
+use Rattle.herm_alphabet.specs.declared.token.TokenKind.TheVariants.{Text}
 use Rattle.herm_lexer.specs.declared.piece.Piece.TheVariants.{Token as Lexeme}
 use Rattle.herm_lexer.specs.declared.fault.LexFault.{LexFault}
 use Rattle.herm_lexer.specs.declared.fault.LexFault.TheVariants as faults

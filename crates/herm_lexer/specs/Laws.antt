@@ -5,8 +5,8 @@ use Rattle.herm_lexer.specs.Spelling.{Spells, SpellsPiece, Ends, HasTokens}
 use Rattle.herm_lexer.specs.Faults.{HasFault}
 use Rattle.herm_lexer.specs.declared.piece.Piece.{Piece}
 use Rattle.herm_lexer.specs.declared.piece.Piece.TheVariants.{Blank, Comment, Token as Lexeme}
-use Rattle.herm_lexer.specs.declared.token.TokenKind.TheVariants.{Key, Ident, Int, Text, Sign}
-use Rattle.herm_lexer.specs.declared.token.Token.{Token}
+use Rattle.herm_alphabet.specs.declared.token.TokenKind.TheVariants.{Key, Ident, Int, Text, Sign}
+use Rattle.herm_alphabet.specs.declared.token.Token.{Token}
 use Rattle.herm_lexer.specs.declared.fault.LexFault.{LexFault}
 
 -- a file has one token list

@@ -1,5 +1,4 @@
 pub mod Bytes
-pub mod Letters
 pub mod Runs
 pub mod Spelling
 pub mod Faults

@@ -5,13 +5,13 @@ use Rattle.std.specs.Char.{is_ascii_alphabetic}
 use Rattle.std.specs.Int.{is_in_range}
 use Rattle.herm_base.specs.Decimal.{IsDecimalText}
 use Rattle.herm_lexer.specs.Bytes.{is_blank, is_line_byte, is_name_byte}
-use Rattle.herm_lexer.specs.Letters.{letters, characters}
-use Rattle.herm_lexer.specs.declared.token.Token.{Token}
-use Rattle.herm_lexer.specs.declared.token.TokenKind.{TokenKind}
-use Rattle.herm_lexer.specs.declared.token.TokenKind.TheVariants.{Key, Ident, Int, Text, Sign}
-use Rattle.herm_lexer.specs.declared.keyword.Keyword.{Keyword}
-use Rattle.herm_lexer.specs.declared.sign.Mark.{Mark}
-use Rattle.herm_lexer.specs.declared.sign.Mark.TheVariants as marks
+use Rattle.herm_alphabet.specs.Letters.{letters, characters}
+use Rattle.herm_alphabet.specs.declared.token.Token.{Token}
+use Rattle.herm_alphabet.specs.declared.token.TokenKind.{TokenKind}
+use Rattle.herm_alphabet.specs.declared.token.TokenKind.TheVariants.{Key, Ident, Int, Text, Sign}
+use Rattle.herm_alphabet.specs.declared.keyword.Keyword.{Keyword}
+use Rattle.herm_alphabet.specs.declared.sign.Mark.{Mark}
+use Rattle.herm_alphabet.specs.declared.sign.Mark.TheVariants as marks
 use Rattle.herm_lexer.specs.declared.piece.Piece.{Piece}
 use Rattle.herm_lexer.specs.declared.piece.Piece.TheVariants.{Blank, Comment, Token as Lexeme}
 

@@ -9,7 +9,7 @@ ghost use Rattle.herm_lexer.specs.declared.fault.LexFault.TheVariants.{Memory};
 use crate::bytes::bytes_from;
 use crate::fault::LexFault;
 use crate::piece::{Piece, Stop, read_piece};
-use crate::token::Token;
+use herm_alphabet::Token;
 use herm_base::Span;
 use std::alloc::Global;
 

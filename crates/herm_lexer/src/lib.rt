@@ -3,7 +3,6 @@
 
 mod bytes;
 mod fault;
-mod keyword;
 mod laws;
 mod lexer;
 mod name;
@@ -12,17 +11,14 @@ mod piece;
 mod run;
 mod sign;
 mod string;
-mod token;
 
 pub use fault::LexFault;
-pub use keyword::Keyword;
+pub use herm_alphabet::{Keyword, Mark, Token, TokenKind};
 pub use laws::{
     one_fault, one_token_list, pieces_are_longest, tokens_else_fault, tokens_or_fault,
     tokens_spell_file,
 };
 pub use lexer::lex;
-pub use sign::Mark;
-pub use token::{Token, TokenKind};
 
 #[cfg(test)]
 mod tests;

@@ -2,10 +2,9 @@
 ghost use Rattle.std.specs.Prelude.{◌≡◌};
 ghost use Rattle.herm_lexer.specs.Reading.{Gives, name_at};
 
-use crate::keyword::Keyword;
 use crate::piece::{Piece, Stop};
 use crate::run::{Run, run_length};
-use crate::token::TokenKind;
+use herm_alphabet::{Keyword, TokenKind};
 use herm_base::Word;
 use std::alloc::Global;
 

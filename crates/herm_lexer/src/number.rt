@@ -5,7 +5,7 @@ ghost use Rattle.herm_lexer.specs.Reading.{Gives, number_at, integer, value_afte
 use crate::bytes::{byte_at, is_name_byte};
 use crate::piece::{Piece, Stop};
 use crate::run::{Run, run_length};
-use crate::token::TokenKind;
+use herm_alphabet::TokenKind;
 
 /// The integer at the front, of at most 2^63 - 1.
 #[tactic(auto, unfolding(crate::specs::Reading::number_at))]

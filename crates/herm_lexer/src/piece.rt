@@ -9,7 +9,7 @@ use crate::number::number;
 use crate::run::{Run, run_length};
 use crate::sign::sign;
 use crate::string::string;
-use crate::token::TokenKind;
+use herm_alphabet::TokenKind;
 use std::alloc::{AllocError, AllocFailed, Global};
 
 /// A piece of a file.

@@ -5,7 +5,7 @@ ghost use Rattle.herm_lexer.specs.Reading.{Gives, string_at, text_of_content, co
 
 use crate::piece::{Piece, Stop};
 use crate::run::{Run, run_length};
-use crate::token::TokenKind;
+use herm_alphabet::TokenKind;
 use herm_base::Word;
 use std::alloc::{AllocError, Global};
 

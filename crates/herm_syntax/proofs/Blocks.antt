@@ -9,7 +9,9 @@ use Rattle.herm_readers.specs.Laws.{IsWritten}
 use Rattle.herm_readers.proofs.Simple.{nothing_reads, changed_reads}
 use Rattle.herm_readers.proofs.Lists.{many_reads}
 use Rattle.herm_readers.proofs.Readings.{Reading, nothing_more, turned, both, either_of, separated_end}
-use Rattle.herm_syntax.specs.Symbols.{Symbol, Keyword, is, kw_as, kw_exception, kw_from, kw_in, kw_into, kw_of, kw_receive, kw_to, paren_open, paren_close, brace_open, bracket_open, bracket_close, comma, semicolon, becomes}
+use Rattle.herm_alphabet.specs.declared.keyword.Keyword.TheVariants.{KwCase, KwElse, KwFor, KwIf, KwIn, KwOn, KwReceive, KwSelect, KwTry, KwWhen, KwWhile}
+use Rattle.herm_alphabet.specs.declared.sign.Mark.TheVariants.{ParenClose, BraceOpen, BraceClose, Comma, Semicolon, Becomes}
+use Rattle.herm_syntax.specs.Symbols.{Symbol, Key, is, kw_as, kw_exception, kw_from, kw_in, kw_into, kw_of, kw_receive, kw_to, paren_open, paren_close, brace_open, bracket_open, bracket_close, comma, semicolon, becomes}
 use Rattle.herm_syntax.specs.Trees.{Letters, Path, Integer, Text, Boolean, Tag, Atom, Constant, Place, Expression, Move, Unite, Dissolve, Wrap, Insert, Connect, Send, Receive, New, Discard, Reveal, Remove, Get, Statement, Assign, TwoPaths, OnePath, Keyed, Unwrap, Call, Return, ReturnBy, Create, Raise, Leave, Case, For, Select, If, While, Try, Statements, NoStatement, Further, Arms, NoArm, Arm, PortArms, NoPortArm, PortArm, Otherwise, NoElse, Else}
 use Rattle.herm_syntax.specs.Spelling.{atom, statement, statements, case_arms, port_arms, handlers, otherwise}
 use Rattle.herm_syntax.specs.Fitting.{is_name, path_fits, atom_fits, expression_fits, has_arm, has_port_arm, statement_fits, statements_fit, case_arms_fit, port_arms_fit, handlers_fit, otherwise_fits}
@@ -28,7 +30,7 @@ pub skip : {a b : Bool} → a ≡ true → (a && b) ≡ b
 skip {a} {b} e = ap (λ c. c && b) e
 
 pub atoms_stop : (keys : List Atom) → separated_fits atom_fits keys ≡ true → separated_ends comma (is comma) atom_rule keys (Some bracket_close) ≡ true
-atoms_stop keys f = separated_end comma (is comma) (sign_test 6) atom_rule (Some bracket_close) refl (λ a g. atom_stops a (Some comma) refl refl) (λ a g. atom_stops a (Some bracket_close) refl refl) keys f
+atoms_stop keys f = separated_end comma (is comma) (sign_test Comma) atom_rule (Some bracket_close) refl (λ a g. atom_stops a (Some comma) refl refl) (λ a g. atom_stops a (Some bracket_close) refl refl) keys f
 
 pub atom_leads : (a : Atom) (more : List Symbol) (beyond : Option Symbol) → atom_fits a ≡ true → passes (is paren_close) (ahead (atom a ++ more) beyond) ≡ false
 atom_leads (Constant (Integer n)) more beyond f = refl
@@ -39,8 +41,8 @@ atom_leads (Constant (Tag name value)) more beyond f = refl
 atom_leads (Place []) more beyond f = absurd (cc)
 atom_leads (Place (variable ∷ parts)) more beyond f = refl
 
-pub arguments_stop : (arguments : List Atom) → many_fits atom_fits arguments ≡ true → listed_ends 1 atom_r arguments (Some paren_close) ≡ true
-arguments_stop arguments f = listed_end 1 atom_r refl atom_leads (λ a g. atom_stops a (Some comma) refl refl) (λ a g. atom_stops a (Some paren_close) refl refl) arguments f
+pub arguments_stop : (arguments : List Atom) → many_fits atom_fits arguments ≡ true → listed_ends ParenClose atom_r arguments (Some paren_close) ≡ true
+arguments_stop arguments f = listed_end ParenClose atom_r refl atom_leads (λ a g. atom_stops a (Some comma) refl refl) (λ a g. atom_stops a (Some paren_close) refl refl) arguments f
 
 -- A plain statement.
 pub plain_fits : (levels : ℕ) (x : Plain) → plain_r.rule.fits x ≡ true → statement_fits (plain_of x) levels ≡ true
@@ -108,13 +110,13 @@ module _ (levels : ℕ) (read_e : Reader Symbol Expression) (read_s : Reader Sym
   body_r = record { rule = statements_rule levels; read = read_s; reads = reads_s }
 
   abbrev pub case_arm_r : Reading Symbol (Letters × Statements)
-  case_arm_r = keyword_then 59 (both part_r (in_braces_r body_r))
+  case_arm_r = keyword_then KwWhen (both part_r (in_braces_r body_r))
 
   abbrev pub handler_r : Reading Symbol (Letters × Statements)
-  handler_r = keyword_then 34 (both name_r (in_braces_r body_r))
+  handler_r = keyword_then KwOn (both name_r (in_braces_r body_r))
 
   abbrev pub port_arm_r : Reading Symbol (Path × (Path × Statements))
-  port_arm_r = keyword_then 59 (both path_r (keyword_then 41 (both path_r (in_braces_r body_r))))
+  port_arm_r = keyword_then KwWhen (both path_r (keyword_then KwReceive (both path_r (in_braces_r body_r))))
 
   pub case_arms_fits_of : (list : List (Letters × Statements)) → case_arms_fit (arms_of list) levels ≡ many_fits case_arm_r.rule.fits list
   case_arms_fits_of [] = refl
@@ -185,19 +187,19 @@ module _ (levels : ℕ) (read_e : Reader Symbol Expression) (read_s : Reader Sym
   port_arm_written a f e = cc
 
   abbrev pub case_arms_r : Reading Symbol Arms
-  case_arms_r = some_r (is (Keyword 59)) case_arm_r arms_of (λ t. case_arms_fit t levels) has_arm case_arms (λ a f. refl) case_arm_ends case_arm_written case_arms_fits_of case_arms_spelled (λ a list. refl) arms_back
+  case_arms_r = some_r (is (Key KwWhen)) case_arm_r arms_of (λ t. case_arms_fit t levels) has_arm case_arms (λ a f. refl) case_arm_ends case_arm_written case_arms_fits_of case_arms_spelled (λ a list. refl) arms_back
 
   abbrev pub handlers_r : Reading Symbol Arms
-  handlers_r = some_r (is (Keyword 34)) handler_r arms_of (λ t. handlers_fit t levels) has_arm handlers (λ a f. refl) handler_ends handler_written handlers_fits_of handlers_spelled (λ a list. refl) arms_back
+  handlers_r = some_r (is (Key KwOn)) handler_r arms_of (λ t. handlers_fit t levels) has_arm handlers (λ a f. refl) handler_ends handler_written handlers_fits_of handlers_spelled (λ a list. refl) arms_back
 
   abbrev pub port_arms_r : Reading Symbol PortArms
-  port_arms_r = some_r (is (Keyword 59)) port_arm_r port_arms_of (λ t. port_arms_fit t levels) has_port_arm port_arms (λ a f. refl) port_arm_ends port_arm_written port_arms_fits_of port_arms_spelled (λ a list. refl) port_arms_back
+  port_arms_r = some_r (is (Key KwWhen)) port_arm_r port_arms_of (λ t. port_arms_fit t levels) has_port_arm port_arms (λ a f. refl) port_arm_ends port_arm_written port_arms_fits_of port_arms_spelled (λ a list. refl) port_arms_back
 
   abbrev pub otherwise_rule : Rule Symbol Otherwise
   otherwise_rule = record { fits = λ other. otherwise_fits other levels; spelling = otherwise; ends = if_ends }
 
   abbrev pub otherwise_parts : Reading Symbol (Statements ⊎ Unit {0})
-  otherwise_parts = either_of (is (Keyword 11)) (keyword_then 11 (in_braces_r body_r)) nothing_more
+  otherwise_parts = either_of (is (Key KwElse)) (keyword_then KwElse (in_braces_r body_r)) nothing_more
 
   pub otherwise_fits_of : (found : Statements ⊎ Unit {0}) → otherwise_parts.rule.fits found ≡ true → otherwise_fits (otherwise_of found) levels ≡ true
   otherwise_fits_of (inl body) f = f
@@ -209,7 +211,7 @@ module _ (levels : ℕ) (read_e : Reader Symbol Expression) (read_s : Reader Sym
 
   pub otherwise_ended : (found : Statements ⊎ Unit {0}) (beyond : Option Symbol) → otherwise_parts.rule.fits found ≡ true → if_ends (otherwise_of found) beyond ≡ otherwise_parts.rule.ends found beyond
   otherwise_ended (inl body) beyond f = sym (statements_stop body levels f)
-  otherwise_ended (inr none) beyond f = sym (and-true (not (passes (is (Keyword 11)) beyond)))
+  otherwise_ended (inr none) beyond f = sym (and-true (not (passes (is (Key KwElse)) beyond)))
 
   pub otherwise_back : (other : Otherwise) → otherwise_fits other levels ≡ true → (found : Statements ⊎ Unit {0}) × (otherwise_parts.rule.fits found ≡ true) × (otherwise_of found ≡ other)
   otherwise_back NoElse f = (inr tt, refl, refl)
@@ -219,29 +221,29 @@ module _ (levels : ℕ) (read_e : Reader Symbol Expression) (read_s : Reader Sym
   otherwise_r = turned otherwise_of otherwise_rule otherwise_parts (record { fits = otherwise_fits_of; spelling = otherwise_spelled; ends = otherwise_ended; back = otherwise_back })
 
   abbrev pub case_r : Reading Symbol (Path × Arms)
-  case_r = keyword_then 4 (both path_r (in_braces_r case_arms_r))
+  case_r = keyword_then KwCase (both path_r (in_braces_r case_arms_r))
 
   abbrev pub for_r : Reading Symbol (Path × (Path × Statements))
-  for_r = keyword_then 15 (both path_r (keyword_then 20 (both path_r (in_braces_r body_r))))
+  for_r = keyword_then KwFor (both path_r (keyword_then KwIn (both path_r (in_braces_r body_r))))
 
   abbrev pub select_r : Reading Symbol PortArms
-  select_r = keyword_then 46 (in_braces_r port_arms_r)
+  select_r = keyword_then KwSelect (in_braces_r port_arms_r)
 
   abbrev pub if_r : Reading Symbol (Expression × (Statements × Otherwise))
-  if_r = keyword_then 19 (both expression_r (sign_then 2 (both body_r (sign_then 3 otherwise_r))))
+  if_r = keyword_then KwIf (both expression_r (sign_then BraceOpen (both body_r (sign_then BraceClose otherwise_r))))
 
   abbrev pub while_r : Reading Symbol (Expression × Statements)
-  while_r = keyword_then 60 (both expression_r (in_braces_r body_r))
+  while_r = keyword_then KwWhile (both expression_r (in_braces_r body_r))
 
   abbrev pub try_r : Reading Symbol (Statements × Arms)
-  try_r = keyword_then 53 (sign_then 2 (both body_r (sign_then 3 handlers_r)))
+  try_r = keyword_then KwTry (sign_then BraceOpen (both body_r (sign_then BraceClose handlers_r)))
 
   abbrev pub assign_r : Reading Symbol (Path × Expression)
-  assign_r = both path_r (sign_then 9 (then_sign 7 expression_r))
+  assign_r = both path_r (sign_then Becomes (then_sign Semicolon expression_r))
 
   abbrev pub compound_r : Reading Symbol Compound
-  compound_r = either_of (is (Keyword 4)) case_r (either_of (is (Keyword 15)) for_r (either_of (is (Keyword 46)) select_r
-      (either_of (is (Keyword 19)) if_r (either_of (is (Keyword 60)) while_r (either_of (is (Keyword 53)) try_r assign_r)))))
+  compound_r = either_of (is (Key KwCase)) case_r (either_of (is (Key KwFor)) for_r (either_of (is (Key KwSelect)) select_r
+      (either_of (is (Key KwIf)) if_r (either_of (is (Key KwWhile)) while_r (either_of (is (Key KwTry)) try_r assign_r)))))
 
   abbrev pub statement_parts : Reading Symbol (Plain ⊎ Compound)
   statement_parts = either_of is_plain plain_r compound_r

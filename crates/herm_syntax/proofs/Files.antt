@@ -8,7 +8,9 @@ use Rattle.herm_readers.specs.Combinators.{passes, one, one_rule, many_fits, sep
 use Rattle.herm_readers.specs.Laws.{IsWritten}
 use Rattle.herm_readers.proofs.Simple.{one_reads}
 use Rattle.herm_readers.proofs.Readings.{Reading, nothing_more, turned, refit, refit_reads, both, either_of, many_of, many_end, separated_by, separated_end}
-use Rattle.herm_syntax.specs.Symbols.{Symbol, Keyword, is, kw_var, paren_close, brace_open, brace_close, comma, semicolon, dot}
+use Rattle.herm_alphabet.specs.declared.keyword.Keyword.TheVariants.{KwCallmessage, KwCase, KwDefinitions, KwEnum, KwException, KwFull, KwIn, KwInit, KwInout, KwInport, KwKey, KwOf, KwOut, KwOutport, KwProcess, KwRaises, KwRecord, KwTable, KwType, KwVar, KwVariant}
+use Rattle.herm_alphabet.specs.declared.sign.Mark.TheVariants.{ParenClose, Comma, Semicolon, Colon, Dot, Equal}
+use Rattle.herm_syntax.specs.Symbols.{Symbol, Key, is, kw_var, paren_close, brace_open, brace_close, comma, semicolon, dot}
 use Rattle.herm_syntax.specs.Trees.{Letters, Statements, Field, Mode, In, Inout, Out, Param, Raising, DeclaredFact, InitFact, FullFact, CaseFact, Shape, Names, Fields, Cases, Rows, Inport, Outport, CallMessage, Item, TypeItem, ExceptionItem, Module, Definitions, Process}
 use Rattle.herm_syntax.specs.Spelling.{mode, statements, declared_fact, declared_facts, kept, raising, raisings, shape, item, variables, module_symbols}
 use Rattle.herm_syntax.specs.Fitting.{is_name, any_part, field_fits, param_fits, declared_fact_fits, raising_fits, shape_fits, item_fits, statements_fit, module_fits}
@@ -22,13 +24,13 @@ use Rattle.herm_syntax.proofs.Blocks.{statements_reads}
 
 -- Fields and parameters.
 abbrev pub field_r : Reading Symbol Field
-field_r = both part_r (sign_then 8 name_r)
+field_r = both part_r (sign_then Colon name_r)
 
 pub mode_from : (x : Symbol) (tree : Mode) → pick_mode x ≡ Some tree → x ≡ mode tree
 mode_from x tree e =
-    picked_if 20 In mode refl x tree (if is (Keyword 22) x then Some Inout else (if is (Keyword 36) x then Some Out else None)) (is (Keyword 20) x) refl e (λ e0.
-    picked_if 22 Inout mode refl x tree (if is (Keyword 36) x then Some Out else None) (is (Keyword 22) x) refl e0 (λ e1.
-    picked_if 36 Out mode refl x tree None (is (Keyword 36) x) refl e1 (λ e2. absurd (cc))))
+    picked_if KwIn In mode refl x tree (if is (Key KwInout) x then Some Inout else (if is (Key KwOut) x then Some Out else None)) (is (Key KwIn) x) refl e (λ e0.
+    picked_if KwInout Inout mode refl x tree (if is (Key KwOut) x then Some Out else None) (is (Key KwInout) x) refl e0 (λ e1.
+    picked_if KwOut Out mode refl x tree None (is (Key KwOut) x) refl e1 (λ e2. absurd (cc))))
 
 pub mode_back : (tree : Mode) → pick_mode (mode tree) ≡ Some tree
 mode_back In = refl
@@ -46,26 +48,26 @@ abbrev pub param_r : Reading Symbol Param
 param_r = both mode_r field_r
 
 abbrev pub commas : {A : Type 0} → Reading Symbol A → Reading Symbol (List A)
-commas r = separated_by comma (is comma) (sign_test 6) r
+commas r = separated_by comma (is comma) (sign_test Comma) r
 
 abbrev pub fact_path_r : Reading Symbol (List Letters)
-fact_path_r = separated_by dot (is dot) (sign_test 10) part_r
+fact_path_r = separated_by dot (is dot) (sign_test Dot) part_r
 
 -- What ends everywhere ends in a list in front of what is no separator.
 pub commas_stop : {A : Type 0} → (r : Reading Symbol A) (beyond : Option Symbol) → passes (is comma) beyond ≡ false → ((a : A) (h : Option Symbol) → r.rule.fits a ≡ true → r.rule.ends a h ≡ true) →
     (list : List A) → separated_fits r.rule.fits list ≡ true → separated_ends comma (is comma) r.rule list beyond ≡ true
-commas_stop r beyond other ends list f = separated_end comma (is comma) (sign_test 6) r.rule beyond other (λ a g. ends a (Some comma) g) (λ a g. ends a beyond g) list f
+commas_stop r beyond other ends list f = separated_end comma (is comma) (sign_test Comma) r.rule beyond other (λ a g. ends a (Some comma) g) (λ a g. ends a beyond g) list f
 
 pub dots_stop : (list : List Letters) (beyond : Option Symbol) → passes (is dot) beyond ≡ false → separated_fits any_part list ≡ true → separated_ends dot (is dot) part_r.rule list beyond ≡ true
-dots_stop list beyond other f = separated_end dot (is dot) (sign_test 10) part_r.rule beyond other (λ a g. refl) (λ a g. refl) list f
+dots_stop list beyond other f = separated_end dot (is dot) (sign_test Dot) part_r.rule beyond other (λ a g. refl) (λ a g. refl) list f
 
 -- Declared facts.
 abbrev pub fact_rule : Rule Symbol DeclaredFact
 fact_rule = record { fits = declared_fact_fits; spelling = declared_fact; ends = λ f beyond. true }
 
 abbrev pub fact_parts : Reading Symbol (List Letters ⊎ (List Letters ⊎ (List Letters × Letters)))
-fact_parts = either_of (is (Keyword 21)) (keyword_then 21 (in_parens_r fact_path_r))
-    (either_of (is (Keyword 17)) (keyword_then 17 (in_parens_r fact_path_r)) (keyword_then 4 (in_parens_r (both fact_path_r (sign_then 6 part_r)))))
+fact_parts = either_of (is (Key KwInit)) (keyword_then KwInit (in_parens_r fact_path_r))
+    (either_of (is (Key KwFull)) (keyword_then KwFull (in_parens_r fact_path_r)) (keyword_then KwCase (in_parens_r (both fact_path_r (sign_then Comma part_r)))))
 
 pub fact_fits_of : (found : List Letters ⊎ (List Letters ⊎ (List Letters × Letters))) → fact_parts.rule.fits found ≡ true → declared_fact_fits (fact_of found) ≡ true
 fact_fits_of (inl p) f = f
@@ -136,7 +138,7 @@ facts_r = written_r (is brace_open) (in_braces_r (commas fact_r)) declared_fact_
 
 -- Kept parameters and raised exceptions.
 abbrev pub kept_item_r : Reading Symbol Letters
-kept_item_r = keyword_then 17 (in_parens_r part_r)
+kept_item_r = keyword_then KwFull (in_parens_r part_r)
 
 abbrev pub kept_r : Reading Symbol (List Letters)
 kept_r = written_r (is brace_open) (in_braces_r (commas kept_item_r)) any_part kept refl refl (λ a list. refl) (λ a list. refl) (λ a list beyond. refl)
@@ -159,18 +161,18 @@ raising_stops (name, []) beyond e = ap not e
 raising_stops (name, k ∷ keeps) beyond e = refl
 
 abbrev pub raisings_r : Reading Symbol (List Raising)
-raisings_r = written_r (is (Keyword 40)) (keyword_then 40 (in_parens_r (commas raising_r))) raising_fits raisings refl refl (λ a list. refl) (λ a list. refl) (λ a list beyond. refl)
-    (λ a list beyond f. separated_end comma (is comma) (sign_test 6) raising_r.rule (Some paren_close) refl (λ r g. raising_stops r (Some comma) refl) (λ r g. raising_stops r (Some paren_close) refl) (a ∷ list) f)
+raisings_r = written_r (is (Key KwRaises)) (keyword_then KwRaises (in_parens_r (commas raising_r))) raising_fits raisings refl refl (λ a list. refl) (λ a list. refl) (λ a list beyond. refl)
+    (λ a list beyond f. separated_end comma (is comma) (sign_test Comma) raising_r.rule (Some paren_close) refl (λ r g. raising_stops r (Some comma) refl) (λ r g. raising_stops r (Some paren_close) refl) (a ∷ list) f)
 
 -- Shapes.
 abbrev pub shape_parts : Reading Symbol ShapeParts
-shape_parts = either_of (is (Keyword 12)) (keyword_then 12 (in_braces_r (commas part_r)))
-    (either_of (is (Keyword 42)) (keyword_then 42 (in_braces_r (commas field_r)))
-    (either_of (is (Keyword 58)) (keyword_then 58 (in_braces_r (commas field_r)))
-    (either_of (is (Keyword 49)) (keyword_then 49 (keyword_then 33 (both name_r (keyword_then 26 (in_parens_r (commas part_r))))))
-    (either_of (is (Keyword 23)) (keyword_then 23 (keyword_then 33 (both name_r facts_r)))
-    (either_of (is (Keyword 37)) (keyword_then 37 (keyword_then 33 name_r))
-    (keyword_then 3 (both (in_parens_r (listed_r 1 param_r)) raisings_r)))))))
+shape_parts = either_of (is (Key KwEnum)) (keyword_then KwEnum (in_braces_r (commas part_r)))
+    (either_of (is (Key KwRecord)) (keyword_then KwRecord (in_braces_r (commas field_r)))
+    (either_of (is (Key KwVariant)) (keyword_then KwVariant (in_braces_r (commas field_r)))
+    (either_of (is (Key KwTable)) (keyword_then KwTable (keyword_then KwOf (both name_r (keyword_then KwKey (in_parens_r (commas part_r))))))
+    (either_of (is (Key KwInport)) (keyword_then KwInport (keyword_then KwOf (both name_r facts_r)))
+    (either_of (is (Key KwOutport)) (keyword_then KwOutport (keyword_then KwOf name_r))
+    (keyword_then KwCallmessage (both (in_parens_r (listed_r ParenClose param_r)) raisings_r)))))))
 
 abbrev pub shape_ends : Shape → Option Symbol → Bool
 shape_ends (Names names) beyond = true
@@ -213,8 +215,8 @@ parts_stop names beyond other f = commas_stop part_r beyond other (λ a h g. ref
 pub fields_stop : (fs : List Field) (beyond : Option Symbol) → passes (is comma) beyond ≡ false → separated_fits field_fits fs ≡ true → separated_ends comma (is comma) field_r.rule fs beyond ≡ true
 fields_stop fs beyond other f = commas_stop field_r beyond other (λ a h g. refl) fs f
 
-pub params_stop : (params : List Param) → many_fits param_fits params ≡ true → listed_ends 1 param_r params (Some paren_close) ≡ true
-params_stop params f = listed_end 1 param_r refl param_leads (λ a g. refl) (λ a g. refl) params f
+pub params_stop : (params : List Param) → many_fits param_fits params ≡ true → listed_ends ParenClose param_r params (Some paren_close) ≡ true
+params_stop params f = listed_end ParenClose param_r refl param_leads (λ a g. refl) (λ a g. refl) params f
 
 pub with_params : {a b : Bool} → a ≡ true → b ≡ (a && b)
 with_params {a} {b} e = sym (ap (λ c. c && b) e)
@@ -259,7 +261,7 @@ shape_stops (CallMessage params raises) = raisings_stop raises
 
 -- Items.
 abbrev pub item_parts : Reading Symbol ((Letters × Shape) ⊎ Letters)
-item_parts = either_of (is (Keyword 54)) (keyword_then 54 (both name_r (sign_then 12 (then_sign 7 shape_r)))) (keyword_then 13 (then_sign 7 name_r))
+item_parts = either_of (is (Key KwType)) (keyword_then KwType (both name_r (sign_then Equal (then_sign Semicolon shape_r)))) (keyword_then KwException (then_sign Semicolon name_r))
 
 abbrev pub item_rule : Rule Symbol Item
 item_rule = record { fits = item_fits; spelling = item; ends = λ i beyond. true }
@@ -293,7 +295,7 @@ item_leads (ExceptionItem name) f = refl
 
 -- Variables.
 abbrev pub variables_r : Reading Symbol (List Field)
-variables_r = written_r (is (Keyword 57)) (keyword_then 57 (then_sign 7 (commas field_r))) field_fits variables refl refl (λ a list. refl) (λ a list. refl) (λ a list beyond. refl)
+variables_r = written_r (is (Key KwVar)) (keyword_then KwVar (then_sign Semicolon (commas field_r))) field_fits variables refl refl (λ a list. refl) (λ a list. refl) (λ a list beyond. refl)
     (λ a list beyond f. fields_stop (a ∷ list) (Some semicolon) refl f)
 
 pub variables_stop : (vars : List Field) (beyond : Option Symbol) → passes (is kw_var) beyond ≡ false → variables_r.rule.ends vars beyond ≡ true
@@ -306,8 +308,8 @@ module _ (levels : ℕ) where
   process_body_r = record { rule = statements_rule levels; read = read_statements levels; reads = statements_reads levels }
 
   abbrev pub module_parts : Reading Symbol ((Letters × List Item) ⊎ (Letters × (Field × (List Field × Statements))))
-  module_parts = either_of (is (Keyword 7)) (keyword_then 7 (both name_r (in_braces_r (many_of inside item_r item_written))))
-      (keyword_then 38 (both name_r (both (in_parens_r field_r) (in_braces_r (both variables_r process_body_r)))))
+  module_parts = either_of (is (Key KwDefinitions)) (keyword_then KwDefinitions (both name_r (in_braces_r (many_of inside item_r item_written))))
+      (keyword_then KwProcess (both name_r (both (in_parens_r field_r) (in_braces_r (both variables_r process_body_r)))))
 
   abbrev pub module_rule : Rule Symbol Module
   module_rule = record { fits = module_fits levels; spelling = module_symbols; ends = λ m beyond. true }

@@ -9,6 +9,8 @@ use Rattle.herm_readers.proofs.Sequences.{sequence_reads}
 use Rattle.herm_readers.proofs.Marks.{leading_reads, closing_reads}
 use Rattle.herm_readers.proofs.Choices.{choice_reads}
 use Rattle.herm_readers.proofs.Lists.{many_reads}
+use Rattle.herm_alphabet.specs.declared.keyword.Keyword.TheVariants.{KwLength, KwSize, KwText}
+use Rattle.herm_alphabet.specs.declared.sign.Mark.TheVariants.{ParenOpen, ParenClose}
 use Rattle.herm_syntax.specs.Symbols.{Symbol, is, is_operator, kw_size, kw_text, kw_length, minus, star, plus, equal, kw_and, kw_or, paren_open, paren_close}
 use Rattle.herm_syntax.specs.Trees.{Path, Integer, Text, Boolean, Tag, Atom, Constant, Place, Expression, Chain, Compare, Unary, Operands, NoOperand, Operand, NoComparison, With, Primary, Simple, Size, Paren, TextOf, LengthOf}
 use Rattle.herm_syntax.specs.Spelling.{expression, operands, primary}
@@ -23,8 +25,8 @@ abbrev pub parens_rule : {A : Type 0} → Rule Symbol A → Rule Symbol A
 parens_rule rule = leading_rule paren_open (closing_rule paren_close rule)
 
 pub parens_reads : {A : Type 0} → (rule : Rule Symbol A) (read : Reader Symbol A) → Reads rule read → Reads (parens_rule rule) (in_parens read)
-parens_reads rule read reads = leading_reads paren_open (is paren_open) (closing_rule paren_close rule) (closing (is paren_close) read) (sign_test 0)
-    (closing_reads paren_close (is paren_close) rule read (sign_test 1) reads)
+parens_reads rule read reads = leading_reads paren_open (is paren_open) (closing_rule paren_close rule) (closing (is paren_close) read) (sign_test ParenOpen)
+    (closing_reads paren_close (is paren_close) rule read (sign_test ParenClose) reads)
 
 -- Operands with no expression in them.
 abbrev simple_parts : Rule Symbol (Path ⊎ Atom)
@@ -59,7 +61,7 @@ pub simple_reads : Reads (primary_rule 0) read_simple
 simple_reads = changed_reads simple_of simple_parts (primary_rule 0) (choice (is kw_size) (leading (is kw_size) (in_parens read_path)) read_atom)
     (record { fits = simple_fits; spelling = simple_spelled; ends = simple_ended; back = simple_back })
     (choice_reads (is kw_size) (leading_rule kw_size (parens_rule path_rule)) atom_rule (leading (is kw_size) (in_parens read_path)) read_atom
-    (leading_reads kw_size (is kw_size) (parens_rule path_rule) (in_parens read_path) (keyword_test 48) (parens_reads path_rule read_path path_reads)) atom_reads)
+    (leading_reads kw_size (is kw_size) (parens_rule path_rule) (in_parens read_path) (keyword_test KwSize) (parens_reads path_rule read_path path_reads)) atom_reads)
 
 -- Operands with an expression in them, one level deeper.
 module _ (levels : ℕ) (read : Reader Symbol Expression) (reads : Reads (expression_rule 5 levels) read) where
@@ -124,9 +126,9 @@ module _ (levels : ℕ) (read : Reader Symbol Expression) (reads : Reads (expres
       (in_parens read) (choice (is kw_text) (leading (is kw_text) (in_parens read)) (choice (is kw_length) (leading (is kw_length) (in_parens read)) read_simple)) inside
       (choice_reads (is kw_text) (leading_rule kw_text deeper) (choice_rule (is kw_length) (leading_rule kw_length deeper) (primary_rule 0))
       (leading (is kw_text) (in_parens read)) (choice (is kw_length) (leading (is kw_length) (in_parens read)) read_simple)
-      (leading_reads kw_text (is kw_text) deeper (in_parens read) (keyword_test 50) inside)
+      (leading_reads kw_text (is kw_text) deeper (in_parens read) (keyword_test KwText) inside)
       (choice_reads (is kw_length) (leading_rule kw_length deeper) (primary_rule 0) (leading (is kw_length) (in_parens read)) read_simple
-      (leading_reads kw_length (is kw_length) deeper (in_parens read) (keyword_test 28) inside) simple_reads)))
+      (leading_reads kw_length (is kw_length) deeper (in_parens read) (keyword_test KwLength) inside) simple_reads)))
 
 -- A sign before an operand.
 module _ (levels : ℕ) (read : Reader Symbol Primary) (reads : Reads (primary_rule levels) read) where

@@ -1,36 +1,40 @@
 -- Readers of one symbol: keywords and signs, names, parts, literals, operators.
-use Rattle.std.proofs.Common.{◌≡◌, ℕ, zero, suc, ◌+◌, Bool, true, false, not, ◌&&◌, if◌then◌else◌, List, [], ◌∷◌, Option, Some, None, nat_eq, bytes_eq, is_some, refl, sym, ap, ◌∙◌, subst, arith, eqb-true}
-use Rattle.std.proofs.lemmas.Bool.{and_parts, eq-eqb}
-use Rattle.std.proofs.lemmas.Slice.Eq.{bytes_eq-Decides}
+use Rattle.std.proofs.Common.{◌≡◌, Bool, true, false, not, if◌then◌else◌, Option, Some, None, is_some, refl, sym, ap, ◌∙◌, subst}
+use Rattle.std.specs.Prelude.{codes}
 use Rattle.herm_readers.specs.Reader.{Reads}
 use Rattle.herm_readers.specs.Combinators.{one, one_rule}
 use Rattle.herm_readers.specs.Laws.{IsTestFor}
 use Rattle.herm_readers.proofs.Simple.{one_reads}
-use Rattle.herm_syntax.specs.Symbols.{Symbol, Keyword, Sign, Identifier, Number, Quoted, keywords, place_in, keyword_of, is_keyword, letters_in, is, kw_true, kw_false}
+use Rattle.herm_alphabet.specs.declared.keyword.Keyword.TheVariants.{KwFalse, KwTrue}
+use Rattle.herm_alphabet.specs.Letters.{letters, keyword_of}
+use Rattle.herm_alphabet.specs.declared.keyword.Keyword.{Keyword}
+use Rattle.herm_alphabet.specs.declared.sign.Mark.{Mark}
+use Rattle.herm_alphabet.proofs.Keywords.{keyword_of-letters, keyword_of-some, one_keyword, own_keyword, one_mark, own_mark}
+use Rattle.herm_syntax.specs.Symbols.{Symbol, Key, Sign, Identifier, Number, Quoted, is_keyword, is, kw_true, kw_false}
 use Rattle.herm_syntax.specs.Trees.{Letters, Literal, Integer, Text, Boolean, Tag}
 use Rattle.herm_syntax.specs.Spelling.{part_at, part}
 use Rattle.herm_syntax.specs.Fitting.{is_name, any_part}
 use Rattle.herm_syntax.specs.Reading.{pick_by, pick_name, pick_part, pick_constant, read_name, read_part, name_rule, part_rule}
 
-pub keyword_alone : (n : ℕ) (y : Symbol) → is (Keyword n) y ≡ true → y ≡ Keyword n
-keyword_alone n (Keyword m) e = ap Keyword (eqb-true m n e)
+pub keyword_alone : (k : Keyword) (y : Symbol) → is (Key k) y ≡ true → y ≡ Key k
+keyword_alone k (Key other) e = ap Key (one_keyword other k e)
 keyword_alone n (Sign m) e = absurd (cc)
 keyword_alone n (Identifier letters) e = absurd (cc)
 keyword_alone n (Number i) e = absurd (cc)
 keyword_alone n (Quoted letters) e = absurd (cc)
 
-pub keyword_test : (n : ℕ) → IsTestFor (Keyword n) (is (Keyword n))
-keyword_test n = record { passed = eq-eqb n n refl; alone = keyword_alone n }
+pub keyword_test : (k : Keyword) → IsTestFor (Key k) (is (Key k))
+keyword_test k = record { passed = own_keyword k; alone = keyword_alone k }
 
-pub sign_alone : (n : ℕ) (y : Symbol) → is (Sign n) y ≡ true → y ≡ Sign n
-sign_alone n (Keyword m) e = absurd (cc)
-sign_alone n (Sign m) e = ap Sign (eqb-true m n e)
+pub sign_alone : (n : Mark) (y : Symbol) → is (Sign n) y ≡ true → y ≡ Sign n
+sign_alone n (Key m) e = absurd (cc)
+sign_alone n (Sign m) e = ap Sign (one_mark m n e)
 sign_alone n (Identifier letters) e = absurd (cc)
 sign_alone n (Number i) e = absurd (cc)
 sign_alone n (Quoted letters) e = absurd (cc)
 
-pub sign_test : (n : ℕ) → IsTestFor (Sign n) (is (Sign n))
-sign_test n = record { passed = eq-eqb n n refl; alone = sign_alone n }
+pub sign_test : (n : Mark) → IsTestFor (Sign n) (is (Sign n))
+sign_test n = record { passed = own_mark n; alone = sign_alone n }
 
 -- A symbol that passes a test.
 pub pick_by_from : (test : Symbol → Bool) (x tree : Symbol) (passed : Bool) → test x ≡ passed → (if passed then Some x else None) ≡ Some tree → (test tree ≡ true) × (x ≡ tree)
@@ -53,7 +57,7 @@ name_from_at letters tree false k e =
     (ap (λ t. is_name t) (sym same) ∙ ap not k, ap Identifier same)
 
 pub name_from : (x : Symbol) (tree : Letters) → pick_name x ≡ Some tree → (is_name tree ≡ true) × (x ≡ Identifier tree)
-name_from (Keyword n) tree e = absurd (cc)
+name_from (Key n) tree e = absurd (cc)
 name_from (Sign n) tree e = absurd (cc)
 name_from (Identifier letters) tree e = name_from_at letters tree (is_keyword letters) refl e
 name_from (Number n) tree e = absurd (cc)
@@ -63,94 +67,45 @@ name_back_at : (letters : Letters) (b : Bool) → not b ≡ true → (if b then 
 name_back_at letters true e = absurd (cc)
 name_back_at letters false e = refl
 
+-- An example of a name, and of a part.
+abbrev pub some_name : Letters
+some_name = codes "a"
+
+some_name_fits : is_name some_name ≡ true
+unfolding keyword_of
+some_name_fits = refl
+
 pub name_reads : Reads name_rule read_name
 name_reads = one_reads is_name Identifier pick_name (record {
-  example = [];
-  example_fits = refl;
+  example = some_name;
+  example_fits = some_name_fits;
   from = name_from;
   back = λ tree f. name_back_at tree (is_keyword tree) f;
 })
 
--- Keywords as parts: the letters at a place, and the place of letters.
-letters_at_place_more : (word : Letters) (words : List Letters) (letters : Letters) (start n : ℕ) → ((place : ℕ) × (n ≡ suc start + place) × (letters_in words place ≡ Some letters)) →
-    (place : ℕ) × (n ≡ start + place) × (letters_in (word ∷ words) place ≡ Some letters)
-letters_at_place_more word words letters start n found = (suc found.0, omega (arith, found.1), found.2)
-
-letters_at_place_by : (word : Letters) (words : List Letters) (letters : Letters) (start n : ℕ) (b : Bool) → bytes_eq word letters ≡ b → (if b then Some start else place_in words letters (suc start)) ≡ Some n →
-    (place_in words letters (suc start) ≡ Some n → (place : ℕ) × (n ≡ suc start + place) × (letters_in words place ≡ Some letters)) → (place : ℕ) × (n ≡ start + place) × (letters_in (word ∷ words) place ≡ Some letters)
-letters_at_place_by word words letters start n true p e more =
-    let same : start ≡ n = cc in
-    let letters_same : word ≡ letters = (bytes_eq-Decides word letters).0 p in
-    (0, omega (arith, same), ap Some letters_same)
-letters_at_place_by word words letters start n false p e more = letters_at_place_more word words letters start n (more e)
-
-letters_at_place : (words : List Letters) (letters : Letters) (start n : ℕ) → place_in words letters start ≡ Some n → (place : ℕ) × (n ≡ start + place) × (letters_in words place ≡ Some letters)
-letters_at_place [] letters start n e = absurd (cc)
-letters_at_place (word ∷ words) letters start n e = letters_at_place_by word words letters start n (bytes_eq word letters) refl e (letters_at_place words letters (suc start) n)
-
-letters_of_keyword : (letters : Letters) (n : ℕ) → keyword_of letters ≡ Some n → letters_in keywords n ≡ Some letters
-letters_of_keyword letters n e =
-    let found = letters_at_place keywords letters 0 n e in
-    let same : found.0 ≡ n = omega (arith, found.1) in
-    subst (λ place. letters_in keywords place ≡ Some letters) same found.2
-
--- Each word of the list has its own place: a test, computed.
-abbrev has_place : Option ℕ → ℕ → Bool
-has_place None n = false
-has_place (Some m) n = nat_eq m n
-
-abbrev all_placed : List Letters → ℕ → Bool
-all_placed [] place = true
-all_placed (word ∷ words) place = has_place (keyword_of word) place && all_placed words (suc place)
-
-all_keywords_placed : all_placed keywords 0 ≡ true
-all_keywords_placed = refl
-
-has_place_is : (found : Option ℕ) (n : ℕ) → has_place found n ≡ true → found ≡ Some n
-has_place_is None n e = absurd (cc)
-has_place_is (Some m) n e = ap Some (eqb-true m n e)
-
-placed_at : (words : List Letters) (start place : ℕ) (letters : Letters) → all_placed words start ≡ true → letters_in words place ≡ Some letters → keyword_of letters ≡ Some (start + place)
-placed_at [] start place letters placed e = absurd (cc)
-placed_at (word ∷ words) start zero letters placed e =
-    let parts = and_parts (has_place (keyword_of word) start) (all_placed words (suc start)) placed in
-    let same : word ≡ letters = cc in
-    let there : start ≡ start + 0 = omega arith in
-    ap keyword_of (sym same) ∙ (has_place_is (keyword_of word) start parts.0 ∙ ap Some there)
-placed_at (word ∷ words) start (suc place) letters placed e =
-    let parts = and_parts (has_place (keyword_of word) start) (all_placed words (suc start)) placed in
-    let there : suc start + place ≡ start + suc place = omega arith in
-    placed_at words (suc start) place letters parts.1 e ∙ ap Some there
-
-keyword_of_letters : (n : ℕ) (letters : Letters) → letters_in keywords n ≡ Some letters → keyword_of letters ≡ Some n
-keyword_of_letters n letters e =
-    let there : 0 + n ≡ n = omega arith in
-    placed_at keywords 0 n letters all_keywords_placed e ∙ ap Some there
-
 -- Parts.
-part_of_keyword : (n : ℕ) (letters : Letters) → letters_in keywords n ≡ Some letters → part letters ≡ Keyword n
-part_of_keyword n letters e = ap (λ found. part_at found letters) (keyword_of_letters n letters e)
-
-part_of_name_at : (letters : Letters) (found : Option ℕ) → not (is_some found) ≡ true → part_at found letters ≡ Identifier letters
+part_of_name_at : (letters : Letters) (found : Option Keyword) → not (is_some found) ≡ true → part_at found letters ≡ Identifier letters
 part_of_name_at letters None f = refl
 part_of_name_at letters (Some n) f = absurd (cc)
 
 pub part_from : (x : Symbol) (tree : Letters) → pick_part x ≡ Some tree → (any_part tree ≡ true) × (x ≡ part tree)
-part_from (Keyword n) tree e = (refl, sym (part_of_keyword n tree e))
+part_from (Key k) tree e =
+    let same : letters k ≡ tree = cc in
+    (refl, sym (ap part (sym same) ∙ ap (λ found. part_at found (letters k)) (keyword_of-letters k)))
 part_from (Sign n) tree e = absurd (cc)
-part_from (Identifier letters) tree e =
-    let from = name_from_at letters tree (is_keyword letters) refl e in
+part_from (Identifier name) tree e =
+    let from = name_from_at name tree (is_keyword name) refl e in
     (refl, from.1 ∙ sym (part_of_name_at tree (keyword_of tree) from.0))
 part_from (Number n) tree e = absurd (cc)
 part_from (Quoted letters) tree e = absurd (cc)
 
-part_back_at : (letters : Letters) (found : Option ℕ) → keyword_of letters ≡ found → pick_part (part_at found letters) ≡ Some letters
-part_back_at letters None e = name_back_at letters (is_keyword letters) (ap (λ f. not (is_some f)) e)
-part_back_at letters (Some n) e = letters_of_keyword letters n e
+part_back_at : (text : Letters) (found : Option Keyword) → keyword_of text ≡ found → pick_part (part_at found text) ≡ Some text
+part_back_at text None e = name_back_at text (is_keyword text) (ap (λ f. not (is_some f)) e)
+part_back_at text (Some k) e = ap Some (sym (keyword_of-some text k e))
 
 pub part_reads : Reads part_rule read_part
 part_reads = one_reads any_part part pick_part (record {
-  example = [];
+  example = some_name;
   example_fits = refl;
   from = part_from;
   back = λ tree f. part_back_at tree (keyword_of tree) refl;
@@ -170,18 +125,18 @@ constant_symbol (Boolean true) = kw_true
 constant_symbol (Boolean false) = kw_false
 constant_symbol (Tag name value) = Identifier name
 
-boolean_from : (n : ℕ) (tree : Literal) (first second : Bool) → is kw_true (Keyword n) ≡ first → is kw_false (Keyword n) ≡ second →
-    (if first then Some (Boolean true) else if second then Some (Boolean false) else None) ≡ Some tree → (constant_fits tree ≡ true) × (Keyword n ≡ constant_symbol tree)
+boolean_from : (n : Keyword) (tree : Literal) (first second : Bool) → is kw_true (Key n) ≡ first → is kw_false (Key n) ≡ second →
+    (if first then Some (Boolean true) else if second then Some (Boolean false) else None) ≡ Some tree → (constant_fits tree ≡ true) × (Key n ≡ constant_symbol tree)
 boolean_from n tree true second p q e =
     let same : Boolean true ≡ tree = cc in
-    subst (λ t. (constant_fits t ≡ true) × (Keyword n ≡ constant_symbol t)) same (refl, keyword_alone 52 (Keyword n) p)
+    subst (λ t. (constant_fits t ≡ true) × (Key n ≡ constant_symbol t)) same (refl, keyword_alone KwTrue (Key n) p)
 boolean_from n tree false true p q e =
     let same : Boolean false ≡ tree = cc in
-    subst (λ t. (constant_fits t ≡ true) × (Keyword n ≡ constant_symbol t)) same (refl, keyword_alone 14 (Keyword n) q)
+    subst (λ t. (constant_fits t ≡ true) × (Key n ≡ constant_symbol t)) same (refl, keyword_alone KwFalse (Key n) q)
 boolean_from n tree false false p q e = absurd (cc)
 
 pub constant_from : (x : Symbol) (tree : Literal) → pick_constant x ≡ Some tree → (constant_fits tree ≡ true) × (x ≡ constant_symbol tree)
-constant_from (Keyword n) tree e = boolean_from n tree (is kw_true (Keyword n)) (is kw_false (Keyword n)) refl refl e
+constant_from (Key n) tree e = boolean_from n tree (is kw_true (Key n)) (is kw_false (Key n)) refl refl e
 constant_from (Sign n) tree e = absurd (cc)
 constant_from (Identifier letters) tree e = absurd (cc)
 constant_from (Number n) tree e =

@@ -10,6 +10,7 @@ use Rattle.herm_readers.proofs.Marks.{leading_reads}
 use Rattle.herm_readers.proofs.Choices.{choice_reads}
 use Rattle.herm_readers.proofs.Lists.{many_reads}
 use Rattle.herm_readers.proofs.Separated.{leading_written, separated_reads}
+use Rattle.herm_alphabet.specs.declared.sign.Mark.TheVariants.{Dot, Hash}
 use Rattle.herm_syntax.specs.Symbols.{Symbol, is, dot, hash}
 use Rattle.herm_syntax.specs.Trees.{Letters, Path, Literal, Integer, Text, Boolean, Tag, Atom, Constant, Place}
 use Rattle.herm_syntax.specs.Spelling.{path, dotted, atom}
@@ -18,7 +19,7 @@ use Rattle.herm_syntax.specs.Reading.{pick_constant, is_constant, read_name, rea
 use Rattle.herm_syntax.proofs.Names.{sign_test, name_reads, part_reads, constant_fits, constant_symbol, constant_reads}
 
 pub dotted_reads : Reads dotted_rule read_dotted
-dotted_reads = many_reads (is dot) (leading_rule dot part_rule) (leading (is dot) read_part) (leading_written dot part_rule) (leading_reads dot (is dot) part_rule read_part (sign_test 10) part_reads)
+dotted_reads = many_reads (is dot) (leading_rule dot part_rule) (leading (is dot) read_part) (leading_written dot part_rule) (leading_reads dot (is dot) part_rule read_part (sign_test Dot) part_reads)
 
 pub all_parts : (parts : List Letters) → many_fits any_part parts ≡ true
 all_parts [] = refl
@@ -65,11 +66,11 @@ component_path_changes = record { fits = component_path_fits_of; spelling = comp
 pub component_path_reads : Reads component_path_rule read_component_path
 component_path_reads = changed_reads path_of component_path_parts component_path_rule (sequence read_name (leading (is dot) (separated (is dot) read_part))) component_path_changes
     (sequence_reads name_rule (leading_rule dot (separated_rule dot (is dot) part_rule)) read_name (leading (is dot) (separated (is dot) read_part)) name_reads
-    (leading_reads dot (is dot) (separated_rule dot (is dot) part_rule) (separated (is dot) read_part) (sign_test 10) (separated_reads dot (is dot) part_rule read_part (sign_test 10) part_reads)))
+    (leading_reads dot (is dot) (separated_rule dot (is dot) part_rule) (separated (is dot) read_part) (sign_test Dot) (separated_reads dot (is dot) part_rule read_part (sign_test Dot) part_reads)))
 
 -- Literals and paths.
 behind_name_reads : Reads behind_name_rule behind_name
-behind_name_reads = choice_reads (is hash) (leading_rule hash part_rule) dotted_rule (leading (is hash) read_part) read_dotted (leading_reads hash (is hash) part_rule read_part (sign_test 11) part_reads) dotted_reads
+behind_name_reads = choice_reads (is hash) (leading_rule hash part_rule) dotted_rule (leading (is hash) read_part) read_dotted (leading_reads hash (is hash) part_rule read_part (sign_test Hash) part_reads) dotted_reads
 
 abbrev atom_parts : Rule Symbol (Literal ⊎ (Letters × (Letters ⊎ List Letters)))
 atom_parts = choice_rule is_constant (one_rule constant_fits constant_symbol) (sequence_rule name_rule behind_name_rule)

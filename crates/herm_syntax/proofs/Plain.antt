@@ -1,12 +1,17 @@
 -- Readings of the parts of statements, and of the statements with no statement in them.
-use Rattle.std.proofs.Common.{◌≡◌, ℕ, Bool, true, false, not, ◌⊎◌, inl, inr, if◌then◌else◌, List, [], ◌∷◌, ◌++◌, Option, Some, None, nat_eq, refl, sym, ap, ◌∙◌}
+use Rattle.std.proofs.Common.{◌≡◌, Bool, true, false, not, ◌⊎◌, inl, inr, if◌then◌else◌, List, [], ◌∷◌, ◌++◌, Option, Some, None, refl, sym, ap, ◌∙◌}
 use Rattle.std.proofs.lemmas.Bool.{and_parts, and_from}
 use Rattle.herm_readers.specs.Reader.{Rule, Reads, ahead}
 use Rattle.herm_readers.specs.Combinators.{passes, one, one_rule, many_fits, many_spelling, separated_spelling, separated_ends}
 use Rattle.herm_readers.specs.Laws.{IsTestFor}
 use Rattle.herm_readers.proofs.Simple.{one_reads}
 use Rattle.herm_readers.proofs.Readings.{Reading, nothing_more, turned, with_next, both, led_by, closed_by, either_of, separated_by, separated_end}
-use Rattle.herm_syntax.specs.Symbols.{Symbol, Keyword, Sign, is, kw_exception, comma}
+use Rattle.herm_alphabet.specs.Letters.{same_mark}
+use Rattle.herm_alphabet.specs.declared.keyword.Keyword.{Keyword}
+use Rattle.herm_alphabet.specs.declared.sign.Mark.{Mark}
+use Rattle.herm_alphabet.specs.declared.keyword.Keyword.TheVariants.{KwAs, KwCall, KwConnect, KwCreate, KwDiscard, KwDissolve, KwException, KwFrom, KwGet, KwInsert, KwInto, KwLeave, KwMove, KwNew, KwOf, KwRaise, KwReceive, KwRemove, KwReturn, KwReveal, KwSend, KwTo, KwUnite, KwUnwrap, KwWrap}
+use Rattle.herm_alphabet.specs.declared.sign.Mark.TheVariants.{ParenOpen, ParenClose, BraceOpen, BraceClose, BracketOpen, BracketClose, Comma, Semicolon}
+use Rattle.herm_syntax.specs.Symbols.{Symbol, Key, Sign, is, kw_exception, comma}
 use Rattle.herm_syntax.specs.Trees.{Letters, Path, Atom, Transfer, Move, Unite, Dissolve, Wrap, Insert, Connect, Send, Receive, Touch, New, Discard, Reveal, Find, Remove, Get}
 use Rattle.herm_syntax.specs.Spelling.{path, transfer, between, touch, find}
 use Rattle.herm_syntax.specs.Fitting.{first_path_fits, touched_fits}
@@ -16,23 +21,23 @@ use Rattle.herm_syntax.proofs.Names.{keyword_test, sign_test, name_reads, part_r
 use Rattle.herm_syntax.proofs.Paths.{path_reads, component_path_reads, atom_reads}
 
 -- Keywords and signs before and behind a reading.
-abbrev pub keyword_then : {A : Type 0} → ℕ → Reading Symbol A → Reading Symbol A
-keyword_then n r = led_by (Keyword n) (is (Keyword n)) (keyword_test n) r
+abbrev pub keyword_then : {A : Type 0} → Keyword → Reading Symbol A → Reading Symbol A
+keyword_then n r = led_by (Key n) (is (Key n)) (keyword_test n) r
 
-abbrev pub sign_then : {A : Type 0} → ℕ → Reading Symbol A → Reading Symbol A
+abbrev pub sign_then : {A : Type 0} → Mark → Reading Symbol A → Reading Symbol A
 sign_then n r = led_by (Sign n) (is (Sign n)) (sign_test n) r
 
-abbrev pub then_sign : {A : Type 0} → ℕ → Reading Symbol A → Reading Symbol A
+abbrev pub then_sign : {A : Type 0} → Mark → Reading Symbol A → Reading Symbol A
 then_sign n r = closed_by (Sign n) (is (Sign n)) (sign_test n) r
 
 abbrev pub in_braces_r : {A : Type 0} → Reading Symbol A → Reading Symbol A
-in_braces_r r = sign_then 2 (then_sign 3 r)
+in_braces_r r = sign_then BraceOpen (then_sign BraceClose r)
 
 abbrev pub in_parens_r : {A : Type 0} → Reading Symbol A → Reading Symbol A
-in_parens_r r = sign_then 0 (then_sign 1 r)
+in_parens_r r = sign_then ParenOpen (then_sign ParenClose r)
 
 abbrev pub end_r : Reading Symbol (Unit {0})
-end_r = sign_then 7 nothing_more
+end_r = sign_then Semicolon nothing_more
 
 abbrev pub name_r : Reading Symbol Letters
 name_r = record { rule = name_rule; read = read_name; reads = name_reads }
@@ -47,9 +52,9 @@ abbrev pub atom_r : Reading Symbol Atom
 atom_r = record { rule = atom_rule; read = read_atom; reads = atom_reads }
 
 -- Items with commas, none where the closing sign stands at once.
-module _ {A : Type 0} (n : ℕ) (item : Reading Symbol A) where
+module _ {A : Type 0} (n : Mark) (item : Reading Symbol A) where
   abbrev pub listed_parts : Reading Symbol (Unit {0} ⊎ List A)
-  listed_parts = either_of (is (Sign n)) nothing_more (separated_by comma (is comma) (sign_test 6) item)
+  listed_parts = either_of (is (Sign n)) nothing_more (separated_by comma (is comma) (sign_test Comma) item)
 
   abbrev pub listed_ends : List A → Option Symbol → Bool
   listed_ends [] beyond = listed_parts.rule.ends (inl tt) beyond
@@ -81,7 +86,7 @@ module _ {A : Type 0} (n : ℕ) (item : Reading Symbol A) where
   listed_r = turned listed_of listed_rule listed_parts (record { fits = listed_fits; spelling = listed_spelled; ends = listed_ended; back = listed_back })
 
 -- A list ends in front of its closing sign, where no item begins with it.
-pub listed_end : {A : Type 0} → (n : ℕ) (item : Reading Symbol A) → nat_eq n 6 ≡ false → ((a : A) (more : List Symbol) (beyond : Option Symbol) → item.rule.fits a ≡ true → passes (is (Sign n)) (ahead (item.rule.spelling a ++ more) beyond) ≡ false) →
+pub listed_end : {A : Type 0} → (n : Mark) (item : Reading Symbol A) → same_mark n Comma ≡ false → ((a : A) (more : List Symbol) (beyond : Option Symbol) → item.rule.fits a ≡ true → passes (is (Sign n)) (ahead (item.rule.spelling a ++ more) beyond) ≡ false) →
     ((a : A) → item.rule.fits a ≡ true → item.rule.ends a (Some comma) ≡ true) → ((a : A) → item.rule.fits a ≡ true → item.rule.ends a (Some (Sign n)) ≡ true) →
     (items : List A) → many_fits item.rule.fits items ≡ true → listed_ends n item items (Some (Sign n)) ≡ true
 listed_end n item other leads before last [] f = and_from (is (Sign n) (Sign n)) true (sign_test n).passed refl
@@ -89,10 +94,10 @@ listed_end n item other leads before last (a ∷ items) f =
     let fit = and_parts (item.rule.fits a) (many_fits item.rule.fits items) f in
     and_from (not (passes (is (Sign n)) (ahead (separated_spelling comma item.rule.spelling (a ∷ items)) (Some (Sign n))))) (separated_ends comma (is comma) item.rule (a ∷ items) (Some (Sign n)))
     (ap not (leads a (many_spelling (λ b. comma ∷ item.rule.spelling b) items) (Some (Sign n)) fit.0))
-    (separated_end comma (is comma) (sign_test 6) item.rule (Some (Sign n)) other before last (a ∷ items) f)
+    (separated_end comma (is comma) (sign_test Comma) item.rule (Some (Sign n)) other before last (a ∷ items) f)
 
 -- A keyword that stands for a value.
-pub picked_if : {A : Type 0} → (n : ℕ) (v : A) (symbol : A → Symbol) → symbol v ≡ Keyword n → (x : Symbol) (tree : A) (rest : Option A) (b : Bool) → is (Keyword n) x ≡ b → (if b then Some v else rest) ≡ Some tree →
+pub picked_if : {A : Type 0} → (n : Keyword) (v : A) (symbol : A → Symbol) → symbol v ≡ Key n → (x : Symbol) (tree : A) (rest : Option A) (b : Bool) → is (Key n) x ≡ b → (if b then Some v else rest) ≡ Some tree →
     (rest ≡ Some tree → x ≡ symbol tree) → x ≡ symbol tree
 picked_if n v symbol s x tree rest true p e more =
     let same : v ≡ tree = cc in
@@ -101,14 +106,14 @@ picked_if n v symbol s x tree rest false p e more = more e
 
 pub transfer_from : (x : Symbol) (tree : Transfer) → pick_transfer x ≡ Some tree → x ≡ transfer tree
 transfer_from x tree e =
-    picked_if 30 Move transfer refl x tree (if is (Keyword 55) x then Some Unite else (if is (Keyword 9) x then Some Dissolve else (if is (Keyword 61) x then Some Wrap else (if is (Keyword 24) x then Some Insert else (if is (Keyword 5) x then Some Connect else (if is (Keyword 47) x then Some Send else (if is (Keyword 41) x then Some Receive else None))))))) (is (Keyword 30) x) refl e (λ e0.
-    picked_if 55 Unite transfer refl x tree (if is (Keyword 9) x then Some Dissolve else (if is (Keyword 61) x then Some Wrap else (if is (Keyword 24) x then Some Insert else (if is (Keyword 5) x then Some Connect else (if is (Keyword 47) x then Some Send else (if is (Keyword 41) x then Some Receive else None)))))) (is (Keyword 55) x) refl e0 (λ e1.
-    picked_if 9 Dissolve transfer refl x tree (if is (Keyword 61) x then Some Wrap else (if is (Keyword 24) x then Some Insert else (if is (Keyword 5) x then Some Connect else (if is (Keyword 47) x then Some Send else (if is (Keyword 41) x then Some Receive else None))))) (is (Keyword 9) x) refl e1 (λ e2.
-    picked_if 61 Wrap transfer refl x tree (if is (Keyword 24) x then Some Insert else (if is (Keyword 5) x then Some Connect else (if is (Keyword 47) x then Some Send else (if is (Keyword 41) x then Some Receive else None)))) (is (Keyword 61) x) refl e2 (λ e3.
-    picked_if 24 Insert transfer refl x tree (if is (Keyword 5) x then Some Connect else (if is (Keyword 47) x then Some Send else (if is (Keyword 41) x then Some Receive else None))) (is (Keyword 24) x) refl e3 (λ e4.
-    picked_if 5 Connect transfer refl x tree (if is (Keyword 47) x then Some Send else (if is (Keyword 41) x then Some Receive else None)) (is (Keyword 5) x) refl e4 (λ e5.
-    picked_if 47 Send transfer refl x tree (if is (Keyword 41) x then Some Receive else None) (is (Keyword 47) x) refl e5 (λ e6.
-    picked_if 41 Receive transfer refl x tree None (is (Keyword 41) x) refl e6 (λ e7.
+    picked_if KwMove Move transfer refl x tree (if is (Key KwUnite) x then Some Unite else (if is (Key KwDissolve) x then Some Dissolve else (if is (Key KwWrap) x then Some Wrap else (if is (Key KwInsert) x then Some Insert else (if is (Key KwConnect) x then Some Connect else (if is (Key KwSend) x then Some Send else (if is (Key KwReceive) x then Some Receive else None))))))) (is (Key KwMove) x) refl e (λ e0.
+    picked_if KwUnite Unite transfer refl x tree (if is (Key KwDissolve) x then Some Dissolve else (if is (Key KwWrap) x then Some Wrap else (if is (Key KwInsert) x then Some Insert else (if is (Key KwConnect) x then Some Connect else (if is (Key KwSend) x then Some Send else (if is (Key KwReceive) x then Some Receive else None)))))) (is (Key KwUnite) x) refl e0 (λ e1.
+    picked_if KwDissolve Dissolve transfer refl x tree (if is (Key KwWrap) x then Some Wrap else (if is (Key KwInsert) x then Some Insert else (if is (Key KwConnect) x then Some Connect else (if is (Key KwSend) x then Some Send else (if is (Key KwReceive) x then Some Receive else None))))) (is (Key KwDissolve) x) refl e1 (λ e2.
+    picked_if KwWrap Wrap transfer refl x tree (if is (Key KwInsert) x then Some Insert else (if is (Key KwConnect) x then Some Connect else (if is (Key KwSend) x then Some Send else (if is (Key KwReceive) x then Some Receive else None)))) (is (Key KwWrap) x) refl e2 (λ e3.
+    picked_if KwInsert Insert transfer refl x tree (if is (Key KwConnect) x then Some Connect else (if is (Key KwSend) x then Some Send else (if is (Key KwReceive) x then Some Receive else None))) (is (Key KwInsert) x) refl e3 (λ e4.
+    picked_if KwConnect Connect transfer refl x tree (if is (Key KwSend) x then Some Send else (if is (Key KwReceive) x then Some Receive else None)) (is (Key KwConnect) x) refl e4 (λ e5.
+    picked_if KwSend Send transfer refl x tree (if is (Key KwReceive) x then Some Receive else None) (is (Key KwSend) x) refl e5 (λ e6.
+    picked_if KwReceive Receive transfer refl x tree None (is (Key KwReceive) x) refl e6 (λ e7.
     absurd (cc)))))))))
 
 pub transfer_back : (tree : Transfer) → pick_transfer (transfer tree) ≡ Some tree
@@ -130,9 +135,9 @@ transfer_r = record {
 
 pub touch_from : (x : Symbol) (tree : Touch) → pick_touch x ≡ Some tree → x ≡ touch tree
 touch_from x tree e =
-    picked_if 31 New touch refl x tree (if is (Keyword 8) x then Some Discard else (if is (Keyword 45) x then Some Reveal else None)) (is (Keyword 31) x) refl e (λ e0.
-    picked_if 8 Discard touch refl x tree (if is (Keyword 45) x then Some Reveal else None) (is (Keyword 8) x) refl e0 (λ e1.
-    picked_if 45 Reveal touch refl x tree None (is (Keyword 45) x) refl e1 (λ e2.
+    picked_if KwNew New touch refl x tree (if is (Key KwDiscard) x then Some Discard else (if is (Key KwReveal) x then Some Reveal else None)) (is (Key KwNew) x) refl e (λ e0.
+    picked_if KwDiscard Discard touch refl x tree (if is (Key KwReveal) x then Some Reveal else None) (is (Key KwDiscard) x) refl e0 (λ e1.
+    picked_if KwReveal Reveal touch refl x tree None (is (Key KwReveal) x) refl e1 (λ e2.
     absurd (cc))))
 
 pub touch_back : (tree : Touch) → pick_touch (touch tree) ≡ Some tree
@@ -149,8 +154,8 @@ touch_r = record {
 
 pub find_from : (x : Symbol) (tree : Find) → pick_find x ≡ Some tree → x ≡ find tree
 find_from x tree e =
-    picked_if 43 Remove find refl x tree (if is (Keyword 18) x then Some Get else None) (is (Keyword 43) x) refl e (λ e0.
-    picked_if 18 Get find refl x tree None (is (Keyword 18) x) refl e0 (λ e1.
+    picked_if KwRemove Remove find refl x tree (if is (Key KwGet) x then Some Get else None) (is (Key KwRemove) x) refl e (λ e0.
+    picked_if KwGet Get find refl x tree None (is (Key KwGet) x) refl e0 (λ e1.
     absurd (cc)))
 
 pub find_back : (tree : Find) → pick_find (find tree) ≡ Some tree
@@ -166,14 +171,14 @@ find_r = record {
 
 -- The word between two paths.
 pub between_test : (t : Transfer) → IsTestFor (between t) (is (between t))
-between_test Move = keyword_test 51
-between_test Unite = keyword_test 16
-between_test Dissolve = keyword_test 25
-between_test Wrap = keyword_test 1
-between_test Insert = keyword_test 25
-between_test Connect = keyword_test 51
-between_test Send = keyword_test 51
-between_test Receive = keyword_test 16
+between_test Move = keyword_test KwTo
+between_test Unite = keyword_test KwFrom
+between_test Dissolve = keyword_test KwInto
+between_test Wrap = keyword_test KwAs
+between_test Insert = keyword_test KwInto
+between_test Connect = keyword_test KwTo
+between_test Send = keyword_test KwTo
+between_test Receive = keyword_test KwFrom
 
 -- The path behind the first word, by that word.
 abbrev pub first_path_ends : Transfer → Path → Option Symbol → Bool
@@ -220,32 +225,32 @@ touched_r t = record { rule = touched_rule t; read = read_touched t; reads = tou
 
 -- The statements with no statement in them.
 abbrev pub two_paths_r : Reading Symbol (Transfer × (Path × Path))
-two_paths_r = with_next transfer_r (λ t. both (first_path_r t) (led_by (between t) (is (between t)) (between_test t) (then_sign 7 path_r)))
+two_paths_r = with_next transfer_r (λ t. both (first_path_r t) (led_by (between t) (is (between t)) (between_test t) (then_sign Semicolon path_r)))
 
 abbrev pub one_path_r : Reading Symbol (Touch × Path)
-one_path_r = with_next touch_r (λ t. then_sign 7 (touched_r t))
+one_path_r = with_next touch_r (λ t. then_sign Semicolon (touched_r t))
 
 abbrev pub keyed_r : Reading Symbol (Find × (Path × (Path × (List Atom × Unit {0}))))
-keyed_r = both find_r (both path_r (keyword_then 16 (both path_r (sign_then 4 (both (separated_by comma (is comma) (sign_test 6) atom_r) (sign_then 5 end_r))))))
+keyed_r = both find_r (both path_r (keyword_then KwFrom (both path_r (sign_then BracketOpen (both (separated_by comma (is comma) (sign_test Comma) atom_r) (sign_then BracketClose end_r))))))
 
 abbrev pub unwrap_r : Reading Symbol (Path × (Letters × Path))
-unwrap_r = keyword_then 56 (both path_r (keyword_then 1 (both name_r (keyword_then 25 (then_sign 7 path_r)))))
+unwrap_r = keyword_then KwUnwrap (both path_r (keyword_then KwAs (both name_r (keyword_then KwInto (then_sign Semicolon path_r)))))
 
 abbrev pub call_r : Reading Symbol (Path × (List Atom × Unit {0}))
-call_r = keyword_then 2 (both path_r (sign_then 0 (both (listed_r 1 atom_r) (sign_then 1 end_r))))
+call_r = keyword_then KwCall (both path_r (sign_then ParenOpen (both (listed_r ParenClose atom_r) (sign_then ParenClose end_r))))
 
 abbrev pub return_r : Reading Symbol (Path × (Letters ⊎ Unit {0}))
-return_r = keyword_then 44 (both path_r (either_of (is kw_exception) (keyword_then 13 (then_sign 7 name_r)) end_r))
+return_r = keyword_then KwReturn (both path_r (either_of (is kw_exception) (keyword_then KwException (then_sign Semicolon name_r)) end_r))
 
 abbrev pub create_r : Reading Symbol (Path × Letters)
-create_r = keyword_then 6 (both path_r (keyword_then 33 (then_sign 7 name_r)))
+create_r = keyword_then KwCreate (both path_r (keyword_then KwOf (then_sign Semicolon name_r)))
 
 abbrev pub raise_r : Reading Symbol Letters
-raise_r = keyword_then 39 (then_sign 7 name_r)
+raise_r = keyword_then KwRaise (then_sign Semicolon name_r)
 
 abbrev pub leave_r : Reading Symbol (Unit {0})
-leave_r = keyword_then 27 end_r
+leave_r = keyword_then KwLeave end_r
 
 abbrev pub plain_r : Reading Symbol Plain
-plain_r = either_of is_transfer two_paths_r (either_of is_touch one_path_r (either_of is_find keyed_r (either_of (is (Keyword 56)) unwrap_r (either_of (is (Keyword 2)) call_r
-    (either_of (is (Keyword 44)) return_r (either_of (is (Keyword 6)) create_r (either_of (is (Keyword 39)) raise_r leave_r)))))))
+plain_r = either_of is_transfer two_paths_r (either_of is_touch one_path_r (either_of is_find keyed_r (either_of (is (Key KwUnwrap)) unwrap_r (either_of (is (Key KwCall)) call_r
+    (either_of (is (Key KwReturn)) return_r (either_of (is (Key KwCreate)) create_r (either_of (is (Key KwRaise)) raise_r leave_r)))))))

@@ -3,7 +3,11 @@ use Rattle.std.proofs.Common.{◌≡◌, ℕ, zero, suc, Bool, true, false, not,
 use Rattle.std.proofs.lemmas.Bool.{and_parts, and_from}
 use Rattle.herm_readers.specs.Reader.{ahead}
 use Rattle.herm_readers.specs.Combinators.{passes}
-use Rattle.herm_syntax.specs.Symbols.{Symbol, Keyword, Sign, Identifier, Number, Quoted, is, is_operator, level, dot, hash}
+use Rattle.herm_alphabet.specs.Letters.{same_mark}
+use Rattle.herm_alphabet.specs.declared.sign.Mark.{Mark}
+use Rattle.herm_alphabet.specs.declared.sign.Mark.TheVariants.{Dot, Hash}
+use Rattle.herm_alphabet.proofs.Keywords.{one_mark}
+use Rattle.herm_syntax.specs.Symbols.{Symbol, Key, Sign, Identifier, Number, Quoted, is, is_operator, level, dot, hash}
 use Rattle.herm_syntax.specs.Trees.{Expression, Chain, Compare, Unary, Operands, NoOperand, Operand, Comparison, NoComparison, With, Primary, Simple, Size, Paren, TextOf, LengthOf}
 use Rattle.herm_syntax.specs.Spelling.{operands, comparison}
 use Rattle.herm_syntax.specs.Fitting.{expression_fits, operands_fit, comparison_fits}
@@ -29,24 +33,24 @@ no_operator n (Some x) e = ne_eqb (level x) (suc n) (omega (arith, ltb-true (suc
 operator_above : (n : ℕ) (x : Symbol) → is_operator (suc n) x ≡ true → above n (Some x) ≡ true
 operator_above n x e = lt-ltb n (level x) (omega (arith, eqb-true (level x) (suc n) e))
 
-not_sign_at : (m n : ℕ) (b : Bool) → nat_eq m n ≡ b → above 0 (Some (Sign n)) ≡ false → above 0 (Some (Sign m)) ≡ true → b ≡ false
+not_sign_at : (m n : Mark) (b : Bool) → same_mark m n ≡ b → above 0 (Some (Sign n)) ≡ false → above 0 (Some (Sign m)) ≡ true → b ≡ false
 not_sign_at m n true e low high =
-    let same : m ≡ n = eqb-true m n e in
+    let same : m ≡ n = one_mark m n e in
     absurd (true≢false (sym high ∙ (ap (λ k. above 0 (Some (Sign k))) same ∙ low)))
 not_sign_at m n false e low high = refl
 
 no_dot : (beyond : Option Symbol) → above 0 beyond ≡ true → passes (is dot) beyond ≡ false
 no_dot None e = refl
-no_dot (Some (Keyword n)) e = refl
-no_dot (Some (Sign m)) e = not_sign_at m 10 (nat_eq m 10) refl refl e
+no_dot (Some (Key n)) e = refl
+no_dot (Some (Sign m)) e = not_sign_at m Dot (same_mark m Dot) refl refl e
 no_dot (Some (Identifier letters)) e = refl
 no_dot (Some (Number n)) e = refl
 no_dot (Some (Quoted letters)) e = refl
 
 no_hash : (beyond : Option Symbol) → above 0 beyond ≡ true → passes (is hash) beyond ≡ false
 no_hash None e = refl
-no_hash (Some (Keyword n)) e = refl
-no_hash (Some (Sign m)) e = not_sign_at m 11 (nat_eq m 11) refl refl e
+no_hash (Some (Key n)) e = refl
+no_hash (Some (Sign m)) e = not_sign_at m Hash (same_mark m Hash) refl refl e
 no_hash (Some (Identifier letters)) e = refl
 no_hash (Some (Number n)) e = refl
 no_hash (Some (Quoted letters)) e = refl

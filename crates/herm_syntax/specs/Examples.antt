@@ -2,7 +2,8 @@
 use Rattle.std.specs.Prelude.{◌≡◌, pos, true, List, [], ◌∷◌, Some, None, codes, map, false}
 use Rattle.herm_readers.specs.Brackets.{Opening, Closing, Neither}
 use Rattle.herm_readers.specs.Reader.{Read, Fault}
-use Rattle.herm_syntax.specs.Symbols.{Symbol, Identifier, Number, Quoted, kw_and, kw_as, kw_call, kw_callmessage, kw_case, kw_create, kw_definitions, kw_else, kw_enum, kw_exception, kw_for, kw_from, kw_full, kw_get, kw_if, kw_in, kw_init, kw_inout, kw_inport, kw_into, kw_key, kw_leave, kw_length, kw_move, kw_new, kw_of, kw_on, kw_or, kw_out, kw_outport, kw_process, kw_raise, kw_raises, kw_receive, kw_record, kw_return, kw_reveal, kw_select, kw_size, kw_table, kw_text, kw_to, kw_true, kw_try, kw_type, kw_unite, kw_unwrap, kw_var, kw_variant, kw_when, kw_while, kw_wrap, paren_open, paren_close, brace_open, brace_close, bracket_open, bracket_close, comma, semicolon, colon, becomes, dot, hash, equal, plus, minus, star, ampersand, kw_connect, kw_discard, kw_dissolve, kw_div, kw_false, kw_insert, kw_mod, kw_not, kw_remove, kw_send, unequal, less, at_most, greater, at_least, level, side, keywords}
+use Rattle.herm_alphabet.specs.Letters.{keywords as all_keywords, letters as word}
+use Rattle.herm_syntax.specs.Symbols.{Symbol, Identifier, Number, Quoted, kw_and, kw_as, kw_call, kw_callmessage, kw_case, kw_create, kw_definitions, kw_else, kw_enum, kw_exception, kw_for, kw_from, kw_full, kw_get, kw_if, kw_in, kw_init, kw_inout, kw_inport, kw_into, kw_key, kw_leave, kw_length, kw_move, kw_new, kw_of, kw_on, kw_or, kw_out, kw_outport, kw_process, kw_raise, kw_raises, kw_receive, kw_record, kw_return, kw_reveal, kw_select, kw_size, kw_table, kw_text, kw_to, kw_true, kw_try, kw_type, kw_unite, kw_unwrap, kw_var, kw_variant, kw_when, kw_while, kw_wrap, paren_open, paren_close, brace_open, brace_close, bracket_open, bracket_close, comma, semicolon, colon, becomes, dot, hash, equal, plus, minus, star, ampersand, kw_connect, kw_discard, kw_dissolve, kw_div, kw_false, kw_insert, kw_mod, kw_not, kw_remove, kw_send, unequal, less, at_most, greater, at_least, level, side}
 use Rattle.herm_syntax.specs.Trees.{Letters, Path, Integer, Text, Boolean, Tag, Constant, Place, Expression, Chain, Compare, Unary, NoOperand, Operand, NoComparison, With, Primary, Simple, Size, Paren, TextOf, LengthOf, Move, Unite, Wrap, New, Reveal, Get, Statement, Assign, TwoPaths, OnePath, Keyed, Unwrap, Call, Return, ReturnBy, Create, Raise, Leave, Case, For, Select, If, While, Try, Statements, NoStatement, Further, NoArm, Arm, NoPortArm, PortArm, Else, In, Inout, InitFact, FullFact, CaseFact, Names, Fields, Cases, Rows, Inport, Outport, CallMessage, Item, TypeItem, ExceptionItem, Module, Definitions, Process}
 use Rattle.herm_syntax.specs.Spelling.{part, expression, statement, item, module_symbols, file}
 use Rattle.herm_syntax.specs.Fitting.{is_sign, file_fits}
@@ -271,7 +272,7 @@ pub record Fitting : Type 0 where
 
 -- The keywords' letters, the operators' levels and the brackets.
 pub record Words : Type 0 where
-  pub letters : map part keywords ≡
+  pub letters : map (λ k. part (word k)) all_keywords ≡
       kw_and ∷ kw_as ∷ kw_call ∷ kw_callmessage ∷ kw_case ∷ kw_connect ∷ kw_create ∷ kw_definitions ∷
       kw_discard ∷ kw_dissolve ∷ kw_div ∷ kw_else ∷ kw_enum ∷ kw_exception ∷ kw_false ∷ kw_for ∷ kw_from ∷
       kw_full ∷ kw_get ∷ kw_if ∷ kw_in ∷ kw_init ∷ kw_inout ∷ kw_inport ∷ kw_insert ∷ kw_into ∷ kw_key ∷

@@ -3,7 +3,8 @@ use Rattle.std.specs.Prelude.{ℕ, zero, suc, Bool, true, false, not, ◌&&◌, 
 use mathlib.Core.Logic.{inl, inr}
 use Rattle.herm_readers.specs.Reader.{Reader, Rule, ahead}
 use Rattle.herm_readers.specs.Combinators.{passes, nothing, one, one_rule, changed, sequence, leading, leading_rule, closing, choice, choice_rule, many, many_rule, separated}
-use Rattle.herm_syntax.specs.Symbols.{Symbol, Keyword, Sign, Identifier, Number, Quoted, keywords, letters_in, is, is_operator, is_keyword, kw_true, kw_false, kw_size, kw_text, kw_length, paren_open, paren_close, dot, hash}
+use Rattle.herm_alphabet.specs.Letters.{letters}
+use Rattle.herm_syntax.specs.Symbols.{Symbol, Key, Sign, Identifier, Number, Quoted, is, is_operator, is_keyword, kw_true, kw_false, kw_size, kw_text, kw_length, paren_open, paren_close, dot, hash}
 use Rattle.herm_syntax.specs.Trees.{Letters, Path, Literal, Integer, Text, Boolean, Tag, Atom, Constant, Place, Expression, Chain, Compare, Unary, Operands, NoOperand, Operand, Comparison, NoComparison, With, Primary, Simple, Size, Paren, TextOf, LengthOf}
 use Rattle.herm_syntax.specs.Spelling.{part, path, atom, expression, operands, comparison, primary}
 use Rattle.herm_syntax.specs.Fitting.{is_name, any_part, path_fits, component_path_fits, atom_fits, is_sign, expression_fits, primary_fits}
@@ -13,22 +14,22 @@ abbrev pub pick_by : (Symbol → Bool) → Symbol → Option Symbol
 pick_by test x = if test x then Some x else None
 
 abbrev pub pick_name : Symbol → Option Letters
-pick_name (Keyword n) = None
+pick_name (Key n) = None
 pick_name (Sign n) = None
 pick_name (Identifier letters) = if is_keyword letters then None else Some letters
 pick_name (Number n) = None
 pick_name (Quoted letters) = None
 
 abbrev pub pick_part : Symbol → Option Letters
-pick_part (Keyword n) = letters_in keywords n
+pick_part (Key k) = Some (letters k)
 pick_part (Sign n) = None
-pick_part (Identifier letters) = if is_keyword letters then None else Some letters
+pick_part (Identifier name) = if is_keyword name then None else Some name
 pick_part (Number n) = None
 pick_part (Quoted letters) = None
 
 -- The literals of one symbol.
 abbrev pub pick_constant : Symbol → Option Literal
-pick_constant (Keyword n) = if is kw_true (Keyword n) then Some (Boolean true) else if is kw_false (Keyword n) then Some (Boolean false) else None
+pick_constant (Key n) = if is kw_true (Key n) then Some (Boolean true) else if is kw_false (Key n) then Some (Boolean false) else None
 pick_constant (Sign n) = None
 pick_constant (Identifier letters) = None
 pick_constant (Number n) = Some (Integer n)

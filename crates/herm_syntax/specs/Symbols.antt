@@ -1,335 +1,329 @@
--- The symbols of the grammar: tokens without their places in the text. A keyword and a sign are numbered
--- by their places in the lists of the language reference, "Tokens", from 0 on; a quoted text has its content.
-use Rattle.std.specs.Prelude.{ℕ, zero, suc, ℤ, Bool, false, List, [], ◌∷◌, Option, Some, None, nat_eq, nat_lt, bytes_eq, codes, if◌then◌else◌, is_some}
+-- The symbols of the grammar: tokens without their places in the text. They are the kinds of tokens that the
+-- lexer reads: keywords, names, integers, quoted texts by their content, and signs (language reference, "Tokens").
+use Rattle.std.specs.Prelude.{ℕ, Bool, false, List, is_some, nat_eq}
 use Rattle.herm_readers.specs.Brackets.{Side, Opening, Closing, Neither}
+use Rattle.herm_alphabet.specs.Letters.{keyword_of, same_keyword, same_mark}
+use Rattle.herm_alphabet.specs.declared.keyword.Keyword.{Keyword}
+use Rattle.herm_alphabet.specs.declared.keyword.Keyword.TheVariants.{KwAnd, KwAs, KwCall, KwCallmessage, KwCase, KwConnect, KwCreate, KwDefinitions, KwDiscard, KwDissolve, KwDiv, KwElse, KwEnum, KwException, KwFalse, KwFor, KwFrom, KwFull, KwGet, KwIf, KwIn, KwInit, KwInout, KwInport, KwInsert, KwInto, KwKey, KwLeave, KwLength, KwMod, KwMove, KwNew, KwNot, KwOf, KwOn, KwOr, KwOut, KwOutport, KwProcess, KwRaise, KwRaises, KwReceive, KwRecord, KwRemove, KwReturn, KwReveal, KwSelect, KwSend, KwSize, KwTable, KwText, KwTo, KwTrue, KwTry, KwType, KwUnite, KwUnwrap, KwVar, KwVariant, KwWhen, KwWhile, KwWrap}
+use Rattle.herm_alphabet.specs.declared.sign.Mark.{Mark}
+use Rattle.herm_alphabet.specs.declared.sign.Mark.TheVariants.{ParenOpen, ParenClose, BraceOpen, BraceClose, BracketOpen, BracketClose, Comma, Semicolon, Colon, Becomes, Dot, Hash, Equal, NotEqual, Less, LessEqual, Greater, GreaterEqual, Plus, Minus, Star, Ampersand}
+use Rattle.herm_alphabet.specs.declared.token.TokenKind.{TokenKind}
+pub use Rattle.herm_alphabet.specs.declared.token.TokenKind.TheVariants.{Key, Sign, Ident as Identifier, Int as Number, Text as Quoted}
 
-pub data Symbol : Type 0 where
-  Keyword : ℕ → Symbol
-  Sign : ℕ → Symbol
-  Identifier : List ℕ → Symbol
-  Number : ℤ → Symbol
-  Quoted : List ℕ → Symbol
+abbrev pub Symbol : Type 0
+Symbol = TokenKind
 
 abbrev pub kw_and : Symbol
-kw_and = Keyword 0
+kw_and = Key KwAnd
 
 abbrev pub kw_as : Symbol
-kw_as = Keyword 1
+kw_as = Key KwAs
 
 abbrev pub kw_call : Symbol
-kw_call = Keyword 2
+kw_call = Key KwCall
 
 abbrev pub kw_callmessage : Symbol
-kw_callmessage = Keyword 3
+kw_callmessage = Key KwCallmessage
 
 abbrev pub kw_case : Symbol
-kw_case = Keyword 4
+kw_case = Key KwCase
 
 abbrev pub kw_connect : Symbol
-kw_connect = Keyword 5
+kw_connect = Key KwConnect
 
 abbrev pub kw_create : Symbol
-kw_create = Keyword 6
+kw_create = Key KwCreate
 
 abbrev pub kw_definitions : Symbol
-kw_definitions = Keyword 7
+kw_definitions = Key KwDefinitions
 
 abbrev pub kw_discard : Symbol
-kw_discard = Keyword 8
+kw_discard = Key KwDiscard
 
 abbrev pub kw_dissolve : Symbol
-kw_dissolve = Keyword 9
+kw_dissolve = Key KwDissolve
 
 abbrev pub kw_div : Symbol
-kw_div = Keyword 10
+kw_div = Key KwDiv
 
 abbrev pub kw_else : Symbol
-kw_else = Keyword 11
+kw_else = Key KwElse
 
 abbrev pub kw_enum : Symbol
-kw_enum = Keyword 12
+kw_enum = Key KwEnum
 
 abbrev pub kw_exception : Symbol
-kw_exception = Keyword 13
+kw_exception = Key KwException
 
 abbrev pub kw_false : Symbol
-kw_false = Keyword 14
+kw_false = Key KwFalse
 
 abbrev pub kw_for : Symbol
-kw_for = Keyword 15
+kw_for = Key KwFor
 
 abbrev pub kw_from : Symbol
-kw_from = Keyword 16
+kw_from = Key KwFrom
 
 abbrev pub kw_full : Symbol
-kw_full = Keyword 17
+kw_full = Key KwFull
 
 abbrev pub kw_get : Symbol
-kw_get = Keyword 18
+kw_get = Key KwGet
 
 abbrev pub kw_if : Symbol
-kw_if = Keyword 19
+kw_if = Key KwIf
 
 abbrev pub kw_in : Symbol
-kw_in = Keyword 20
+kw_in = Key KwIn
 
 abbrev pub kw_init : Symbol
-kw_init = Keyword 21
+kw_init = Key KwInit
 
 abbrev pub kw_inout : Symbol
-kw_inout = Keyword 22
+kw_inout = Key KwInout
 
 abbrev pub kw_inport : Symbol
-kw_inport = Keyword 23
+kw_inport = Key KwInport
 
 abbrev pub kw_insert : Symbol
-kw_insert = Keyword 24
+kw_insert = Key KwInsert
 
 abbrev pub kw_into : Symbol
-kw_into = Keyword 25
+kw_into = Key KwInto
 
 abbrev pub kw_key : Symbol
-kw_key = Keyword 26
+kw_key = Key KwKey
 
 abbrev pub kw_leave : Symbol
-kw_leave = Keyword 27
+kw_leave = Key KwLeave
 
 abbrev pub kw_length : Symbol
-kw_length = Keyword 28
+kw_length = Key KwLength
 
 abbrev pub kw_mod : Symbol
-kw_mod = Keyword 29
+kw_mod = Key KwMod
 
 abbrev pub kw_move : Symbol
-kw_move = Keyword 30
+kw_move = Key KwMove
 
 abbrev pub kw_new : Symbol
-kw_new = Keyword 31
+kw_new = Key KwNew
 
 abbrev pub kw_not : Symbol
-kw_not = Keyword 32
+kw_not = Key KwNot
 
 abbrev pub kw_of : Symbol
-kw_of = Keyword 33
+kw_of = Key KwOf
 
 abbrev pub kw_on : Symbol
-kw_on = Keyword 34
+kw_on = Key KwOn
 
 abbrev pub kw_or : Symbol
-kw_or = Keyword 35
+kw_or = Key KwOr
 
 abbrev pub kw_out : Symbol
-kw_out = Keyword 36
+kw_out = Key KwOut
 
 abbrev pub kw_outport : Symbol
-kw_outport = Keyword 37
+kw_outport = Key KwOutport
 
 abbrev pub kw_process : Symbol
-kw_process = Keyword 38
+kw_process = Key KwProcess
 
 abbrev pub kw_raise : Symbol
-kw_raise = Keyword 39
+kw_raise = Key KwRaise
 
 abbrev pub kw_raises : Symbol
-kw_raises = Keyword 40
+kw_raises = Key KwRaises
 
 abbrev pub kw_receive : Symbol
-kw_receive = Keyword 41
+kw_receive = Key KwReceive
 
 abbrev pub kw_record : Symbol
-kw_record = Keyword 42
+kw_record = Key KwRecord
 
 abbrev pub kw_remove : Symbol
-kw_remove = Keyword 43
+kw_remove = Key KwRemove
 
 abbrev pub kw_return : Symbol
-kw_return = Keyword 44
+kw_return = Key KwReturn
 
 abbrev pub kw_reveal : Symbol
-kw_reveal = Keyword 45
+kw_reveal = Key KwReveal
 
 abbrev pub kw_select : Symbol
-kw_select = Keyword 46
+kw_select = Key KwSelect
 
 abbrev pub kw_send : Symbol
-kw_send = Keyword 47
+kw_send = Key KwSend
 
 abbrev pub kw_size : Symbol
-kw_size = Keyword 48
+kw_size = Key KwSize
 
 abbrev pub kw_table : Symbol
-kw_table = Keyword 49
+kw_table = Key KwTable
 
 abbrev pub kw_text : Symbol
-kw_text = Keyword 50
+kw_text = Key KwText
 
 abbrev pub kw_to : Symbol
-kw_to = Keyword 51
+kw_to = Key KwTo
 
 abbrev pub kw_true : Symbol
-kw_true = Keyword 52
+kw_true = Key KwTrue
 
 abbrev pub kw_try : Symbol
-kw_try = Keyword 53
+kw_try = Key KwTry
 
 abbrev pub kw_type : Symbol
-kw_type = Keyword 54
+kw_type = Key KwType
 
 abbrev pub kw_unite : Symbol
-kw_unite = Keyword 55
+kw_unite = Key KwUnite
 
 abbrev pub kw_unwrap : Symbol
-kw_unwrap = Keyword 56
+kw_unwrap = Key KwUnwrap
 
 abbrev pub kw_var : Symbol
-kw_var = Keyword 57
+kw_var = Key KwVar
 
 abbrev pub kw_variant : Symbol
-kw_variant = Keyword 58
+kw_variant = Key KwVariant
 
 abbrev pub kw_when : Symbol
-kw_when = Keyword 59
+kw_when = Key KwWhen
 
 abbrev pub kw_while : Symbol
-kw_while = Keyword 60
+kw_while = Key KwWhile
 
 abbrev pub kw_wrap : Symbol
-kw_wrap = Keyword 61
+kw_wrap = Key KwWrap
 
 -- (
 abbrev pub paren_open : Symbol
-paren_open = Sign 0
+paren_open = Sign ParenOpen
 
 -- )
 abbrev pub paren_close : Symbol
-paren_close = Sign 1
+paren_close = Sign ParenClose
 
 -- {
 abbrev pub brace_open : Symbol
-brace_open = Sign 2
+brace_open = Sign BraceOpen
 
 -- }
 abbrev pub brace_close : Symbol
-brace_close = Sign 3
+brace_close = Sign BraceClose
 
 -- [
 abbrev pub bracket_open : Symbol
-bracket_open = Sign 4
+bracket_open = Sign BracketOpen
 
 -- ]
 abbrev pub bracket_close : Symbol
-bracket_close = Sign 5
+bracket_close = Sign BracketClose
 
 -- ,
 abbrev pub comma : Symbol
-comma = Sign 6
+comma = Sign Comma
 
 -- ;
 abbrev pub semicolon : Symbol
-semicolon = Sign 7
+semicolon = Sign Semicolon
 
 -- :
 abbrev pub colon : Symbol
-colon = Sign 8
+colon = Sign Colon
 
 -- :=
 abbrev pub becomes : Symbol
-becomes = Sign 9
+becomes = Sign Becomes
 
 -- .
 abbrev pub dot : Symbol
-dot = Sign 10
+dot = Sign Dot
 
 -- #
 abbrev pub hash : Symbol
-hash = Sign 11
+hash = Sign Hash
 
 -- =
 abbrev pub equal : Symbol
-equal = Sign 12
+equal = Sign Equal
 
 -- <>
 abbrev pub unequal : Symbol
-unequal = Sign 13
+unequal = Sign NotEqual
 
 -- <
 abbrev pub less : Symbol
-less = Sign 14
+less = Sign Less
 
 -- <=
 abbrev pub at_most : Symbol
-at_most = Sign 15
+at_most = Sign LessEqual
 
 -- >
 abbrev pub greater : Symbol
-greater = Sign 16
+greater = Sign Greater
 
 -- >=
 abbrev pub at_least : Symbol
-at_least = Sign 17
+at_least = Sign GreaterEqual
 
 -- +
 abbrev pub plus : Symbol
-plus = Sign 18
+plus = Sign Plus
 
 -- -
 abbrev pub minus : Symbol
-minus = Sign 19
+minus = Sign Minus
 
 -- *
 abbrev pub star : Symbol
-star = Sign 20
+star = Sign Star
 
 -- &
 abbrev pub ampersand : Symbol
-ampersand = Sign 21
+ampersand = Sign Ampersand
 
--- The letters of the keywords.
-abbrev pub keywords : List (List ℕ)
-keywords =
-    codes "and" ∷ codes "as" ∷ codes "call" ∷ codes "callmessage" ∷ codes "case" ∷ codes "connect" ∷ codes "create" ∷ codes "definitions" ∷
-    codes "discard" ∷ codes "dissolve" ∷ codes "div" ∷ codes "else" ∷ codes "enum" ∷ codes "exception" ∷ codes "false" ∷ codes "for" ∷
-    codes "from" ∷ codes "full" ∷ codes "get" ∷ codes "if" ∷ codes "in" ∷ codes "init" ∷ codes "inout" ∷ codes "inport" ∷
-    codes "insert" ∷ codes "into" ∷ codes "key" ∷ codes "leave" ∷ codes "length" ∷ codes "mod" ∷ codes "move" ∷ codes "new" ∷
-    codes "not" ∷ codes "of" ∷ codes "on" ∷ codes "or" ∷ codes "out" ∷ codes "outport" ∷ codes "process" ∷ codes "raise" ∷
-    codes "raises" ∷ codes "receive" ∷ codes "record" ∷ codes "remove" ∷ codes "return" ∷ codes "reveal" ∷ codes "select" ∷ codes "send" ∷
-    codes "size" ∷ codes "table" ∷ codes "text" ∷ codes "to" ∷ codes "true" ∷ codes "try" ∷ codes "type" ∷ codes "unite" ∷
-    codes "unwrap" ∷ codes "var" ∷ codes "variant" ∷ codes "when" ∷ codes "while" ∷ codes "wrap" ∷ []
-
--- The number of the keyword with these letters, where there is one: its place in the list, counted from a number.
-abbrev pub place_in : List (List ℕ) → List ℕ → ℕ → Option ℕ
-place_in [] letters place = None
-place_in (word ∷ words) letters place = if bytes_eq word letters then Some place else place_in words letters (suc place)
-
-abbrev pub keyword_of : List ℕ → Option ℕ
-keyword_of letters = place_in keywords letters 0
-
+-- Whether letters are a keyword's.
 abbrev pub is_keyword : List ℕ → Bool
 is_keyword letters = is_some (keyword_of letters)
 
--- The letters at a place in the list.
-abbrev pub letters_in : List (List ℕ) → ℕ → Option (List ℕ)
-letters_in [] place = None
-letters_in (word ∷ words) zero = Some word
-letters_in (word ∷ words) (suc place) = letters_in words place
-
 -- Whether a symbol is this keyword or sign.
 abbrev pub is : Symbol → Symbol → Bool
-is (Keyword n) (Keyword m) = nat_eq m n
-is (Sign n) (Sign m) = nat_eq m n
+is (Key k) (Key other) = same_keyword other k
+is (Sign m) (Sign other) = same_mark other m
 is x y = false
 
 -- The level at which a symbol goes on behind an expression: 0 for what goes on behind a name, 1 for the
 -- operators of products, 2 of sums, 3 of comparisons, 4 and 5 for `and` and `or`, and 6 for every other symbol.
-abbrev pub keyword_level : ℕ → ℕ
-keyword_level n = if nat_eq n 10 then 1 else if nat_eq n 29 then 1 else if nat_eq n 0 then 4 else if nat_eq n 35 then 5 else 6
+abbrev pub keyword_level : Keyword → ℕ
+keyword_level KwDiv = 1
+keyword_level KwMod = 1
+keyword_level KwAnd = 4
+keyword_level KwOr = 5
+keyword_level _ = 6
 
-abbrev pub sign_level : ℕ → ℕ
-sign_level n = if nat_lt n 10 then 6 else if nat_lt n 12 then 0 else if nat_lt n 18 then 3 else if nat_eq n 20 then 1 else if nat_lt n 22 then 2 else 6
+abbrev pub sign_level : Mark → ℕ
+sign_level Dot = 0
+sign_level Hash = 0
+sign_level Star = 1
+sign_level Plus = 2
+sign_level Minus = 2
+sign_level Ampersand = 2
+sign_level Equal = 3
+sign_level NotEqual = 3
+sign_level Less = 3
+sign_level LessEqual = 3
+sign_level Greater = 3
+sign_level GreaterEqual = 3
+sign_level _ = 6
 
 abbrev pub level : Symbol → ℕ
-level (Keyword n) = keyword_level n
-level (Sign n) = sign_level n
+level (Key k) = keyword_level k
+level (Sign m) = sign_level m
 level x = 6
 
 -- Whether a symbol is an operator of a level.
@@ -337,18 +331,18 @@ abbrev pub is_operator : ℕ → Symbol → Bool
 is_operator n x = nat_eq (level x) n
 
 -- Which signs open and close a bracket.
-abbrev pub bracket_side : ℕ → Side
-bracket_side zero = Opening
-bracket_side (suc zero) = Closing
-bracket_side (suc (suc zero)) = Opening
-bracket_side (suc (suc (suc zero))) = Closing
-bracket_side (suc (suc (suc (suc zero)))) = Opening
-bracket_side (suc (suc (suc (suc (suc zero))))) = Closing
-bracket_side (suc (suc (suc (suc (suc (suc n)))))) = Neither
+abbrev pub bracket_side : Mark → Side
+bracket_side ParenOpen = Opening
+bracket_side ParenClose = Closing
+bracket_side BraceOpen = Opening
+bracket_side BraceClose = Closing
+bracket_side BracketOpen = Opening
+bracket_side BracketClose = Closing
+bracket_side _ = Neither
 
 abbrev pub side : Symbol → Side
-side (Keyword n) = Neither
-side (Sign n) = bracket_side n
+side (Key k) = Neither
+side (Sign m) = bracket_side m
 side (Identifier letters) = Neither
 side (Number n) = Neither
 side (Quoted letters) = Neither

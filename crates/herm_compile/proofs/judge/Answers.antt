@@ -1,6 +1,6 @@
 use Rattle.std.proofs.Common.{List, sym, subst, ◌∙◌, inr}
 use Rattle.herm_lexer.specs.Spelling.{HasTokens}
-use Rattle.herm_lexer.specs.declared.token.Token.{Token}
+use Rattle.herm_alphabet.specs.declared.token.Token.{Token}
 use Rattle.herm_compile.proofs.ProgramLaws.{accepted, is_lacking}
 use Rattle.herm_compile.proofs.judge.Goals as goal
 

@@ -1,8 +1,8 @@
 use Rattle.std.proofs.Common.{[], ◌∷◌, length, sym, ap, ◌∙◌, arith}
 use Rattle.std.proofs.lemmas.Result.{err_from_is_err_and}
 use Rattle.herm_compile.specs.Form.{receiving}
-use Rattle.herm_lexer.specs.declared.token.TokenKind.TheVariants.{Sign}
-use Rattle.herm_lexer.specs.declared.sign.Mark.TheVariants.{BraceClose}
+use Rattle.herm_alphabet.specs.declared.token.TokenKind.TheVariants.{Sign}
+use Rattle.herm_alphabet.specs.declared.sign.Mark.TheVariants.{BraceClose}
 use Rattle.herm_compile.proofs.GivesLaws.{came, came_err, none_given}
 use Rattle.herm_compile.proofs.ReadingLaws.{strip_takes}
 use Rattle.herm_compile.proofs.ProgramLaws.{strip_stuck, sign_stays, behind_phrase, later, takes_lines, same_lines, read_lines, none_empty, lines_written}

@@ -2,8 +2,8 @@ use Rattle.std.proofs.Common.{[], ◌∷◌, length, ap, arith}
 use Rattle.std.proofs.lemmas.Result.{err_from_is_err_and}
 use Rattle.herm_compile.specs.Form.{head}
 use Rattle.herm_compile.specs.Reading.{AreNames}
-use Rattle.herm_lexer.specs.declared.token.TokenKind.TheVariants.{Sign}
-use Rattle.herm_lexer.specs.declared.sign.Mark.TheVariants.{Semicolon}
+use Rattle.herm_alphabet.specs.declared.token.TokenKind.TheVariants.{Sign}
+use Rattle.herm_alphabet.specs.declared.sign.Mark.TheVariants.{Semicolon}
 use Rattle.herm_compile.proofs.GivesLaws.{came, came_err, none_given}
 use Rattle.herm_compile.proofs.ReadingLaws.{strip_takes}
 use Rattle.herm_compile.proofs.ProgramLaws.{strip_stuck, sign_stays, at_names, takes_up, same_names}

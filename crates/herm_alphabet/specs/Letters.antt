@@ -1,9 +1,13 @@
 -- The letters of keywords and signs (Language reference, "Tokens").
-use Rattle.std.specs.Prelude.{ℕ, List, [], ◌∷◌, codes}
-use Rattle.herm_lexer.specs.declared.keyword.Keyword.{Keyword}
-use Rattle.herm_lexer.specs.declared.keyword.Keyword.TheVariants.{KwAnd, KwAs, KwCall, KwCallmessage, KwCase, KwConnect, KwCreate, KwDefinitions, KwDiscard, KwDissolve, KwDiv, KwElse, KwEnum, KwException, KwFalse, KwFor, KwFrom, KwFull, KwGet, KwIf, KwIn, KwInit, KwInout, KwInport, KwInsert, KwInto, KwKey, KwLeave, KwLength, KwMod, KwMove, KwNew, KwNot, KwOf, KwOn, KwOr, KwOut, KwOutport, KwProcess, KwRaise, KwRaises, KwReceive, KwRecord, KwRemove, KwReturn, KwReveal, KwSelect, KwSend, KwSize, KwTable, KwText, KwTo, KwTrue, KwTry, KwType, KwUnite, KwUnwrap, KwVar, KwVariant, KwWhen, KwWhile, KwWrap}
-use Rattle.herm_lexer.specs.declared.sign.Mark.{Mark}
-use Rattle.herm_lexer.specs.declared.sign.Mark.TheVariants.{ParenOpen, ParenClose, BraceOpen, BraceClose, BracketOpen, BracketClose, Comma, Semicolon, Colon, Becomes, Dot, Hash, Equal, NotEqual, Less, LessEqual, Greater, GreaterEqual, Plus, Minus, Star, Ampersand}
+use Rattle.std.specs.Prelude.{ℕ, Bool, List, [], ◌∷◌, codes, Option, bytes_eq}
+use denote.Enum.Bare.{sameb}
+use Rattle.std.specs.List.{find}
+use Rattle.herm_alphabet.specs.declared.keyword.Keyword.{Keyword}
+use Rattle.herm_alphabet.specs.declared.keyword.Keyword.TheVariants.{KwAnd, KwAs, KwCall, KwCallmessage, KwCase, KwConnect, KwCreate, KwDefinitions, KwDiscard, KwDissolve, KwDiv, KwElse, KwEnum, KwException, KwFalse, KwFor, KwFrom, KwFull, KwGet, KwIf, KwIn, KwInit, KwInout, KwInport, KwInsert, KwInto, KwKey, KwLeave, KwLength, KwMod, KwMove, KwNew, KwNot, KwOf, KwOn, KwOr, KwOut, KwOutport, KwProcess, KwRaise, KwRaises, KwReceive, KwRecord, KwRemove, KwReturn, KwReveal, KwSelect, KwSend, KwSize, KwTable, KwText, KwTo, KwTrue, KwTry, KwType, KwUnite, KwUnwrap, KwVar, KwVariant, KwWhen, KwWhile, KwWrap}
+use Rattle.herm_alphabet.specs.contracts.keyword.Keyword.{the_type as the_keyword}
+use Rattle.herm_alphabet.specs.contracts.sign.Mark.{the_type as the_mark}
+use Rattle.herm_alphabet.specs.declared.sign.Mark.{Mark}
+use Rattle.herm_alphabet.specs.declared.sign.Mark.TheVariants.{ParenOpen, ParenClose, BraceOpen, BraceClose, BracketOpen, BracketClose, Comma, Semicolon, Colon, Becomes, Dot, Hash, Equal, NotEqual, Less, LessEqual, Greater, GreaterEqual, Plus, Minus, Star, Ampersand}
 
 -- all keywords, in alphabetical order
 abbrev pub keywords : List Keyword
@@ -98,3 +102,14 @@ characters Plus = codes "+"
 characters Minus = codes "-"
 characters Star = codes "*"
 characters Ampersand = codes "&"
+
+-- the keyword with these letters
+unfoldable pub keyword_of : List ℕ → Option Keyword
+keyword_of text = find (λ k. bytes_eq (letters k) text) keywords
+
+-- whether two keywords are one, and whether two signs are
+abbrev pub same_keyword : Keyword → Keyword → Bool
+same_keyword = sameb the_keyword
+
+abbrev pub same_mark : Mark → Mark → Bool
+same_mark = sameb the_mark

@@ -1,7 +1,6 @@
 //! Keywords and their letters.
 ghost use Rattle.std.specs.Prelude.{◌≡◌, ◌≢◌, IfSome, IfNone};
-ghost use Rattle.herm_lexer.specs.Letters.{letters, keywords};
-ghost use Rattle.herm_lexer.specs.Reading.{keyword_of};
+ghost use Rattle.herm_alphabet.specs.Letters.{letters, keywords, keyword_of};
 
 /// The keywords, which are names that are reserved.
 #[derive(Clone, Copy, Debug, PartialEq, Eq)]
@@ -218,7 +217,7 @@ impl Keyword {
 }
 
 // The first keyword with these letters.
-#[tactic(auto, unfolding(crate::specs::Reading::keyword_of))]
+#[tactic(auto, unfolding(crate::specs::Letters::keyword_of))]
 fn find_keyword(text: &[u8]) -> Option<Keyword>
     ensures { result ≡ keyword_of text.now }
 {

@@ -1,5 +1,5 @@
-use Rattle.herm_lexer.proofs.Names.{found_letters, no_letters}
-use Rattle.herm_lexer.proofs.keyword.Keyword.from_letters.Goals as goal
+use Rattle.herm_alphabet.proofs.Keywords.{found_letters, no_letters}
+use Rattle.herm_alphabet.proofs.keyword.Keyword.from_letters.Goals as goal
 
 pub returns-clause-some : goal.returns-clause-some
 returns-clause-some c = found_letters c.args.text.now c.find_keyword.result c.find_keyword.ensures

@@ -1,0 +1,2 @@
+-- Keywords and signs, and how they are written.
+pub mod Letters
