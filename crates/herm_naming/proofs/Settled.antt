@@ -110,14 +110,14 @@ module _ (exceptions : ℕ) (table : TypeTable) (well : IsWellFormedTable except
   pub has-boolean : HasShape table 0 boolean
   has-boolean = regular.has_boolean
 
-  part-leads : (t i : ℕ) → IsType table t → IsTrue (is_some (part_of table (Some t) i)) → (v : ℕ) × (part_of table (Some t) i ≡ Some v) × IsType table v
+  pub part-leads : (t i : ℕ) → IsType table t → IsTrue (is_some (part_of table (Some t) i)) → (v : ℕ) × (part_of table (Some t) i ≡ Some v) × IsType table v
   part-leads t i k c =
       let v = has-some (part_of table (Some t) i) c in
       let s = type-shape t k in
       let e : part_type s.0 i ≡ Some v.0 = subst (λ o. with_some None (λ s. part_type s i) o ≡ Some v.0) s.1 v.1 in
       (v.0, v.1, named-type t s.0 v.0 s.1 (part-named s.0 i v.0 e))
 
-  when-type : (t : ℕ) (b : Bool) → IsType table t → IsTrue (not (is_known table (Some t)) || b) → IsTrue b
+  pub when-type : (t : ℕ) (b : Bool) → IsType table t → IsTrue (not (is_known table (Some t)) || b) → IsTrue b
   when-type t b k h = by (or-either (not (is_known table (Some t))) b h)
     where
       by : IsTrue (not (is_known table (Some t))) ⊎ IsTrue b → IsTrue b
