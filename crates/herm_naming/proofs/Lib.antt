@@ -1,3 +1,4 @@
 pub mod Settled
 pub mod TypedForms
 pub mod Apart
+pub mod Bodies

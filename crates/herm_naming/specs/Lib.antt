@@ -5,3 +5,5 @@ pub mod Known
 pub mod Fits
 pub mod Copies
 pub mod Faults
+pub mod Refusals
+pub mod Laws
