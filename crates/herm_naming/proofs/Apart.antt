@@ -64,7 +64,7 @@ module _ (known : NamedTable) (well : IsWellNamed known) where
       map-some length (slice_get known.parts t) (part_count s) (sym (slice_get-map length known.parts t) ∙ a)
 
   -- the number of a part that is there
-  part-within : (t i : ℕ) → IsType known.shapes t → IsTrue (is_some (part_of known.shapes (Some t) i)) → i < length (part_names known (Some t))
+  pub part-within : (t i : ℕ) → IsType known.shapes t → IsTrue (is_some (part_of known.shapes (Some t) i)) → i < length (part_names known (Some t))
   part-within t i k h =
       let s = type-shape (length known.exceptions) known.shapes well.well_formed t k in
       let v = has-some (part_of known.shapes (Some t) i) h in

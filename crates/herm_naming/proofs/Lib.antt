@@ -2,3 +2,4 @@ pub mod Settled
 pub mod TypedForms
 pub mod Apart
 pub mod Bodies
+pub mod KeptRules

@@ -62,7 +62,7 @@ raised-in : (e : ℕ) (rs : List Raised) → IsTrue (some_of (λ (r : Raised). n
 raised-in e [] h = not_true h
 raised-in e (r ∷ rs) h = either-in (nat_eq e r.exception) _ h (λ k. inl ((numbers-decide e r.exception).0 k)) (λ k. inr (raised-in e rs k))
 
-member-in : (c : ℕ) (cs : List ℕ) → IsTrue (some_of (nat_eq c) cs) → IsIn c cs
+pub member-in : (c : ℕ) (cs : List ℕ) → IsTrue (some_of (nat_eq c) cs) → IsIn c cs
 member-in c [] h = not_true h
 member-in c (d ∷ cs) h = either-in (nat_eq c d) _ h (λ k. inl ((numbers-decide c d).0 k)) (λ k. inr (member-in c cs k))
 
@@ -71,11 +71,11 @@ below-more : (table : TypeTable) (t : Option ℕ) (p : List ℕ) (c : ℕ) → t
 below-more table t [] c = refl
 below-more table t (i ∷ p) c = below-more table (part_of table t i) p c
 
-at-more : (table : TypeTable) (types : List ℕ) (v : Path) (c t : ℕ) → type_at table types v ≡ Some t → type_at table types (v ++ (c ∷ [])) ≡ part_of table (Some t) c
+pub at-more : (table : TypeTable) (types : List ℕ) (v : Path) (c t : ℕ) → type_at table types v ≡ Some t → type_at table types (v ++ (c ∷ [])) ≡ part_of table (Some t) c
 at-more table types [] c t e = none-not_some e
 at-more table types (v ∷ p) c t e = below-more table (slice_get types v) p c ∙ ap (λ o. part_of table o c) e
 
-in-tail : {X : Type 0} (b : Bool) (x q : X) (xs : List X) → IsIn x xs → IsIn x (cond b (q ∷ xs) xs)
+pub in-tail : {X : Type 0} (b : Bool) (x q : X) (xs : List X) → IsIn x xs → IsIn x (cond b (q ∷ xs) xs)
 in-tail true x q xs h = inr h
 in-tail false x q xs h = h
 
