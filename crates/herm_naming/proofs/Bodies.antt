@@ -1,5 +1,5 @@
 -- The statements of a body by their numbers stand as those by their names, and each that passes its tests is typed.
-use Rattle.std.proofs.Common.{◌≡◌, ◌↔◌, ℕ, zero, suc, ◌+◌, ◌<◌, ◌≤◌, List, [], ◌∷◌, ◌++◌, map, length, Bool, true, false, not, cond, ◌&&◌, ◌||◌, ◌⊎◌, inl, inr, nat_eq, nat_lt, Option, Some, None, is_some, slice_get, option_and_then, IsTrue, IsFalse, refl, sym, ap, ap₂, append-nil, subst, ◌∙◌, arith, true≢false}
+use Rattle.std.proofs.Common.{◌≡◌, ◌↔◌, ℕ, zero, suc, ◌+◌, ◌<◌, ◌≤◌, List, [], ◌∷◌, ◌++◌, map, length, Bool, true, false, not, cond, ◌&&◌, ◌||◌, ◌⊎◌, inl, inr, nat_eq, nat_lt, Option, Some, None, is_some, slice_get, option_and_then, IsTrue, IsFalse, refl, sym, ap, ap₂, append-nil, length-append, subst, ◌∙◌, arith, true≢false}
 use Rattle.std.specs.Bool.{⊤}
 use Rattle.std.specs.Str.{bytes_eq}
 use Rattle.std.proofs.lemmas.List.{map-append}
@@ -12,7 +12,7 @@ use Rattle.herm_model.specs.TypedStatements.{port_type, IsTypedForm}
 use Rattle.herm_model.specs.TypedPrograms.{Placed, placed, placed_in, placed_in_blocks, placed_in_handlers, handled, is_some_block, is_some_handler}
 use Rattle.herm_model.specs.TableTests.{are_different}
 use Rattle.herm_model.specs.WellFormedTables.{IsType}
-use Rattle.herm_model.proofs.Lists.{not_true, and-both, every-in, in-map, in-append_left, in-append_right, in-append_cases}
+use Rattle.herm_model.proofs.Lists.{not_true, and-both, every-in, in-map, in-append_left, in-append_right, in-append_cases, length-map}
 use Rattle.herm_syntax.specs.Trees.{Letters, Path, Transfer, Move, Unite, Dissolve, Wrap, Insert, Connect, Send, Receive, Touch, New, Discard, Reveal, Find, Remove, Get, Statement, Assign, TwoPaths, OnePath, Keyed, Unwrap, Call, Return, ReturnBy, Create, Raise, Leave, Case, For, Select, If, While, Try, Statements, NoStatement, Further, Arms, NoArm, Arm, PortArms, NoPortArm, PortArm, Otherwise, NoElse, Else}
 use Rattle.herm_naming.specs.Numbers.{Scope, exception_number}
 use Rattle.herm_naming.specs.Meaning.{arm_names, statement_number, block_number, arm_blocks, port_arm_blocks, otherwise_number, handlers_number}
@@ -68,3 +68,33 @@ module _ (s : Scope) where
     handlers-placed : (l : Bool) (arms : Arms) → placed_in_handlers l (handlers_number s arms) ≡ map (placed_number s) (in_arms l arms)
     handlers-placed l NoArm = refl
     handlers-placed l (Arm name body rest) = two-parts (placed_number s) (in_body l body) (in_arms l rest) _ _ (body-placed l body) (handlers-placed l rest)
+
+-- each statement has a number
+mutual
+  placed-count : (l : Bool) (y : model.Statement) → length (placed l y) ≡ model.numbers_of y
+  placed-count l (model.simple f) = refl
+  placed-count l (model.choosing f bs) = let e = blocks-count l bs in omega (arith, e)
+  placed-count l (model.repeating f b) = let e = block-count true b in omega (arith, e)
+  placed-count l model.leaving = refl
+  placed-count l (model.trying b hs) =
+      let e = block-count l b in let f = handlers-count l hs in let g = length-append (placed_in l b) (placed_in_handlers l hs) in omega (arith, e, f, g)
+
+  pub block-count : (l : Bool) (b : model.Block) → length (placed_in l b) ≡ model.numbers_of_block b
+  block-count l model.no_statements = refl
+  block-count l (model.statement y rest) =
+      let e = placed-count l y in let f = block-count l rest in let g = length-append (placed l y) (placed_in l rest) in omega (arith, e, f, g)
+
+  blocks-count : (l : Bool) (bs : model.Blocks) → length (placed_in_blocks l bs) ≡ model.numbers_of_blocks bs
+  blocks-count l model.no_blocks = refl
+  blocks-count l (model.block b rest) =
+      let e = block-count l b in let f = blocks-count l rest in let g = length-append (placed_in l b) (placed_in_blocks l rest) in omega (arith, e, f, g)
+
+  handlers-count : (l : Bool) (hs : model.Handlers) → length (placed_in_handlers l hs) ≡ model.numbers_of_handlers hs
+  handlers-count l model.no_handlers = refl
+  handlers-count l (model.handler e b rest) =
+      let d = block-count l b in let f = handlers-count l rest in let g = length-append (placed_in l b) (placed_in_handlers l rest) in omega (arith, d, f, g)
+
+-- the statements of a body are as many as its numbers
+pub body-count : (s : Scope) (body : Statements) → length (in_body false body) ≡ model.numbers_of_block (block_number s body)
+body-count s body =
+    sym (length-map (placed_number s) (in_body false body)) ∙ (ap length (sym (body-placed s false body)) ∙ block-count false (block_number s body))

@@ -3,3 +3,4 @@ pub mod TypedForms
 pub mod Apart
 pub mod Bodies
 pub mod KeptRules
+pub mod Unrefused

@@ -18,10 +18,12 @@ pub record IsUnreached (table : TypeTable) (p : Process) (number : ℕ) : Type 0
   pub stands : (n : Node) × (slice_get (process_nodes p) place ≡ Some n) × (n.number ≡ number)
   pub lacks : IsReached (flow_of table p) (node place) → ⊥
 
--- One mark for each statement of a process, in the order of their numbers: those that control does not reach.
+-- One mark for each statement of a process, in the order of their numbers: no control path leads to the marked ones, which
+-- are no `try`, and to each other one but a `try` some does.
 pub record MarksUnreached (table : TypeTable) (p : Process) (marks : List Bool) : Type 0 where
   pub each : length marks ≡ numbers_of_block p.body
-  pub marked : (i : ℕ) → (slice_get marks i ≡ Some true) ↔ IsUnreached table p (suc i)
+  pub marked : (i : ℕ) → slice_get marks i ≡ Some true → IsUnreached table p (suc i)
+  pub others : (i place : ℕ) (n : Node) → slice_get marks i ≡ Some false → slice_get (process_nodes p) place ≡ Some n → n.number ≡ suc i → IsReached (flow_of table p) (node place)
 
 -- The places of a process: its name, its port and its variables, its statements.
 pub record Places (P : Type 0) : Type 0 where
