@@ -1,28 +1,26 @@
 -- Paths that part by their names part by their numbers, where their names are there.
-use Rattle.std.proofs.Common.{◌≡◌, ◌↔◌, ℕ, zero, suc, ◌+◌, ◌<◌, ◌≤◌, List, [], ◌∷◌, ◌++◌, map, length, Bool, true, false, not, cond, ◌&&◌, ◌||◌, ◌⊎◌, inl, inr, nat_eq, nat_lt, Option, Some, None, is_some, slice_get, option_map, option_and_then, IsTrue, IsFalse, refl, sym, ap, subst, ◌∙◌, arith, true≢false}
+use Rattle.std.proofs.Common.{◌≡◌, ◌↔◌, ℕ, suc, ◌<◌, List, [], ◌∷◌, map, length, Bool, true, false, not, cond, ◌||◌, ◌⊎◌, inl, inr, nat_eq, nat_lt, Option, Some, None, is_some, slice_get, option_map, IsTrue, refl, sym, ap, subst, ◌∙◌, arith, true≢false}
 use Rattle.std.specs.Str.{bytes_eq}
 use Rattle.std.proofs.lemmas.Slice.Eq.{bytes_eq-Decides}
-use Rattle.herm_model.specs.Lists.{IsIn, every, some_of, with_some, list_of}
-use Rattle.herm_model.specs.Paths as paths
+use Rattle.herm_model.specs.Lists.{IsIn, every, with_some, list_of}
 use Rattle.herm_model.specs.Paths.{are_apart, parent}
-use Rattle.herm_model.specs.Types.{Parameter, Raised, TypeTable, Shape, boolean, integer, text, polymorph, names, fields, cases, rows, inport, outport, callmessage, part_type, part_of, type_at}
-use Rattle.herm_model.specs.Expressions as model
+use Rattle.herm_model.specs.Types.{Parameter, Shape, fields, cases, callmessage, part_type, part_of}
 use Rattle.herm_model.specs.Calls.{is_returned, arguments_by}
 use Rattle.herm_model.specs.Statements as statements
 use Rattle.herm_model.specs.Statements.{Differ}
-use Rattle.herm_model.specs.WellFormedTables.{IsType, IsWellFormedTable}
+use Rattle.herm_model.specs.WellFormedTables.{IsType}
 use Rattle.herm_model.specs.TypedStatements.{AreApart}
 use Rattle.herm_model.specs.TableTests.{are_different}
-use Rattle.herm_model.proofs.Lists.{not_true, and-both, or-either, or-left, or-right, every-in, in-map_from, slice_get-map, length-map}
-use Rattle.herm_model.proofs.Options.{some-injective, none-not_some, map-some}
+use Rattle.herm_model.proofs.Lists.{not_true, and-both, or-either, or-left, or-right, every-in, in-map_from, slice_get-map}
+use Rattle.herm_model.proofs.Options.{none-not_some, map-some}
 use Rattle.herm_model.proofs.FactTests.{got-IsIn}
 use Rattle.herm_model.proofs.Deciding.{numbers-decide, below-decides, different-decides, both-decide, true-decides, false-decides}
 use Rattle.herm_model.proofs.DecidedTables.{below-type, type-below}
 use Rattle.herm_syntax.specs.Trees.{Letters, Path, Atom, Constant, Place, PortArms, NoPortArm, PortArm}
 use Rattle.herm_meaning.specs.Names.{NamedTable, IsWellNamed, part_count}
-use Rattle.herm_naming.specs.Numbers.{place_of, Scope, part_names, part_number, part_numbers, path_number, last_step, atom_number}
+use Rattle.herm_naming.specs.Numbers.{place_of, Scope, part_names, part_number, part_numbers, path_number, atom_number}
 use Rattle.herm_naming.specs.Meaning.{arm_forms}
-use Rattle.herm_naming.specs.Known.{is_known, are_parts_there, is_there}
+use Rattle.herm_naming.specs.Known.{are_parts_there, is_there}
 use Rattle.herm_naming.specs.Faults.{part_ways, without_last, set_arguments, all_part_ways, same_path, ports_of}
 use Rattle.herm_naming.proofs.Settled.{has-some, not-false, type-shape, part-leads, when-type}
 
@@ -60,7 +58,7 @@ module _ (known : NamedTable) (well : IsWellNamed known) where
   named-parts : (t : ℕ) (s : Shape) → slice_get known.shapes t ≡ Some s → (ns : List Letters) × (slice_get known.parts t ≡ Some ns) × (length ns ≡ part_count s)
   named-parts t s e =
       let a : slice_get (map length known.parts) t ≡ Some (part_count s) =
-              ap (λ l. slice_get l t) well.part_each ∙ (slice_get-map part_count known.shapes t ∙ ap (option_map part_count) e) in
+      ap (λ l. slice_get l t) well.part_each ∙ (slice_get-map part_count known.shapes t ∙ ap (option_map part_count) e) in
       map-some length (slice_get known.parts t) (part_count s) (sym (slice_get-map length known.parts t) ∙ a)
 
   -- the number of a part that is there
@@ -87,18 +85,21 @@ module _ (known : NamedTable) (well : IsWellNamed known) where
       let cq = and-both (is_some (part_of known.shapes (Some t) (part_number known (Some t) m))) _ (when-type (length known.exceptions) known.shapes well.well_formed t _ k hq) in
       let v = part-leads (length known.exceptions) known.shapes well.well_formed t (part_number known (Some t) n) k cp.0 in
       by (nat_eq (part_number known (Some t) n) (part_number known (Some t) m)) refl cp.0
-        (λ e g. let d : part_number known (Some t) n ≡ part_number known (Some t) m = (numbers-decide _ _).0 e in
-              subst (λ o. IsTrue (are_apart (part_numbers known (part_of known.shapes (Some t) (part_number known (Some t) n)) p) (part_numbers known o q))) (ap (λ i. part_of known.shapes (Some t) i) d)
-              (subst (λ o. IsTrue (are_apart (part_numbers known o p) (part_numbers known o q))) (sym v.1)
-                (parts-apart v.0 p q v.2 (subst (λ o. IsTrue (are_parts_there known.shapes o (part_numbers known o p))) v.1 cp.1)
-                  (subst (λ o. IsTrue (are_parts_there known.shapes o (part_numbers known o q))) (sym (ap (λ i. part_of known.shapes (Some t) i) d) ∙ v.1) cq.1) g)))
+      (λ e g. let d : part_number known (Some t) n ≡ part_number known (Some t) m = (numbers-decide _ _).0 e in
+      subst (λ o. IsTrue (are_apart (part_numbers known (part_of known.shapes (Some t) (part_number known (Some t) n)) p) (part_numbers known o q))) (ap (λ i. part_of known.shapes (Some t) i) d)
+      (subst (λ o. IsTrue (are_apart (part_numbers known o p) (part_numbers known o q))) (sym v.1)
+      (parts-apart v.0 p q v.2 (subst (λ o. IsTrue (are_parts_there known.shapes o (part_numbers known o p))) v.1 cp.1)
+      (subst (λ o. IsTrue (are_parts_there known.shapes o (part_numbers known o q))) (sym (ap (λ i. part_of known.shapes (Some t) i) d) ∙ v.1) cq.1) g)))
     where
       i : ℕ
       i = part_number known (Some t) n
+
       j : ℕ
       j = part_number known (Some t) m
+
       rest : Bool
       rest = are_apart (part_numbers known (part_of known.shapes (Some t) i) p) (part_numbers known (part_of known.shapes (Some t) j) q)
+
       by : (b : Bool) → nat_eq i j ≡ b → IsTrue (is_some (part_of known.shapes (Some t) i)) → (nat_eq i j ≡ true → IsTrue (part_ways p q) → IsTrue rest) → IsTrue (not (nat_eq i j) || rest)
       by true e h again = or-right (not (nat_eq i j)) rest (again e (further (or-either (not (bytes_eq n m)) (part_ways p q) w)))
         where
@@ -119,7 +120,7 @@ module _ (known : NamedTable) (well : IsWellNamed known) where
       let a : n ≡ m = part-one t n m k c.0 d in
       let f : part_numbers known (part_of known.shapes (Some t) (part_number known (Some t) n)) p ≡ part_numbers known (part_of known.shapes (Some t) (part_number known (Some t) m)) q = cc e in
       let g : part_numbers known (Some v.0) p ≡ part_numbers known (Some v.0) q =
-              ap (λ o. part_numbers known o p) (sym v.1) ∙ (f ∙ (ap (λ i. part_numbers known (part_of known.shapes (Some t) i) q) (sym d) ∙ ap (λ o. part_numbers known o q) v.1)) in
+      ap (λ o. part_numbers known o p) (sym v.1) ∙ (f ∙ (ap (λ i. part_numbers known (part_of known.shapes (Some t) i) q) (sym d) ∙ ap (λ o. part_numbers known o q) v.1)) in
       let b : p ≡ q = parts-one v.0 p q v.2 (subst (λ o. IsTrue (are_parts_there known.shapes o (part_numbers known o p))) v.1 c.1) g in
       cc (a, b)
 
@@ -153,9 +154,10 @@ port-numbers s (PortArm port target body rest) = ap (path_number s port ∷◌) 
 -- different names have different numbers, where each number is the name's alone
 numbers-differ : {X Y : Type 0} (f : X → Y) (xs : List X) → ((x y : X) → IsIn x xs → IsIn y xs → f x ≡ f y → x ≡ y) → Differ xs → Differ (map f xs)
 numbers-differ f [] one d = tt
-numbers-differ f (x ∷ xs) one d =
-    ((λ i. let h = in-map_from f (f x) xs i in d.0 (subst (λ y. IsIn y xs) (sym (one x h.0 (inl refl) (inr h.1) h.2)) h.1)),
-    numbers-differ f xs (λ y z i j e. one y z (inr i) (inr j) e) d.1)
+numbers-differ f (x ∷ xs) one d = (
+  (λ i. let h = in-map_from f (f x) xs i in d.0 (subst (λ y. IsIn y xs) (sym (one x h.0 (inl refl) (inr h.1) h.2)) h.1)),
+  numbers-differ f xs (λ y z i j e. one y z (inr i) (inr j) e) d.1,
+)
 
 -- names that are there have different numbers
 pub names-differ : (ns all : List Letters) → ((n : Letters) → IsIn n ns → place_of n all < length all) → IsTrue (are_different bytes_eq ns) → Differ (map (λ n. place_of n all) ns)
@@ -175,15 +177,16 @@ module _ (s : Scope) (well : IsWellNamed s.known) (same : length s.variables ≡
       let j : place_of n s.variables < length s.variables = omega arith in
       let v = variable-type (place_of n s.variables) i in
       by (nat_eq (place_of n s.variables) (place_of m s.variables)) refl
-        (λ e. place-one n m s.variables j ((numbers-decide _ _).0 e))
-        (λ e g. let d : place_of n s.variables ≡ place_of m s.variables = (numbers-decide _ _).0 e in
-              subst (λ o. IsTrue (are_apart (part_numbers s.known (slice_get s.types (place_of n s.variables)) p) (part_numbers s.known o q))) (ap (slice_get s.types) d)
-              (subst (λ o. IsTrue (are_apart (part_numbers s.known o p) (part_numbers s.known o q))) (sym v.1)
-                (parts-apart s.known well v.0 p q v.2 (subst (λ o. IsTrue (are_parts_there s.known.shapes o (part_numbers s.known o p))) v.1 a.1)
-                  (subst (λ o. IsTrue (are_parts_there s.known.shapes o (part_numbers s.known o q))) (sym (ap (slice_get s.types) d) ∙ v.1) b.1) g)))
+      (λ e. place-one n m s.variables j ((numbers-decide _ _).0 e))
+      (λ e g. let d : place_of n s.variables ≡ place_of m s.variables = (numbers-decide _ _).0 e in
+      subst (λ o. IsTrue (are_apart (part_numbers s.known (slice_get s.types (place_of n s.variables)) p) (part_numbers s.known o q))) (ap (slice_get s.types) d)
+      (subst (λ o. IsTrue (are_apart (part_numbers s.known o p) (part_numbers s.known o q))) (sym v.1)
+      (parts-apart s.known well v.0 p q v.2 (subst (λ o. IsTrue (are_parts_there s.known.shapes o (part_numbers s.known o p))) v.1 a.1)
+      (subst (λ o. IsTrue (are_parts_there s.known.shapes o (part_numbers s.known o q))) (sym (ap (slice_get s.types) d) ∙ v.1) b.1) g)))
     where
       rest : Bool
       rest = are_apart (part_numbers s.known (slice_get s.types (place_of n s.variables)) p) (part_numbers s.known (slice_get s.types (place_of m s.variables)) q)
+
       by : (b : Bool) → nat_eq (place_of n s.variables) (place_of m s.variables) ≡ b → (nat_eq (place_of n s.variables) (place_of m s.variables) ≡ true → n ≡ m)
           → (nat_eq (place_of n s.variables) (place_of m s.variables) ≡ true → IsTrue (part_ways p q) → IsTrue rest) → IsTrue (not (nat_eq (place_of n s.variables) (place_of m s.variables)) || rest)
       by true e one again = or-right (not (nat_eq _ _)) rest (again e (further (or-either (not (bytes_eq n m)) (part_ways p q) w)))
@@ -205,17 +208,18 @@ module _ (s : Scope) (well : IsWellNamed s.known) (same : length s.variables ≡
       let a : n ≡ m = place-one n m s.variables j d in
       let f : part_numbers s.known (slice_get s.types (place_of n s.variables)) p ≡ part_numbers s.known (slice_get s.types (place_of m s.variables)) q = cc e in
       let g : part_numbers s.known (Some v.0) p ≡ part_numbers s.known (Some v.0) q =
-              ap (λ o. part_numbers s.known o p) (sym v.1) ∙ (f ∙ (ap (λ k. part_numbers s.known (slice_get s.types k) q) (sym d) ∙ ap (λ o. part_numbers s.known o q) v.1)) in
+      ap (λ o. part_numbers s.known o p) (sym v.1) ∙ (f ∙ (ap (λ k. part_numbers s.known (slice_get s.types k) q) (sym d) ∙ ap (λ o. part_numbers s.known o q) v.1)) in
       let b : p ≡ q = parts-one s.known well v.0 p q v.2 (subst (λ o. IsTrue (are_parts_there s.known.shapes o (part_numbers s.known o p))) v.1 c.1) g in
       cc (a, b)
 
   pub all-apart : (ps : List Path) → ((p : Path) → IsIn p ps → IsTrue (is_there s.known.shapes s.types (path_number s p))) → IsTrue (all_part_ways ps) → AreApart (map (path_number s) ps)
   all-apart [] there w = tt
   all-apart (p ∷ ps) there w =
-      let c = and-both (every (part_ways p) ps) _ w in
-      ((λ y i. let h = in-map_from (path_number s) y ps i in
+      let c = and-both (every (part_ways p) ps) _ w in (
+        (λ y i. let h = in-map_from (path_number s) y ps i in
             subst (λ z. IsTrue (are_apart (path_number s p) z)) (sym h.2) (paths-apart p h.0 (there p (inl refl)) (there h.0 (inr h.1)) (every-in (part_ways p) h.0 ps c.0 h.1))),
-      all-apart ps (λ q i. there q (inr i)) c.1)
+        all-apart ps (λ q i. there q (inr i)) c.1,
+      )
 
   pub ports-differ : (ps : List Path) → ((p : Path) → IsIn p ps → IsTrue (is_there s.known.shapes s.types (path_number s p))) → IsTrue (are_different same_path ps) → Differ (map (path_number s) ps)
   ports-differ ps there d = numbers-differ (path_number s) ps (λ p q i j e. paths-one p q (there p i) e) ((different-decides same_path names-decide ps).0 d)

@@ -1,21 +1,13 @@
 -- The statements of a body by their numbers stand as those by their names, and each that passes its tests is typed.
-use Rattle.std.proofs.Common.{◌≡◌, ◌↔◌, ℕ, zero, suc, ◌+◌, ◌<◌, ◌≤◌, List, [], ◌∷◌, ◌++◌, map, length, Bool, true, false, not, cond, ◌&&◌, ◌||◌, ◌⊎◌, inl, inr, nat_eq, nat_lt, Option, Some, None, is_some, slice_get, option_and_then, IsTrue, IsFalse, refl, sym, ap, ap₂, append-nil, length-append, subst, ◌∙◌, arith, true≢false}
-use Rattle.std.specs.Bool.{⊤}
-use Rattle.std.specs.Str.{bytes_eq}
+use Rattle.std.proofs.Common.{◌≡◌, List, [], ◌∷◌, ◌++◌, map, length, Bool, true, false, refl, sym, ap, ap₂, append-nil, length-append, ◌∙◌, arith}
 use Rattle.std.proofs.lemmas.List.{map-append}
-use Rattle.herm_model.specs.Lists.{IsIn, every}
-use Rattle.herm_model.specs.Paths as paths
-use Rattle.herm_model.specs.Types.{TypeTable, part_of, type_at}
 use Rattle.herm_model.specs.Statements as model
 use Rattle.herm_model.specs.Statements.{Differ}
-use Rattle.herm_model.specs.TypedStatements.{port_type, IsTypedForm}
-use Rattle.herm_model.specs.TypedPrograms.{Placed, placed, placed_in, placed_in_blocks, placed_in_handlers, handled, is_some_block, is_some_handler}
-use Rattle.herm_model.specs.TableTests.{are_different}
-use Rattle.herm_model.specs.WellFormedTables.{IsType}
-use Rattle.herm_model.proofs.Lists.{not_true, and-both, every-in, in-map, in-append_left, in-append_right, in-append_cases, length-map}
-use Rattle.herm_syntax.specs.Trees.{Letters, Path, Transfer, Move, Unite, Dissolve, Wrap, Insert, Connect, Send, Receive, Touch, New, Discard, Reveal, Find, Remove, Get, Statement, Assign, TwoPaths, OnePath, Keyed, Unwrap, Call, Return, ReturnBy, Create, Raise, Leave, Case, For, Select, If, While, Try, Statements, NoStatement, Further, Arms, NoArm, Arm, PortArms, NoPortArm, PortArm, Otherwise, NoElse, Else}
-use Rattle.herm_naming.specs.Numbers.{Scope, exception_number}
-use Rattle.herm_naming.specs.Meaning.{arm_names, statement_number, block_number, arm_blocks, port_arm_blocks, otherwise_number, handlers_number}
+use Rattle.herm_model.specs.TypedPrograms.{Placed, placed, placed_in, placed_in_blocks, placed_in_handlers}
+use Rattle.herm_model.proofs.Lists.{length-map}
+use Rattle.herm_syntax.specs.Trees.{Statement, Assign, TwoPaths, OnePath, Keyed, Unwrap, Call, Return, ReturnBy, Create, Raise, Leave, Case, For, Select, If, While, Try, Statements, NoStatement, Further, Arms, NoArm, Arm, PortArms, NoPortArm, PortArm, Otherwise, NoElse, Else}
+use Rattle.herm_naming.specs.Numbers.{Scope}
+use Rattle.herm_naming.specs.Meaning.{statement_number, block_number, arm_blocks, port_arm_blocks, otherwise_number, handlers_number}
 use Rattle.herm_naming.specs.Faults.{within, in_body, in_arms, in_port_arms, in_otherwise}
 
 -- a statement with whether it stands in a loop, by its number
@@ -44,7 +36,7 @@ module _ (s : Scope) where
     within-placed l (Select arms) = ap (placed_number s (l, Select arms) ∷◌) (ports-placed l arms)
     within-placed l (If e body other) =
         ap (placed_number s (l, If e body other) ∷◌)
-          (two-parts (placed_number s) (in_body l body) (in_otherwise l other) _ _ (body-placed l body) (ap (λ xs. xs ++ []) (other-placed l other) ∙ append-nil _))
+        (two-parts (placed_number s) (in_body l body) (in_otherwise l other) _ _ (body-placed l body) (ap (λ xs. xs ++ []) (other-placed l other) ∙ append-nil _))
     within-placed l (While e body) = ap (placed_number s (l, While e body) ∷◌) (body-placed true body)
     within-placed l (Try body arms) =
         ap (placed_number s (l, Try body arms) ∷◌) (two-parts (placed_number s) (in_body l body) (in_arms l arms) _ _ (body-placed l body) (handlers-placed l arms))

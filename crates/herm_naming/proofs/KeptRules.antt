@@ -1,30 +1,30 @@
 -- A statement at which no code holds keeps the rules of typed programs.
-use Rattle.std.proofs.Common.{◌≡◌, ◌↔◌, ℕ, zero, suc, ◌+◌, ◌<◌, ◌≤◌, List, [], ◌∷◌, ◌++◌, map, flat_map, length, Bool, true, false, not, cond, ◌&&◌, ◌||◌, ◌⊎◌, inl, inr, nat_eq, nat_lt, Option, Some, None, is_some, slice_get, option_and_then, IsTrue, IsFalse, refl, sym, ap, ap₂, subst, ◌∙◌, arith, true≢false}
+use Rattle.std.proofs.Common.{◌≡◌, ℕ, List, [], ◌∷◌, ◌++◌, map, flat_map, length, Bool, true, false, not, cond, ◌&&◌, inl, inr, nat_lt, Some, None, is_some, slice_get, IsTrue, refl, sym, ap, subst, ◌∙◌, arith}
 use Rattle.std.specs.Bool.{⊤}
 use Rattle.std.specs.Str.{bytes_eq}
-use Rattle.herm_model.specs.Lists.{IsIn, every, some_of}
+use Rattle.herm_model.specs.Lists.{IsIn, every}
 use Rattle.herm_model.specs.Paths.{are_apart, parent}
-use Rattle.herm_model.specs.Types.{Parameter, TypeTable, part_of, type_at}
+use Rattle.herm_model.specs.Types.{Parameter, part_of}
 use Rattle.herm_model.specs.Expressions.{paths_among}
 use Rattle.herm_model.specs.Expressions as expressions
-use Rattle.herm_model.specs.Calls.{call_parameters, is_returned, arguments_by}
+use Rattle.herm_model.specs.Calls.{call_parameters, is_returned}
 use Rattle.herm_model.specs.Statements as model
 use Rattle.herm_model.specs.Statements.{Differ, IsWellFormed, IsWellFormedBlock, AreWellFormed, AreWellFormedHandlers, count_blocks}
 use Rattle.herm_model.specs.TypedStatements.{AreApart, port_type, IsTypedForm}
-use Rattle.herm_model.specs.TypedPrograms.{handled, is_some_block, is_some_handler, HasArms, HasHandlers, HasDifferentHandlers, HandlesKnown, LeavesLoop}
+use Rattle.herm_model.specs.TypedPrograms.{handled, HasArms, HasHandlers, HasDifferentHandlers, HandlesKnown, LeavesLoop}
 use Rattle.herm_model.specs.TableTests.{are_different}
 use Rattle.herm_model.specs.WellFormedTables.{IsType}
-use Rattle.herm_model.proofs.Lists.{not_true, and-both, or-either, every-in, in-map, in-append_left, in-append_right, length-map}
+use Rattle.herm_model.proofs.Lists.{not_true, and-both, every-in, in-map, in-append_left, in-append_right, length-map}
 use Rattle.herm_model.proofs.Deciding.{below-decides}
 use Rattle.herm_syntax.specs.Trees.{Letters, Path, Atom, Constant, Place, Transfer, Move, Unite, Dissolve, Wrap, Insert, Connect, Send, Receive, Touch, New, Discard, Reveal, Find, Remove, Get, Statement, Assign, TwoPaths, OnePath, Keyed, Unwrap, Call, Return, ReturnBy, Create, Raise, Leave, Case, For, Select, If, While, Try, Statements, NoStatement, Further, Arms, NoArm, Arm, PortArms, NoPortArm, PortArm, Otherwise, NoElse, Else}
 use Rattle.herm_meaning.specs.Names.{IsWellNamed}
-use Rattle.herm_naming.specs.Numbers.{place_of, Scope, exception_number, type_number, part_names, part_number, path_number, type_seen, last_step, atom_number, expression_number}
+use Rattle.herm_naming.specs.Numbers.{Scope, exception_number, type_number, part_names, part_number, path_number, type_seen, last_step, atom_number, expression_number}
 use Rattle.herm_naming.specs.Meaning.{process_number, arm_names, arm_forms, transfer_form, touch_form, find_form, statement_number, block_number, arm_blocks, port_arm_blocks, otherwise_number, handlers_number}
 use Rattle.herm_naming.specs.Known.{paths_named, is_there, is_form_there, is_statement_there}
 use Rattle.herm_naming.specs.Fits.{fits_form, fits_statement}
 use Rattle.herm_naming.specs.Copies.{copies_form, copies_statement}
-use Rattle.herm_naming.specs.Faults.{Code, part_ways, without_last, set_arguments, paths_part, ports_of, repeats, first_code, statement_code, within, in_body, in_arms, in_port_arms, in_otherwise}
-use Rattle.herm_naming.proofs.Settled.{has-some, path-type}
+use Rattle.herm_naming.specs.Faults.{part_ways, without_last, set_arguments, paths_part, ports_of, repeats, first_code, statement_code, within, in_body, in_arms, in_port_arms, in_otherwise}
+use Rattle.herm_naming.proofs.Settled.{path-type}
 use Rattle.herm_naming.proofs.TypedForms.{IsApartForm, at-more, form-typed}
 use Rattle.herm_naming.proofs.Apart.{part-within, path-front, set-numbers, port-numbers, names-differ, paths-apart, all-apart, ports-differ}
 
@@ -56,7 +56,7 @@ none-is true false true true true h = (refl, refl, refl, refl, refl)
 pub faultless : (s : Scope) (l : Bool) (x : Statement) → statement_code s l x ≡ None → IsFaultless s l x
 faultless s l x e =
     let h = none-is (is_statement_there s.known.shapes s.types (length s.known.exceptions) (length s.processes) l (statement_number s x)) (repeats x)
-            (fits_statement s.known.shapes s.types s.ports (statement_number s x)) (paths_part s x) (copies_statement s.known.shapes s.types (statement_number s x)) e in
+    (fits_statement s.known.shapes s.types s.ports (statement_number s x)) (paths_part s x) (copies_statement s.known.shapes s.types (statement_number s x)) e in
     record { there = h.0; once = h.1; fits = h.2; parts = h.3; copies = h.4 }
 
 not-twice : (b : Bool) → IsTrue (not (not b)) → IsTrue b
@@ -110,7 +110,7 @@ module _ (s : Scope) (processes : List model.Process) (ok : IsSettled s processe
       → IsTrue (copies_form s.known.shapes s.types f) → IsApartForm s.known.shapes s.types f → IsRight f
   form-right f h k c a =
       form-typed (length s.known.exceptions) s.known.shapes ok.well.well_formed s.types ok.known processes s.ports ok.ports_are ok.ports_known f
-        (record { there = subst (λ n. IsTrue (is_form_there s.known.shapes s.types (length s.known.exceptions) n f)) ok.each_port h; fits = k; copies = c; apart = a })
+      (record { there = subst (λ n. IsTrue (is_form_there s.known.shapes s.types (length s.known.exceptions) n f)) ok.each_port h; fits = k; copies = c; apart = a })
 
   named : (f : model.Form) → IsTrue (is_form_there s.known.shapes s.types (length s.known.exceptions) (length s.processes) f) → (p : List ℕ) → IsIn p (paths_named f) → IsTrue (is_there s.known.shapes s.types p)
   named f h p i = every-in (is_there s.known.shapes s.types) p (paths_named f) (and-both (every (is_there s.known.shapes s.types) (paths_named f)) _ h).0 i
@@ -128,12 +128,12 @@ module _ (s : Scope) (processes : List model.Process) (ok : IsSettled s processe
   case-differ v ns h each d =
       let t = path-type (length s.known.exceptions) s.known.shapes ok.well.well_formed s.types ok.known v h in
       subst (λ o. Differ (map (part_number s.known o) ns)) (sym t.1)
-        (names-differ ns (part_names s.known (Some t.0))
-          (λ n i. let g : IsTrue (is_there s.known.shapes s.types (v ++ (part_number s.known (Some t.0) n ∷ []))) =
-                          subst (λ o. IsTrue (is_there s.known.shapes s.types (v ++ (part_number s.known o n ∷ [])))) t.1 (each n i) in
-                  let w = path-type (length s.known.exceptions) s.known.shapes ok.well.well_formed s.types ok.known (v ++ (part_number s.known (Some t.0) n ∷ [])) g in
-                  let e : part_of s.known.shapes (Some t.0) (part_number s.known (Some t.0) n) ≡ Some w.0 = sym (at-more s.known.shapes s.types v (part_number s.known (Some t.0) n) t.0 t.1) ∙ w.1 in
-                  part-within s.known ok.well t.0 (part_number s.known (Some t.0) n) t.2 (subst (λ o. IsTrue (is_some o)) (sym e) refl)) d)
+      (names-differ ns (part_names s.known (Some t.0))
+      (λ n i. let g : IsTrue (is_there s.known.shapes s.types (v ++ (part_number s.known (Some t.0) n ∷ []))) =
+      subst (λ o. IsTrue (is_there s.known.shapes s.types (v ++ (part_number s.known o n ∷ [])))) t.1 (each n i) in
+      let w = path-type (length s.known.exceptions) s.known.shapes ok.well.well_formed s.types ok.known (v ++ (part_number s.known (Some t.0) n ∷ [])) g in
+      let e : part_of s.known.shapes (Some t.0) (part_number s.known (Some t.0) n) ≡ Some w.0 = sym (at-more s.known.shapes s.types v (part_number s.known (Some t.0) n) t.0 t.1) ∙ w.1 in
+      part-within s.known ok.well t.0 (part_number s.known (Some t.0) n) t.2 (subst (λ o. IsTrue (is_some o)) (sym e) refl)) d)
 
   -- a statement without a fault is typed
   pub statement-right : (l : Bool) (x : Statement) → IsFaultless s l x → OfForm IsRight (statement_number s x)
@@ -144,13 +144,13 @@ module _ (s : Scope) (processes : List model.Process) (ok : IsSettled s processe
   statement-right l (TwoPaths Unite v y) h =
       let f : model.Form = model.Unite (parent (path_number s v)) (last_step (path_number s v)) (path_number s y) in
       form-right f h.there h.fits h.copies
-        (subst (λ p. IsTrue (are_apart (path_number s y) p)) (sym (path-front s v))
-          (part y (without_last v) (named f h.there (path_number s y) (inr (inr (inl refl)))) (front v (named f h.there (parent (path_number s v)) (inl refl))) h.parts))
+      (subst (λ p. IsTrue (are_apart (path_number s y) p)) (sym (path-front s v))
+      (part y (without_last v) (named f h.there (path_number s y) (inr (inr (inl refl)))) (front v (named f h.there (parent (path_number s v)) (inl refl))) h.parts))
   statement-right l (TwoPaths Dissolve v y) h =
       let f : model.Form = model.Dissolve (parent (path_number s v)) (last_step (path_number s v)) (path_number s y) in
       form-right f h.there h.fits h.copies
-        (subst (λ p. IsTrue (are_apart p (path_number s y))) (sym (path-front s v))
-          (part (without_last v) y (front v (named f h.there (parent (path_number s v)) (inl refl))) (named f h.there (path_number s y) (inr (inr (inl refl)))) h.parts))
+      (subst (λ p. IsTrue (are_apart p (path_number s y))) (sym (path-front s v))
+      (part (without_last v) y (front v (named f h.there (parent (path_number s v)) (inl refl))) (named f h.there (path_number s y) (inr (inr (inl refl)))) h.parts))
   statement-right l (TwoPaths Wrap y p) h =
       let f : model.Form = model.Wrap (path_number s y) (path_number s p) in
       form-right f h.there h.fits h.copies (part y p (named f h.there (path_number s y) (inl refl)) (named f h.there (path_number s p) (inr (inl refl))) h.parts)
@@ -170,8 +170,8 @@ module _ (s : Scope) (processes : List model.Process) (ok : IsSettled s processe
       let f : model.Form = model.Call (path_number s o) (map (atom_number s) arguments) in
       let ps : List Parameter = call_parameters s.known.shapes s.types (path_number s o) in
       form-right f h.there h.fits h.copies
-        (subst AreApart (sym (set-numbers s ps arguments))
-          (all-apart s ok.well ok.same ok.known (set_arguments ps arguments) (λ p i. named f h.there (path_number s p) (inr (set-among s ps arguments p i))) h.parts))
+      (subst AreApart (sym (set-numbers s ps arguments))
+      (all-apart s ok.well ok.same ok.known (set_arguments ps arguments) (λ p i. named f h.there (path_number s p) (inr (set-among s ps arguments p i))) h.parts))
   statement-right l (Return m) h = form-right (model.Return (path_number s m)) h.there h.fits h.copies tt
   statement-right l (ReturnBy m name) h = form-right (model.ReturnBy (path_number s m) (exception_number s.known name)) h.there h.fits h.copies tt
   statement-right l (Create o name) h = form-right (model.Create (path_number s o) (process_number s name)) h.there h.fits h.copies tt
@@ -181,15 +181,15 @@ module _ (s : Scope) (processes : List model.Process) (ok : IsSettled s processe
       let cs : List ℕ = map (part_number s.known (type_seen s (path_number s v))) (arm_names arms) in
       let f : model.Form = model.Case (path_number s v) cs in
       form-right f h.there (and-both (fits_form s.known.shapes s.types s.ports f) _ h.fits).0 h.copies
-        (case-differ (path_number s v) (arm_names arms) (named f h.there (path_number s v) (inl refl))
-          (λ n i. named f h.there (path_number s v ++ (part_number s.known (type_seen s (path_number s v)) n ∷ [])) (inr (in-map (λ c. path_number s v ++ (c ∷ [])) _ cs (in-map (part_number s.known (type_seen s (path_number s v))) n (arm_names arms) i))))
-          (not-twice _ h.once))
+      (case-differ (path_number s v) (arm_names arms) (named f h.there (path_number s v) (inl refl))
+      (λ n i. named f h.there (path_number s v ++ (part_number s.known (type_seen s (path_number s v)) n ∷ [])) (inr (in-map (λ c. path_number s v ++ (c ∷ [])) _ cs (in-map (part_number s.known (type_seen s (path_number s v))) n (arm_names arms) i))))
+      (not-twice _ h.once))
   statement-right l (For r t body) h = form-right (model.For (path_number s r) (path_number s t)) h.there h.fits h.copies tt
   statement-right l (Select arms) h =
       let f : model.Form = model.Select (arm_forms s arms) in
       form-right f h.there (and-both (fits_form s.known.shapes s.types s.ports f) _ h.fits).0 h.copies
-        (subst Differ (sym (port-numbers s arms))
-          (ports-differ s ok.well ok.same ok.known (ports_of arms) (λ p i. named f h.there (path_number s p) (ports-among s arms p i)) (not-twice _ h.once)))
+      (subst Differ (sym (port-numbers s arms))
+      (ports-differ s ok.well ok.same ok.known (ports_of arms) (λ p i. named f h.there (path_number s p) (ports-among s arms p i)) (not-twice _ h.once)))
   statement-right l (If e body other) h =
       let f : model.Form = model.If (expression_number s e) in
       form-right f h.there (and-both (fits_form s.known.shapes s.types s.ports f) _ h.fits).0 h.copies tt
@@ -228,9 +228,9 @@ module _ (s : Scope) (processes : List model.Process) (ok : IsSettled s processe
   keeps-different l (Try body arms) h =
       let k = keeps-known l (statement_number s (Try body arms)) h.there in
       subst Differ (sym (handled-names s arms))
-        (names-differ (arm_names arms) s.known.exceptions
-          (λ n i. k (exception_number s.known n) (subst (λ es. IsIn (exception_number s.known n) es) (sym (handled-names s arms)) (in-map (exception_number s.known) n (arm_names arms) i)))
-          (not-twice _ h.once))
+      (names-differ (arm_names arms) s.known.exceptions
+      (λ n i. k (exception_number s.known n) (subst (λ es. IsIn (exception_number s.known n) es) (sym (handled-names s arms)) (in-map (exception_number s.known) n (arm_names arms) i)))
+      (not-twice _ h.once))
   keeps-different l (Assign x e) h = tt
   keeps-different l (TwoPaths t p q) h = tt
   keeps-different l (OnePath t p) h = tt

@@ -1,21 +1,20 @@
 -- In a well-formed table, with variables of known types: what the tests say of paths and expressions that are there.
-use Rattle.std.proofs.Common.{◌≡◌, ◌↔◌, ℕ, zero, suc, ◌+◌, ◌<◌, ◌≤◌, List, [], ◌∷◌, ◌++◌, map, length, Bool, true, false, not, cond, ◌&&◌, ◌||◌, ◌⊎◌, inl, inr, nat_eq, nat_lt, Option, Some, None, is_some, slice_get, option_and_then, IsTrue, IsFalse, refl, sym, ap, subst, ◌∙◌, arith, true≢false}
-use Rattle.herm_model.specs.Lists.{IsIn, every, some_of, with_some, range}
+use Rattle.std.proofs.Common.{◌≡◌, ℕ, List, [], ◌∷◌, map, length, Bool, true, false, not, ◌&&◌, ◌||◌, ◌⊎◌, inl, inr, nat_eq, nat_lt, Option, Some, None, is_some, slice_get, IsTrue, IsFalse, refl, sym, ap, subst, ◌∙◌, true≢false}
+use Rattle.herm_model.specs.Lists.{IsIn, with_some}
 use Rattle.herm_model.specs.Paths.{Path}
-use Rattle.herm_model.specs.Types.{Parameter, Raised, TypeTable, Shape, boolean, integer, text, polymorph, names, fields, cases, rows, inport, outport, callmessage, named_types, part_type, part_of, type_below, type_at, passes_component, greatest_depth, IsCopyable, is_copyable_within}
-use Rattle.herm_model.specs.Typed.{is_integer, is_text}
-use Rattle.herm_model.specs.Expressions.{Literal, tag, Expression, literal, copy, negated, inverted, operation, size_of, decimal, length_of, Atom, path, Operator, either, both, equal, unequal, less, at_most, greater, at_least, plus, minus, times, divided, modulo, concatenated, paths_read}
-use Rattle.herm_model.specs.TypedExpressions.{is_boolean_shape, is_integer_shape, is_text_shape, takes, shape_given, passes_out, HasShape, IsLiteralOf, IsPathOf, IsTyped}
+use Rattle.herm_model.specs.Types.{Parameter, TypeTable, Shape, boolean, integer, text, names, fields, cases, rows, callmessage, named_types, part_type, part_of, type_below, type_at, greatest_depth, IsCopyable, is_copyable_within}
+use Rattle.herm_model.specs.Expressions.{Literal, tag, Expression, literal, copy, negated, inverted, operation, size_of, decimal, length_of, Operator, either, both, equal, unequal, less, at_most, greater, at_least, plus, minus, times, divided, modulo, concatenated, paths_read}
+use Rattle.herm_model.specs.TypedExpressions.{is_boolean_shape, is_integer_shape, is_text_shape, takes, shape_given, HasShape, IsLiteralOf, IsPathOf, IsTyped}
 use Rattle.herm_model.specs.TypingTests.{number_of_shape}
 use Rattle.herm_model.specs.WellFormedTables.{IsType, IsWellFormedTable}
-use Rattle.herm_model.proofs.Lists.{not_true, and-both, or-either, every-in, in-append_left, in-append_right}
-use Rattle.herm_model.proofs.Options.{some-injective, none-not_some, chain-some, map-some}
+use Rattle.herm_model.proofs.Lists.{not_true, and-both, or-either, in-append_left, in-append_right}
+use Rattle.herm_model.proofs.Options.{none-not_some, map-some}
 use Rattle.herm_model.proofs.FactTests.{got-IsIn}
 use Rattle.herm_model.proofs.Deciding.{numbers-decide, below-decides}
 use Rattle.herm_model.proofs.DecidedTables.{copyable-decides, below-type}
 use Rattle.herm_model.proofs.DecidedForms.{IsRegular, well_formed-regular}
 use Rattle.herm_naming.specs.Known.{may_have_value, is_known, is_literal_there, are_parts_there, is_there, literals_in}
-use Rattle.herm_naming.specs.Fits.{is_names_shape, is_rows_shape, may_be, when_known, may_equal, fits_literal, literal_gives, type_of, is_seen, is_own, gives, is_fit}
+use Rattle.herm_naming.specs.Fits.{is_names_shape, is_rows_shape, may_be, when_known, may_equal, fits_literal, literal_gives, type_of, is_seen, gives, is_fit}
 use Rattle.herm_naming.specs.Copies.{copied, may_copy}
 
 pub has-some : {X : Type 0} (o : Option X) → IsTrue (is_some o) → (x : X) × (o ≡ Some x)
@@ -90,8 +89,8 @@ module _ (exceptions : ℕ) (table : TypeTable) (well : IsWellFormedTable except
   pub equal-types : (t u : ℕ) → IsType table t → IsType table u → IsTrue (may_equal table (Some t) (Some u)) → t ≡ u
   equal-types t u k l m =
       let a : IsTrue (with_some true (λ x. with_some true (nat_eq x) (Some u)) (Some t)) =
-              subst (λ o. IsTrue (with_some true (λ x. with_some true (nat_eq x) o) (Some t))) (known-is u l)
-                (subst (λ o. IsTrue (with_some true (λ x. with_some true (nat_eq x) (when_known table (Some u))) o)) (known-is t k) m) in
+      subst (λ o. IsTrue (with_some true (λ x. with_some true (nat_eq x) o) (Some t))) (known-is u l)
+      (subst (λ o. IsTrue (with_some true (λ x. with_some true (nat_eq x) (when_known table (Some u))) o)) (known-is t k) m) in
       (numbers-decide t u).0 a
 
   pub copy-type : (t : ℕ) → IsType table t → IsTrue (may_copy table (Some t)) → IsCopyable table t

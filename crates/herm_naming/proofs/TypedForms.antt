@@ -1,25 +1,25 @@
 -- A form whose names are there, whose types fit, which copies what may be copied and whose paths are apart is typed.
-use Rattle.std.proofs.Common.{◌≡◌, ◌↔◌, ℕ, zero, suc, ◌+◌, ◌<◌, ◌≤◌, List, [], ◌∷◌, ◌++◌, map, flat_map, length, Bool, true, false, not, cond, ◌&&◌, ◌||◌, ◌⊎◌, inl, inr, nat_eq, nat_lt, Option, Some, None, is_some, slice_get, option_and_then, IsTrue, IsFalse, refl, sym, ap, subst, ◌∙◌, arith, true≢false}
+use Rattle.std.proofs.Common.{◌≡◌, ℕ, List, [], ◌∷◌, ◌++◌, map, length, Bool, true, false, cond, ◌&&◌, ◌||◌, inl, inr, nat_eq, Option, Some, None, is_some, slice_get, option_and_then, IsTrue, refl, sym, ap, subst, ◌∙◌}
 use Rattle.std.specs.Bool.{⊤}
 use Rattle.herm_model.specs.Lists.{IsIn, every, some_of, with_some, list_of, range}
 use Rattle.herm_model.specs.Paths.{Path, Fact, are_apart}
-use Rattle.herm_model.specs.Types.{Mode, by_in, by_inout, by_out, Parameter, Raised, TypeTable, Shape, boolean, polymorph, fields, cases, rows, inport, outport, callmessage, is_cases, part_type, part_of, type_below, type_at, passes_component, IsCopyable}
-use Rattle.herm_model.specs.Expressions.{Literal, Expression, Atom, path, paths_read, paths_among}
+use Rattle.herm_model.specs.Types.{Mode, by_in, by_inout, by_out, Parameter, Raised, TypeTable, Shape, boolean, polymorph, fields, cases, rows, inport, outport, callmessage, is_cases, part_type, part_of, type_below, type_at}
+use Rattle.herm_model.specs.Expressions.{Literal, Expression, Atom, path, paths_among}
 use Rattle.herm_model.specs.Calls.{led_to, message_type, parameters_of, call_parameters, arguments_by}
 use Rattle.herm_model.specs.Statements.{Form, Assign, Move, New, Discard, Unite, Dissolve, Reveal, Case, Wrap, Unwrap, Insert, Remove, Get, For, Connect, Send, Receive, Select, Call, Return, ReturnBy, Create, If, While, Raise, Leave, Arm, Process, Differ}
 use Rattle.herm_model.specs.StatementTable.{set_by_call}
-use Rattle.herm_model.specs.TypedExpressions.{HasShape, IsPathOf, IsTyped}
+use Rattle.herm_model.specs.TypedExpressions.{HasShape, IsTyped}
 use Rattle.herm_model.specs.WellFormedTables.{IsType, IsWellFormedTable}
-use Rattle.herm_model.specs.TypedStatements.{can_be_new, AreApart, port_type, IsLookedAt, IsTarget, IsTypedAtom, IsArgument, AreArguments, AreKeysOf, IsTableOf, IsFound, IsReceived, IsTypedForm}
-use Rattle.herm_model.proofs.Lists.{not_true, and-both, or-either, every-in, in-map, in-append_left, in-append_right, in-flat_map}
-use Rattle.herm_model.proofs.Options.{some-injective, none-not_some}
+use Rattle.herm_model.specs.TypedStatements.{can_be_new, AreApart, port_type, IsLookedAt, IsTarget, IsTypedAtom, IsArgument, AreArguments, AreKeysOf, IsReceived, IsTypedForm}
+use Rattle.herm_model.proofs.Lists.{not_true, and-both, every-in, in-map, in-flat_map}
+use Rattle.herm_model.proofs.Options.{none-not_some}
 use Rattle.herm_model.proofs.FactTests.{got-IsIn}
 use Rattle.herm_model.proofs.Deciding.{numbers-decide, below-decides, range-decides}
 use Rattle.herm_model.proofs.DecidedTables.{below-type, type-below}
-use Rattle.herm_naming.specs.Known.{paths_named, literals_in, literals_among, literals_named, is_literal_there, is_there, is_type, is_other_there, is_form_there}
-use Rattle.herm_naming.specs.Fits.{is_polymorph_shape, is_rows_shape, is_callmessage_shape, has_every_arm, may_raise, field_types, is_in_mode, may_be, may_equal, may_hold, may_have_rows, may_lead, may_give, may_take, fits_literal, literal_gives, type_of, is_seen, is_own, gives, is_fit, atom_gives, is_fit_atom, are_keys, may_have_keys, is_set_atom, is_argument, are_arguments, has_parameters, gives_parameters, takes_parameters, fits_arm, fits_row, fits_keys, fits_test, fits_form}
+use Rattle.herm_naming.specs.Known.{paths_named, literals_among, literals_named, is_literal_there, is_there, is_other_there, is_form_there}
+use Rattle.herm_naming.specs.Fits.{is_polymorph_shape, is_callmessage_shape, has_every_arm, may_raise, field_types, is_in_mode, may_be, may_equal, may_hold, may_have_rows, may_lead, may_give, may_take, literal_gives, is_seen, is_own, gives, is_fit, atom_gives, is_fit_atom, are_keys, may_have_keys, is_set_atom, is_argument, are_arguments, has_parameters, gives_parameters, takes_parameters, fits_arm, fits_row, fits_keys, fits_test, fits_form}
 use Rattle.herm_naming.specs.Copies.{copied, may_copy, may_copy_rows, may_copy_each, copies_form}
-use Rattle.herm_naming.proofs.Settled.{has-some, not-false, shape-type, type-shape, named-type, may-shape, equal-types, copy-type, boolean-type, has-boolean, parts-lead, path-type, seen-path, literal-type, Passes, expression-type}
+use Rattle.herm_naming.proofs.Settled.{has-some, not-false, shape-type, named-type, may-shape, equal-types, copy-type, boolean-type, has-boolean, path-type, seen-path, literal-type, Passes, expression-type}
 
 -- what is asked of the paths of a form beside their types
 abbrev pub IsApartForm : TypeTable → List ℕ → Form → Type 0
@@ -212,13 +212,15 @@ module _ (exceptions : ℕ) (table : TypeTable) (well : IsWellFormedTable except
     arguments-typed [] (a ∷ atoms) each h m k = not_true k
     arguments-typed (p ∷ ps) [] each h m k = not_true k
     arguments-typed (p ∷ ps) (Atom.literal l ∷ atoms) each h m k =
-        let c = and-both (is_argument table types p (Atom.literal l)) _ k in
-        (argument-typed p.mode p.content (Atom.literal l) atoms (each p (inl refl)) h (λ q e i. let b : ⊥ = cc e in absurd b) c.0,
-        arguments-typed ps atoms (λ q i. each q (inr i)) (tail-pass (Atom.literal l) atoms h) m c.1)
+        let c = and-both (is_argument table types p (Atom.literal l)) _ k in (
+          argument-typed p.mode p.content (Atom.literal l) atoms (each p (inl refl)) h (λ q e i. let b : ⊥ = cc e in absurd b) c.0,
+          arguments-typed ps atoms (λ q i. each q (inr i)) (tail-pass (Atom.literal l) atoms h) m c.1,
+        )
     arguments-typed (p ∷ ps) (path q ∷ atoms) each h m k =
-        let c = and-both (is_argument table types p (path q)) _ k in
-        (argument-typed p.mode p.content (path q) atoms (each p (inl refl)) h (λ r e i. m r (first r e i)) c.0,
-        arguments-typed ps atoms (λ q i. each q (inr i)) (tail-pass (path q) atoms h) (λ r i. m r (in-tail (is_in_mode p.mode) r q _ i)) c.1)
+        let c = and-both (is_argument table types p (path q)) _ k in (
+          argument-typed p.mode p.content (path q) atoms (each p (inl refl)) h (λ r e i. m r (first r e i)) c.0,
+          arguments-typed ps atoms (λ q i. each q (inr i)) (tail-pass (path q) atoms h) (λ r i. m r (in-tail (is_in_mode p.mode) r q _ i)) c.1,
+        )
       where
         first : (r : Path) → path q ≡ path r → IsTrue (is_in_mode p.mode) → IsIn r (cond (is_in_mode p.mode) (q ∷ arguments_by is_in_mode ps atoms) (arguments_by is_in_mode ps atoms))
         first r e i = let d : r ≡ q = cc e in subst (λ b. IsIn r (cond b (q ∷ arguments_by is_in_mode ps atoms) (arguments_by is_in_mode ps atoms))) (sym i) (inl d)
@@ -290,7 +292,7 @@ module _ (exceptions : ℕ) (table : TypeTable) (well : IsWellFormedTable except
           let c = and-both (every (is_fit_atom table types) keys) _ f in
           let k = well.keys b (rows row key) s in
           let d : IsTrue (are_keys table types (list_of field_types (slice_get table row)) key keys) =
-                  subst (λ o. IsTrue (with_some true (may_have_keys table types keys) o)) s (at-type (may_have_keys table types keys) t b e c.1) in
+          subst (λ o. IsTrue (with_some true (may_have_keys table types keys) o)) s (at-type (may_have_keys table types keys) t b e c.1) in
           let g : IsTrue (are_keys table types k.0 key keys) = subst (λ o. IsTrue (are_keys table types (list_of field_types o) key keys)) k.1 d in
           (k.0, k.1, keys-typed k.0 key keys (λ i j. let q = k.3 i j in (q.0, q.2, shape-type exceptions table well q.0 q.1 q.3)) h (λ p i. every-in (λ p. may_copy table (type_at table types p)) p (paths_among keys) m i) g)
 
@@ -391,11 +393,18 @@ module _ (exceptions : ℕ) (table : TypeTable) (well : IsWellFormedTable except
           let a = at (Case v cs) h v (inl refl) in
           let s = may-shape exceptions table well (has_every_arm cs) a.0 a.2 (at-type (has_every_arm cs) v a.0 a.1 g.1) in
           let k = arms-are cs s.0 s.2 in
-          let d : HasShape table a.0 (cases k.0) = subst (λ x. HasShape table a.0 x) k.1 s.1 in
-          (a.0, k.0, seen v a.0 a.1 g.0, d, h.apart,
-          λ c. (λ i. let w = component-type v c a.0 k.0 a.1 d (there-path (Case v cs) h (v ++ (c ∷ [])) (inr (in-map (λ c. v ++ (c ∷ [])) c cs i))) in
-                     type-below k.0 c (subst (λ o. IsTrue (is_some o)) (sym w.1) refl),
-               λ l. member-in c cs ((range-decides (λ c. some_of (nat_eq c) cs) (λ c. IsTrue (some_of (nat_eq c) cs)) (λ c. ((λ x. x), λ x. x)) (length k.0)).0 k.2 c l)))
+          let d : HasShape table a.0 (cases k.0) = subst (λ x. HasShape table a.0 x) k.1 s.1 in (
+            a.0,
+            k.0,
+            seen v a.0 a.1 g.0,
+            d,
+            h.apart,
+            λ c. (
+              λ i. let w = component-type v c a.0 k.0 a.1 d (there-path (Case v cs) h (v ++ (c ∷ [])) (inr (in-map (λ c. v ++ (c ∷ [])) c cs i))) in
+                  type-below k.0 c (subst (λ o. IsTrue (is_some o)) (sym w.1) refl),
+              λ l. member-in c cs ((range-decides (λ c. some_of (nat_eq c) cs) (λ c. IsTrue (some_of (nat_eq c) cs)) (λ c. ((λ x. x), λ x. x)) (length k.0)).0 k.2 c l),
+            ),
+          )
       form-typed (Wrap y p) h =
           let g = and-both (is_own table types y && is_own table types p) _ h.fits in
           let d = and-both (is_own table types y) _ g.0 in
@@ -455,21 +464,28 @@ module _ (exceptions : ℕ) (table : TypeTable) (well : IsWellFormedTable except
           let q = same-type (type_at table types x) m.0 a.0 a.1 (named-message s.0 m.0 m.1 m.2) a.2 m.3 in
           (m.0, (b.0, s.0, m.1, seen o b.0 b.1 d.1, s.1, m.2), subst (λ u. IsTarget table types x u) (sym q) (own-path x a.0 a.1 d.0))
       form-typed (Receive x i) h = arm-typed x i (there-path (Receive x i) h x (inl refl)) (there-path (Receive x i) h i (inr (inl refl))) h.fits
-      form-typed (Select arms) h =
-          (h.apart, λ a i. arm-typed a.target a.port
-              (there-path (Select arms) h a.target (in-flat_map (λ (a : Arm). a.port ∷ a.target ∷ []) a a.target arms i (inr (inl refl))))
-              (there-path (Select arms) h a.port (in-flat_map (λ (a : Arm). a.port ∷ a.target ∷ []) a a.port arms i (inl refl)))
-              (every-in (fits_arm table types) a arms h.fits i))
+      form-typed (Select arms) h = (
+        h.apart,
+        λ a i. arm-typed a.target a.port
+            (there-path (Select arms) h a.target (in-flat_map (λ (a : Arm). a.port ∷ a.target ∷ []) a a.target arms i (inr (inl refl))))
+            (there-path (Select arms) h a.port (in-flat_map (λ (a : Arm). a.port ∷ a.target ∷ []) a a.port arms i (inl refl)))
+            (every-in (fits_arm table types) a arms h.fits i),
+      )
       form-typed (Call o arguments) h =
           let g = and-both (is_seen table types o && every (is_fit_atom table types) arguments) _ h.fits in
           let d = and-both (is_seen table types o) _ g.0 in
           let a = at (Call o arguments) h o (inl refl) in
           let s = called-is o a.0 arguments a.1 a.2 (at-type (takes_parameters table types arguments) o a.0 a.1 g.1) in
-          let e = call-parameters o a.0 s.0 s.1 s.2 s.3 s.4 a.1 s.5 s.6 s.7 in
-          (s.1, s.3, s.4, (a.0, s.0, s.2, seen o a.0 a.1 d.0, s.5, s.6), s.7,
-          arguments-typed s.3 arguments (parameter-known s.1 s.3 s.4 s.7) (record { paths = λ p i. there-path (Call o arguments) h p (inr i); literals = λ l i. there-literal (Call o arguments) h l i; fits = d.1 })
-            (λ p i. each-copied (arguments_by is_in_mode (call_parameters table types o) arguments) h.copies p (subst (λ ps. IsIn p (arguments_by is_in_mode ps arguments)) (sym e) i)) s.8,
-          h.apart)
+          let e = call-parameters o a.0 s.0 s.1 s.2 s.3 s.4 a.1 s.5 s.6 s.7 in (
+            s.1,
+            s.3,
+            s.4,
+            (a.0, s.0, s.2, seen o a.0 a.1 d.0, s.5, s.6),
+            s.7,
+            arguments-typed s.3 arguments (parameter-known s.1 s.3 s.4 s.7) (record { paths = λ p i. there-path (Call o arguments) h p (inr i); literals = λ l i. there-literal (Call o arguments) h l i; fits = d.1 })
+                (λ p i. each-copied (arguments_by is_in_mode (call_parameters table types o) arguments) h.copies p (subst (λ ps. IsIn p (arguments_by is_in_mode ps arguments)) (sym e) i)) s.8,
+            h.apart,
+          )
       form-typed (Return m) h =
           let g = and-both (is_own table types m) _ h.fits in
           let a = at (Return m) h m (inl refl) in

@@ -1,8 +1,8 @@
 -- Modules without a refusal mean a typed program.
-use Rattle.std.proofs.Common.{◌≡◌, ◌↔◌, ℕ, zero, suc, ◌+◌, ◌<◌, ◌≤◌, List, [], ◌∷◌, ◌++◌, map, length, Bool, true, false, not, cond, ◌&&◌, ◌||◌, ◌⊎◌, inl, inr, nat_eq, nat_lt, Option, Some, None, is_some, slice_get, option_and_then, option_map, length-append, IsTrue, IsFalse, refl, sym, ap, ap₂, subst, ◌∙◌, arith, true≢false}
+use Rattle.std.proofs.Common.{◌≡◌, ℕ, zero, suc, ◌+◌, ◌<◌, ◌≤◌, List, [], ◌∷◌, ◌++◌, map, length, Bool, true, false, not, cond, ◌&&◌, ◌||◌, ◌⊎◌, inl, inr, nat_lt, Option, Some, None, is_some, slice_get, option_and_then, option_map, length-append, IsTrue, IsFalse, refl, sym, ap, ap₂, subst, ◌∙◌, arith, true≢false}
 use Rattle.std.specs.Str.{bytes_eq}
 use Rattle.std.proofs.lemmas.Slice.Eq.{bytes_eq-Decides}
-use Rattle.herm_model.specs.Lists.{IsIn, every, some_of, with_some}
+use Rattle.herm_model.specs.Lists.{IsIn, some_of, with_some}
 use Rattle.herm_model.specs.Types.{TypeTable, Shape, inport, all_parts, variable_paths}
 use Rattle.herm_model.specs.Paths.{Fact}
 use Rattle.herm_model.specs.Statements as model
@@ -14,23 +14,22 @@ use Rattle.herm_model.specs.TypedExpressions.{HasShape}
 use Rattle.herm_model.specs.WellFormedTables.{IsType}
 use Rattle.herm_model.specs.TypedStatements.{port_type, IsTypedForm}
 use Rattle.herm_model.specs.TypedPrograms.{greatest_statements, greatest_variable_paths, main_start, HasArms, HasHandlers, HasDifferentHandlers, HandlesKnown, LeavesLoop, Placed, placed, placed_in, placed_in_blocks, placed_in_handlers, OfEachStatement, IsTypedProcess, IsTypedProgram}
-use Rattle.herm_model.proofs.Lists.{not_true, cons-not_nil, and-both, every-in, in-every, in-map, in-map_from, in-append_left, in-append_right, in-append_cases, slice_get-map, length-map}
-use Rattle.herm_model.proofs.Options.{some-injective, none-not_some}
+use Rattle.herm_model.proofs.Lists.{not_true, cons-not_nil, and-both, or-either, every-in, in-every, in-map, in-map_from, in-append_left, in-append_right, in-append_cases, slice_get-map, length-map}
 use Rattle.herm_model.proofs.FactTests.{got-IsIn}
 use Rattle.herm_model.proofs.Deciding.{numbers-decide, below-decides, member-decides}
 use Rattle.herm_model.proofs.NodeNumbers.{process_numbers-range, process_forms}
 use Rattle.std.proofs.Common.{◌-◌}
 use Rattle.herm_model.proofs.DecidedTables.{below-type}
 use Rattle.herm_alphabet.specs.Letters.{keyword_of}
-use Rattle.herm_syntax.specs.Trees.{Letters, Field, Statement, Statements, Module}
+use Rattle.herm_syntax.specs.Trees.{Letters, Field, Statement, Module}
 use Rattle.herm_meaning.specs.Names.{NamedTable, IsWellNamed}
 use Rattle.herm_naming.specs.Numbers.{place_of, Scope, type_number}
 use Rattle.herm_naming.specs.Meaning.{ProcessText, processes_in, declarations, scope_of, process_meaning, meaning, main_name, main_number, statement_number, block_number}
 use Rattle.herm_naming.specs.Known.{is_type}
 use Rattle.herm_naming.specs.Fits.{may_be}
-use Rattle.herm_naming.specs.Faults.{Code, unknown, twice, wrong_type, not_copyable, unreachable, no_main, too_many, first_code, statement_code, in_body, statement_codes, is_among, is_inport_shape, declaration_code, variable_codes, is_too_large, name_code, process_codes}
-use Rattle.herm_naming.specs.Refusals.{IsUnreached, MarksUnreached, at_places, Places, all_places, are_none, RefusesUnreached, RefusesBy, RefusesProcess, RefusesProcesses, is_main, main_refusals, AreRefusals, IsPlaced, ArePlaced}
-use Rattle.herm_naming.proofs.Settled.{has-some, not-false}
+use Rattle.herm_naming.specs.Faults.{Code, twice, unreachable, no_main, too_many, first_code, statement_code, in_body, statement_codes, is_among, is_inport_shape, declaration_code, variable_codes, is_too_large, name_code, process_codes}
+use Rattle.herm_naming.specs.Refusals.{MarksUnreached, at_places, Places, all_places, are_none, RefusesBy, RefusesProcess, RefusesProcesses, is_main, main_refusals, AreRefusals, IsPlaced, ArePlaced}
+use Rattle.herm_naming.proofs.Settled.{has-some}
 use Rattle.herm_naming.proofs.Bodies.{placed_number, body-placed, body-count}
 use Rattle.herm_naming.proofs.KeptRules.{IsSettled, IsFaultless, faultless, OfForm, statement-right, keeps-arms, keeps-handlers, keeps-known, keeps-leaves, keeps-different, well-body}
 
@@ -58,29 +57,29 @@ module _ (P : model.Form → Type 0) where
     forms-each l model.leaving h f (inr i) = absurd i
     forms-each l (model.trying b hs) h f i =
         two (forms_of_block b) (forms_of_handlers hs) f i
-          (block-each l b (λ y j. h y (inr (in-append_left y (placed_in l b) (placed_in_handlers l hs) j))) f)
-          (handlers-each l hs (λ y j. h y (inr (in-append_right y (placed_in l b) (placed_in_handlers l hs) j))) f)
+        (block-each l b (λ y j. h y (inr (in-append_left y (placed_in l b) (placed_in_handlers l hs) j))) f)
+        (handlers-each l hs (λ y j. h y (inr (in-append_right y (placed_in l b) (placed_in_handlers l hs) j))) f)
 
     pub block-each : (l : Bool) (b : model.Block) → Each (placed_in l b) → (f : model.Form) → IsIn f (forms_of_block b) → P f
     block-each l model.no_statements h f i = absurd i
     block-each l (model.statement y rest) h f i =
         two (forms_of y) (forms_of_block rest) f i
-          (forms-each l y (λ z j. h z (in-append_left z (placed l y) (placed_in l rest) j)) f)
-          (block-each l rest (λ z j. h z (in-append_right z (placed l y) (placed_in l rest) j)) f)
+        (forms-each l y (λ z j. h z (in-append_left z (placed l y) (placed_in l rest) j)) f)
+        (block-each l rest (λ z j. h z (in-append_right z (placed l y) (placed_in l rest) j)) f)
 
     blocks-each : (l : Bool) (bs : model.Blocks) → Each (placed_in_blocks l bs) → (f : model.Form) → IsIn f (forms_of_blocks bs) → P f
     blocks-each l model.no_blocks h f i = absurd i
     blocks-each l (model.block b rest) h f i =
         two (forms_of_block b) (forms_of_blocks rest) f i
-          (block-each l b (λ z j. h z (in-append_left z (placed_in l b) (placed_in_blocks l rest) j)) f)
-          (blocks-each l rest (λ z j. h z (in-append_right z (placed_in l b) (placed_in_blocks l rest) j)) f)
+        (block-each l b (λ z j. h z (in-append_left z (placed_in l b) (placed_in_blocks l rest) j)) f)
+        (blocks-each l rest (λ z j. h z (in-append_right z (placed_in l b) (placed_in_blocks l rest) j)) f)
 
     handlers-each : (l : Bool) (hs : model.Handlers) → Each (placed_in_handlers l hs) → (f : model.Form) → IsIn f (forms_of_handlers hs) → P f
     handlers-each l model.no_handlers h f i = absurd i
     handlers-each l (model.handler e b rest) h f i =
         two (forms_of_block b) (forms_of_handlers rest) f i
-          (block-each l b (λ z j. h z (in-append_left z (placed_in l b) (placed_in_handlers l rest) j)) f)
-          (handlers-each l rest (λ z j. h z (in-append_right z (placed_in l b) (placed_in_handlers l rest) j)) f)
+        (block-each l b (λ z j. h z (in-append_left z (placed_in l b) (placed_in_handlers l rest) j)) f)
+        (handlers-each l rest (λ z j. h z (in-append_right z (placed_in l b) (placed_in_handlers l rest) j)) f)
 
 -- no refusal is no code
 none-at : {P : Type 0} (places : List P) (codes : List (Option Code)) → length places ≡ length codes → at_places places codes ≡ [] → IsTrue (are_none codes)
@@ -198,7 +197,7 @@ module _ (known : NamedTable) (all : List ProcessText) where
   places-count before p places h =
       let a : length (places.declared ++ places.statements) ≡ length places.declared + length places.statements = length-append places.declared places.statements in
       let b : length (variable_codes known (p.port.0 ∷ []) p.variables ++ statement_codes (scope_of known all p) p.body) ≡ length (variable_codes known (p.port.0 ∷ []) p.variables) + length (statement_codes (scope_of known all p) p.body) =
-              length-append (variable_codes known (p.port.0 ∷ []) p.variables) (statement_codes (scope_of known all p) p.body) in
+      length-append (variable_codes known (p.port.0 ∷ []) p.variables) (statement_codes (scope_of known all p) p.body) in
       let c : length (variable_codes known (p.port.0 ∷ []) p.variables) ≡ length p.variables = count-codes known (p.port.0 ∷ []) p.variables in
       let d : length (statement_codes (scope_of known all p) p.body) ≡ numbers_of_block (process_meaning known all p).body = count-statements p ∙ body-count (scope_of known all p) p.body in
       let e : length places.declared ≡ suc (length p.variables) = h.0 in
@@ -228,9 +227,10 @@ module _ (known : NamedTable) (all : List ProcessText) where
   each-fresh before (q ∷ ps) (x ∷ places) l h =
       let n = none-both h.0 h.1 h.4 in
       let r = each-fresh (before ++ (q.name ∷ [])) ps places l.1 (subst (λ rs. RefusesProcesses known all (before ++ (q.name ∷ [])) ps places rs) n.1 h.3) in
-      let c = none-codes before q x (places-count before q x l.0) (subst (λ rs. RefusesProcess known all before q x rs) n.0 h.2) in
-      ((λ i. r.1 q.name i (in-append_right q.name before (q.name ∷ []) (inl refl)), r.0),
-      λ m i j. later before q ps m c (r.1 m) i j)
+      let c = none-codes before q x (places-count before q x l.0) (subst (λ rs. RefusesProcess known all before q x rs) n.0 h.2) in (
+        (λ i. r.1 q.name i (in-append_right q.name before (q.name ∷ []) (inl refl)), r.0),
+        λ m i j. later before q ps m c (r.1 m) i j,
+      )
     where
       none-codes : {P : Type 0} (before : List Letters) (p : ProcessText) (places : Places P) → length (all_places places) ≡ length (process_codes known all before p) → RefusesProcess known all before p places [] → IsTrue (are_none (process_codes known all before p))
       none-codes before p places l h = by (are_none (process_codes known all before p)) refl h
@@ -291,9 +291,9 @@ module _ (known : NamedTable) (all : List ProcessText) where
     each-faultless : (p : ProcessText) → IsAccepted known all p → (x : Bool × Statement) → IsIn x (in_body false p.body) → IsFaultless (scope_of known all p) x.0 x.1
     each-faultless p a x i =
         faultless (scope_of known all p) x.0 x.1
-          (none-in (process_codes known all a.before p) a.none _
-            (inr (inr (in-append_right (statement_code (scope_of known all p) x.0 x.1) (variable_codes known (p.port.0 ∷ []) p.variables) (statement_codes (scope_of known all p) p.body)
-              (in-map (λ (x : Bool × Statement). statement_code (scope_of known all p) x.0 x.1) x (in_body false p.body) i)))))
+        (none-in (process_codes known all a.before p) a.none _
+        (inr (inr (in-append_right (statement_code (scope_of known all p) x.0 x.1) (variable_codes known (p.port.0 ∷ []) p.variables) (statement_codes (scope_of known all p) p.body)
+        (in-map (λ (x : Bool × Statement). statement_code (scope_of known all p) x.0 x.1) x (in_body false p.body) i)))))
 
     -- what holds of the statements by their names holds of those by their numbers
     of-each : (p : ProcessText) → (Q : Bool → model.Statement → Type 0) → ((x : Bool × Statement) → IsIn x (in_body false p.body) → Q x.0 (statement_number (scope_of known all p) x.1)) → OfEachStatement (process_meaning known all p) Q
@@ -314,17 +314,105 @@ module _ (known : NamedTable) (all : List ProcessText) where
       handlers_known = of-each p (λ l y. HandlesKnown (length known.exceptions) y) (λ x i. keeps-known s ps ok x.0 (statement_number s x.1) (each-faultless p a x i).there);
       leaves = of-each p LeavesLoop (λ x i. keeps-leaves s ps ok x.0 (statement_number s x.1) (each-faultless p a x i).there);
       typed = λ n i. block-each right false (block_number s p.body) (of-each p (λ l y. OfForm right y) (λ x j. statement-right s ps ok x.0 x.1 (each-faultless p a x j))) n.form
-                (subst (λ fs. IsIn n.form fs) (process_forms (process_meaning known all p)) (in-map (λ (n : Node). n.form) n (process_nodes (process_meaning known all p)) i));
+          (subst (λ fs. IsIn n.form fs) (process_forms (process_meaning known all p)) (in-map (λ (n : Node). n.form) n (process_nodes (process_meaning known all p)) i));
       reached = a.reached;
     }
       where
         s : Scope
         s = scope_of known all p
+
         ps : List model.Process
         ps = map (process_meaning known all) all
+
         ok : IsSettled s ps
         ok = settled p a
+
         right : model.Form → Type 0
         right f = IsTypedForm known.shapes s.types (length known.exceptions) ps f
+
         large : IsFalse (nat_lt greatest_statements (numbers_of_block (process_meaning known all p).body)) × IsFalse (nat_lt greatest_variable_paths (length (variable_paths all_parts known.shapes (process_meaning known all p).variables)))
         large = not-either _ _ (name-none known a.before p.name (process_meaning known all p) (none-in (process_codes known all a.before p) a.none (name_code known a.before p.name (process_meaning known all p)) (inl refl))).1
+
+-- where names differ, the process `main` is the one with its name
+main-at : (known : NamedTable) (ps : List ProcessText) → Differ (map (λ (q : ProcessText). q.name) ps) → IsTrue (some_of (is_main known) ps)
+    → slice_get (map (λ (q : ProcessText). type_number known q.port.1) ps) (place_of main_name (map (λ (q : ProcessText). q.name) ps)) ≡ Some main_start
+main-at known [] d h = not_true h
+main-at known (q ∷ ps) d h = by (bytes_eq main_name q.name) refl (or-either (is_main known q) (some_of (is_main known) ps) h) (λ k. main-at known ps d.1 k)
+  where
+    -- a later main would have the first one's name
+    named-main : (ps : List ProcessText) → IsTrue (some_of (is_main known) ps) → IsIn main_name (map (λ (q : ProcessText). q.name) ps)
+    named-main [] h = not_true h
+    named-main (r ∷ ps) h = either (or-either (is_main known r) (some_of (is_main known) ps) h) (λ k. named-main ps k)
+      where
+        either : IsTrue (is_main known r) ⊎ IsTrue (some_of (is_main known) ps) → (IsTrue (some_of (is_main known) ps) → IsIn main_name (map (λ (q : ProcessText). q.name) ps)) → IsIn main_name (map (λ (q : ProcessText). q.name) (r ∷ ps))
+        either (inl k) again = inl (sym ((bytes_eq-Decides r.name main_name).0 (and-both (bytes_eq r.name main_name) _ k).0))
+        either (inr k) again = inr (again k)
+
+    by : (b : Bool) → bytes_eq main_name q.name ≡ b → IsTrue (is_main known q) ⊎ IsTrue (some_of (is_main known) ps)
+        → (IsTrue (some_of (is_main known) ps) → slice_get (map (λ (q : ProcessText). type_number known q.port.1) ps) (place_of main_name (map (λ (q : ProcessText). q.name) ps)) ≡ Some main_start)
+        → slice_get (map (λ (q : ProcessText). type_number known q.port.1) (q ∷ ps)) (cond b 0 (suc (place_of main_name (map (λ (q : ProcessText). q.name) ps)))) ≡ Some main_start
+    by true e (inl k) again = ap Some ((numbers-decide (type_number known q.port.1) main_start).0 (and-both (bytes_eq q.name main_name) _ k).1)
+    by true e (inr k) again = absurd (d.0 (subst (λ n. IsIn n (map (λ (q : ProcessText). q.name) ps)) ((bytes_eq-Decides main_name q.name).0 e) (named-main ps k)))
+    by false e (inl k) again = absurd (true≢false (sym ((bytes_eq-Decides main_name q.name).1 (sym ((bytes_eq-Decides q.name main_name).0 (and-both (bytes_eq q.name main_name) _ k).0))) ∙ e))
+    by false e (inr k) again = again k
+
+main-there : {P : Type 0} (known : NamedTable) (all : List ProcessText) (nowhere : P) → main_refusals known all nowhere ≡ [] → IsTrue (some_of (is_main known) all)
+main-there {P} known all nowhere e = by (some_of (is_main known) all) e
+  where
+    by : (b : Bool) → cond {A = List (Code × P)} b [] ((no_main, nowhere) ∷ []) ≡ [] → IsTrue b
+    by true e = refl
+    by false e = cons-not_nil _ _ e
+
+pub unrefused-typed : {P : Type 0} (known : NamedTable) (modules : List Module) (places : List (Places P)) (nowhere : P) → IsWellNamed known → ArePlaced known (processes_in modules) (processes_in modules) places
+    → AreRefusals known modules places nowhere [] → IsTypedProgram (length known.exceptions) known.shapes (meaning known modules) (main_number modules)
+unrefused-typed {P} known modules places nowhere well placed h =
+    record {
+      types = well.well_formed;
+      modules = λ p i. let r = in-map_from (process_meaning known all) p all i in subst (IsTypedProcess (length known.exceptions) known.shapes (meaning known modules)) (sym r.2) (process-typed known all well accepted r.0 (accepted r.0 r.1));
+      begins = port-of known all well accepted (main_number modules) ∙ main-at known all (each-fresh known all [] all places placed found).0 (main-there known all nowhere split.1);
+    }
+  where
+    all : List ProcessText
+    all = processes_in modules
+
+    split : (h.0 ≡ []) × (main_refusals known all nowhere ≡ [])
+    split = none-both h.0 (main_refusals known all nowhere) h.2
+
+    found : RefusesProcesses known all [] all places []
+    found = subst (λ rs. RefusesProcesses known all [] all places rs) split.0 h.1
+
+    accepted : (p : ProcessText) → IsIn p all → IsAccepted known all p
+    accepted = each-accepted known all [] all places placed found
+
+-- the marks of a process are one list
+marks-equal : (xs ys : List Bool) → length xs ≡ length ys → ((i : ℕ) → slice_get xs i ≡ Some true → slice_get ys i ≡ Some false → ⊥) → ((i : ℕ) → slice_get xs i ≡ Some false → slice_get ys i ≡ Some true → ⊥) → xs ≡ ys
+marks-equal [] [] l f g = refl
+marks-equal [] (y ∷ ys) l f g = absurd (omega arith)
+marks-equal (x ∷ xs) [] l f g = absurd (omega arith)
+marks-equal (true ∷ xs) (true ∷ ys) l f g = ap (true ∷◌) (marks-equal xs ys (omega arith) (λ i. f (suc i)) (λ i. g (suc i)))
+marks-equal (true ∷ xs) (false ∷ ys) l f g = absurd (f 0 refl refl)
+marks-equal (false ∷ xs) (true ∷ ys) l f g = absurd (g 0 refl refl)
+marks-equal (false ∷ xs) (false ∷ ys) l f g = ap (false ∷◌) (marks-equal xs ys (omega arith) (λ i. f (suc i)) (λ i. g (suc i)))
+
+pub marks-one : (table : TypeTable) (p : model.Process) (xs ys : List Bool) → MarksUnreached table p xs → MarksUnreached table p ys → xs ≡ ys
+marks-one table p xs ys m n = marks-equal xs ys (m.each ∙ sym n.each) (λ i e f. clash xs ys m n i e f) (λ i e f. clash ys xs n m i f e)
+  where
+    clash : (xs ys : List Bool) → MarksUnreached table p xs → MarksUnreached table p ys → (i : ℕ) → slice_get xs i ≡ Some true → slice_get ys i ≡ Some false → ⊥
+    clash xs ys m n i e f = let u = m.marked i e in u.lacks (n.others i u.place u.stands.0 f u.stands.1 u.stands.2)
+
+by-one : {P : Type 0} (b : Bool) (table : TypeTable) (p : model.Process) (codes : List (Option Code)) (places : Places P) (rs ss : List (Code × P)) → RefusesBy b table p codes places rs → RefusesBy b table p codes places ss → rs ≡ ss
+by-one true table p codes places rs ss h k =
+    h.2 ∙ (ap (λ marks. at_places places.statements (map (λ m. cond m (Some unreachable) None) marks)) (marks-one table p h.0 k.0 h.1 k.1) ∙ sym k.2)
+by-one false table p codes places rs ss h k = h ∙ sym k
+
+processes-one : {P : Type 0} (known : NamedTable) (all : List ProcessText) (before : List Letters) (ps : List ProcessText) (places : List (Places P)) (rs ss : List (Code × P))
+    → RefusesProcesses known all before ps places rs → RefusesProcesses known all before ps places ss → rs ≡ ss
+processes-one known all before [] places rs ss h k = h ∙ sym k
+processes-one known all before (p ∷ ps) [] rs ss h k = absurd h
+processes-one known all before (p ∷ ps) (x ∷ places) rs ss h k =
+    h.4 ∙ (ap₂ (λ a b. a ++ b) (by-one (are_none (process_codes known all before p)) known.shapes (process_meaning known all p) (process_codes known all before p) x h.0 k.0 h.2 k.2)
+    (processes-one known all (before ++ (p.name ∷ [])) ps places h.1 k.1 h.3 k.3) ∙ sym k.4)
+
+pub refusals-one : {P : Type 0} (known : NamedTable) (modules : List Module) (places : List (Places P)) (nowhere : P) (rs ss : List (Code × P)) → AreRefusals known modules places nowhere rs → AreRefusals known modules places nowhere ss → rs ≡ ss
+refusals-one known modules places nowhere rs ss h k =
+    h.2 ∙ (ap (λ found. found ++ main_refusals known (processes_in modules) nowhere) (processes-one known (processes_in modules) [] (processes_in modules) places h.0 k.0 h.1 k.1) ∙ sym k.2)

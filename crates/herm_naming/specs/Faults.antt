@@ -1,17 +1,17 @@
 -- The places of a process at which a name or a type can be wrong, in the order of the text, and the code at each.
 -- Language reference, "Names and types of statements".
-use Rattle.std.specs.Prelude.{ℕ, suc, ◌+◌, Bool, true, false, not, cond, ◌&&◌, ◌||◌, nat_lt, List, [], ◌∷◌, ◌++◌, map, length, bytes_eq, Option, Some, None, is_some, slice_get}
-use Rattle.herm_model.specs.Lists.{every, some_of, with_some, list_of}
+use Rattle.std.specs.Prelude.{Bool, true, false, not, cond, ◌&&◌, ◌||◌, nat_lt, List, [], ◌∷◌, ◌++◌, map, length, bytes_eq, Option, Some, None, is_some}
+use Rattle.herm_model.specs.Lists.{every, some_of}
 use Rattle.herm_model.specs.Types.{Parameter, Shape, inport, all_parts, variable_paths}
 use Rattle.herm_model.specs.Calls.{call_parameters, is_returned}
 use Rattle.herm_model.specs.Statements.{numbers_of_block, Process}
 use Rattle.herm_model.specs.TableTests.{are_different}
 use Rattle.herm_model.specs.TypedPrograms.{greatest_statements, greatest_variable_paths}
 use Rattle.herm_alphabet.specs.Letters.{keyword_of}
-use Rattle.herm_syntax.specs.Trees.{Letters, Path, Atom, Constant, Place, Transfer, Move, Unite, Dissolve, Wrap, Insert, Connect, Send, Receive, Statement, Assign, TwoPaths, OnePath, Keyed, Unwrap, Call, Return, ReturnBy, Create, Raise, Leave, Case, For, Select, If, While, Try, Statements, NoStatement, Further, Arms, NoArm, Arm, PortArms, NoPortArm, PortArm, Otherwise, NoElse, Else, Field}
+use Rattle.herm_syntax.specs.Trees.{Letters, Path, Atom, Constant, Place, Transfer, Move, Unite, Dissolve, Wrap, Statement, TwoPaths, Unwrap, Call, Case, For, Select, If, While, Try, Statements, NoStatement, Further, Arms, NoArm, Arm, PortArms, NoPortArm, PortArm, Otherwise, NoElse, Else, Field}
 use Rattle.herm_meaning.specs.Names.{NamedTable}
 use Rattle.herm_naming.specs.Numbers.{Scope, path_number, type_number}
-use Rattle.herm_naming.specs.Meaning.{arm_names, statement_number, ProcessText, declarations, scope_of, process_meaning}
+use Rattle.herm_naming.specs.Meaning.{arm_names, statement_number, ProcessText, scope_of, process_meaning}
 use Rattle.herm_naming.specs.Known.{is_type, is_statement_there}
 use Rattle.herm_naming.specs.Fits.{may_be, fits_statement}
 use Rattle.herm_naming.specs.Copies.{copies_statement}

@@ -1,12 +1,11 @@
 -- Where the types of a statement fit, over numbers in place of names. A type that is not known fits everywhere.
 -- Language reference, "Types that fit".
-use Rattle.std.specs.Prelude.{ℕ, Bool, true, false, not, cond, ◌&&◌, ◌||◌, nat_eq, List, [], ◌∷◌, ◌++◌, map, length, Option, Some, None, slice_get, option_map, option_and_then}
+use Rattle.std.specs.Prelude.{ℕ, Bool, true, false, not, ◌&&◌, ◌||◌, nat_eq, List, [], ◌∷◌, length, Option, Some, slice_get, option_map, option_and_then}
 use Rattle.herm_model.specs.Lists.{every, some_of, with_some, range, list_of}
-use Rattle.herm_model.specs.Paths.{Path, Fact}
-use Rattle.herm_model.specs.Types.{Mode, by_in, by_inout, by_out, Parameter, Raised, TypeTable, Shape, boolean, integer, text, polymorph, names, fields, cases, rows, inport, outport, callmessage, is_cases, type_at, passes_component, greatest_depth, is_copyable_within}
+use Rattle.herm_model.specs.Paths.{Path}
+use Rattle.herm_model.specs.Types.{Mode, by_in, by_inout, by_out, Parameter, Raised, TypeTable, Shape, polymorph, names, fields, cases, rows, inport, outport, callmessage, is_cases, type_at, passes_component}
 use Rattle.herm_model.specs.Typed.{is_integer, is_text}
-use Rattle.herm_model.specs.Expressions.{Literal, tag, Expression, literal, copy, negated, inverted, operation, size_of, decimal, length_of, Atom, path, paths_among}
-use Rattle.herm_model.specs.Calls.{call_parameters, arguments_by}
+use Rattle.herm_model.specs.Expressions.{Literal, tag, Expression, literal, copy, negated, inverted, operation, size_of, decimal, length_of, Atom, path}
 use Rattle.herm_model.specs.TypedExpressions.{is_boolean_shape, is_integer_shape, is_text_shape, takes, shape_given, passes_out}
 use Rattle.herm_model.specs.TypingTests.{number_of_shape}
 use Rattle.herm_model.specs.TypedStatements.{can_be_new}

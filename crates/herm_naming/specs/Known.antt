@@ -1,5 +1,5 @@
 -- Which names of a statement are there, over the numbers that stand for them. Language reference, "Unknown names".
-use Rattle.std.specs.Prelude.{ℕ, Bool, true, false, not, ◌&&◌, ◌||◌, nat_lt, List, [], ◌∷◌, ◌++◌, map, flat_map, length, Option, Some, None, is_some, slice_get, option_and_then}
+use Rattle.std.specs.Prelude.{ℕ, Bool, true, false, not, ◌&&◌, ◌||◌, nat_lt, List, [], ◌∷◌, ◌++◌, map, flat_map, length, Option, is_some, slice_get}
 use Rattle.herm_model.specs.Lists.{every, with_some}
 use Rattle.herm_model.specs.Paths.{Path}
 use Rattle.herm_model.specs.Types.{TypeTable, Shape, names, part_of}

@@ -4,7 +4,7 @@ use Rattle.herm_model.specs.Paths.{parent}
 use Rattle.herm_model.specs.Paths as paths
 use Rattle.herm_model.specs.Expressions as expressions
 use Rattle.herm_model.specs.Statements as model
-use Rattle.herm_syntax.specs.Trees.{Letters, Path, Transfer, Move, Unite, Dissolve, Wrap, Insert, Connect, Send, Receive, Touch, New, Discard, Reveal, Find, Remove, Get, Statement, Assign, TwoPaths, OnePath, Keyed, Unwrap, Call, Return, ReturnBy, Create, Raise, Leave, Case, For, Select, If, While, Try, Statements, NoStatement, Further, Arms, NoArm, Arm, PortArms, NoPortArm, PortArm, Otherwise, NoElse, Else, Field, Module, Definitions, Process}
+use Rattle.herm_syntax.specs.Trees.{Letters, Transfer, Move, Unite, Dissolve, Wrap, Insert, Connect, Send, Receive, Touch, New, Discard, Reveal, Find, Remove, Get, Statement, Assign, TwoPaths, OnePath, Keyed, Unwrap, Call, Return, ReturnBy, Create, Raise, Leave, Case, For, Select, If, While, Try, Statements, NoStatement, Further, Arms, NoArm, Arm, PortArms, NoPortArm, PortArm, Otherwise, NoElse, Else, Field, Module, Definitions, Process}
 use Rattle.herm_meaning.specs.Names.{NamedTable}
 use Rattle.herm_naming.specs.Numbers.{place_of, Scope, type_number, exception_number, part_number, path_number, type_seen, last_step, atom_number, expression_number}
 

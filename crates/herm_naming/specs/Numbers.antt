@@ -1,13 +1,13 @@
 -- The numbers that stand for names: a name's place among the names that there are. A name that is not there has the
 -- number behind the last one, which nothing has.
-use Rattle.std.specs.Prelude.{ℕ, zero, suc, ℤ, Bool, cond, List, [], ◌∷◌, ◌++◌, map, length, bytes_eq, Option, Some, None, slice_get}
+use Rattle.std.specs.Prelude.{ℕ, suc, cond, List, [], ◌∷◌, bytes_eq, Option, Some, None, slice_get}
 use Rattle.herm_model.specs.Lists.{list_of}
 use Rattle.herm_model.specs.Paths as paths
-use Rattle.herm_model.specs.Types.{TypeTable, part_of, type_at}
+use Rattle.herm_model.specs.Types.{part_of, type_at}
 use Rattle.herm_model.specs.Expressions as model
-use Rattle.herm_syntax.specs.Symbols.{Symbol, kw_and, kw_or, kw_not, kw_div, kw_mod, equal, unequal, less, at_most, greater, at_least, plus, minus, star, ampersand, Key, Sign, Identifier, Number, Quoted}
+use Rattle.herm_syntax.specs.Symbols.{Symbol, Key, Sign}
 use Rattle.herm_alphabet.specs.declared.keyword.Keyword.{Keyword}
-use Rattle.herm_alphabet.specs.declared.keyword.Keyword.TheVariants.{KwAnd, KwDiv, KwMod, KwOr}
+use Rattle.herm_alphabet.specs.declared.keyword.Keyword.TheVariants.{KwAnd, KwDiv, KwOr}
 use Rattle.herm_alphabet.specs.declared.sign.Mark.{Mark}
 use Rattle.herm_alphabet.specs.declared.sign.Mark.TheVariants.{Equal, NotEqual, Less, LessEqual, Greater, GreaterEqual, Plus, Minus, Star}
 use Rattle.herm_syntax.specs.Trees.{Letters, Path, Literal, Integer, Text, Boolean, Tag, Atom, Constant, Place, Expression, Chain, Compare, Unary, Operands, NoOperand, Operand, Comparison, NoComparison, With, Primary, Simple, Size, Paren, TextOf, LengthOf}

@@ -1,5 +1,5 @@
 -- The list of refusals of names and types, at places that the text gives.
-use Rattle.std.specs.Prelude.{ℕ, suc, ◌↔◌, Bool, true, false, not, cond, ◌&&◌, nat_eq, is_some, List, [], ◌∷◌, ◌++◌, map, length, bytes_eq, Option, Some, None, slice_get, ⊤, ◌≡◌}
+use Rattle.std.specs.Prelude.{ℕ, suc, Bool, true, false, not, cond, ◌&&◌, nat_eq, is_some, List, [], ◌∷◌, ◌++◌, map, length, bytes_eq, Option, Some, None, slice_get, ⊤, ◌≡◌}
 use Rattle.herm_model.specs.Lists.{every, some_of}
 use Rattle.herm_model.specs.Types.{TypeTable}
 use Rattle.herm_model.specs.Statements.{Process, numbers_of_block}

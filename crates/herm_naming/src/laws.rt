@@ -1,0 +1,13 @@
+//! Laws of the meaning and the refusals of process modules. No function here does any work: each states a law, which the
+//! check proves.
+ghost use Rattle.herm_naming.specs.Laws.{UnrefusedIsTyped, RefusalsAreOne};
+
+/// Modules without a refusal of names and types mean a typed program, over a table that keeps the rules of definitions.
+pub fn unrefused_is_typed()
+    ensures typed { UnrefusedIsTyped }
+{}
+
+/// Modules have one list of refusals.
+pub fn refusals_are_one()
+    ensures one { RefusalsAreOne }
+{}
