@@ -7,7 +7,7 @@ use Rattle.herm_types.specs.declared.shape.Shape.{Shape}
 use Rattle.herm_types.specs.View.{shape_view, parts_view}
 use Rattle.herm_types.specs.Table.{table_of, defined_table}
 
-map-append : {X Y : Type 0} (f : X → Y) (xs ys : List X) → map f (xs ++ ys) ≡ map f xs ++ map f ys
+pub map-append : {X Y : Type 0} (f : X → Y) (xs ys : List X) → map f (xs ++ ys) ≡ map f xs ++ map f ys
 map-append f [] ys = refl
 map-append f (x ∷ xs) ys = ap (f x ∷◌) (map-append f xs ys)
 

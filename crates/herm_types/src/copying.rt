@@ -17,7 +17,7 @@ fn copy_path(alloc: Global, path: &Path) -> Result<Path, AllocError>
     })
 }
 
-fn copy_fact(alloc: Global, fact: &Fact) -> Result<Fact, AllocError>
+pub fn copy_fact(alloc: Global, fact: &Fact) -> Result<Fact, AllocError>
     ensures { IfOk result (λ f. fact_view f ≡ fact_view fact.now) }
 {
     match fact {

@@ -1,0 +1,2 @@
+-- What the code of definitions computes, in plain definitions.
+pub mod Seen
