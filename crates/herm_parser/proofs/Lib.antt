@@ -1,0 +1,4 @@
+pub mod Loops
+pub mod Depths
+pub mod Seen
+pub mod Going

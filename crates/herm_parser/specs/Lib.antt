@@ -1,0 +1,4 @@
+-- What the parser's functions give, in terms of the grammar's plain readers.
+pub mod Gives
+pub mod Along
+pub mod Levels
