@@ -2,3 +2,5 @@
 pub mod Gives
 pub mod Along
 pub mod Levels
+pub mod Walk
+pub mod Forms

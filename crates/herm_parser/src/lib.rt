@@ -2,7 +2,9 @@
 #![tactic(auto)]
 
 mod expressions;
+mod forms;
 mod operators;
+mod parts;
 mod paths;
 mod stop;
 mod tokens;
