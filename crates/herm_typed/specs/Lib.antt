@@ -1,0 +1,2 @@
+-- How contracts see the typed trees.
+pub mod Views

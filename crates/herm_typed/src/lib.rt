@@ -1,0 +1,11 @@
+//! The typed trees of process modules: each name is a number, and each path has the type of its value.
+#![tactic(auto)]
+
+mod expressions;
+mod statements;
+
+pub use expressions::{
+    TypedAtom, TypedComp, TypedConj, TypedExpr, TypedLiteral, TypedPath, TypedPrimary, TypedProd,
+    TypedSum, TypedUnary,
+};
+pub use statements::{TypedForm, TypedProcess, TypedStmt, TypedVar};
