@@ -1,2 +1,3 @@
 -- How contracts see the typed trees.
 pub mod Views
+pub mod Raising

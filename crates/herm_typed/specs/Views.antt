@@ -177,10 +177,10 @@ abbrev mutual
 -- the form of a statement without the blocks within it; a `try` has none
 abbrev pub form_of_statement : statements.Statement → Option statements.Form
 form_of_statement (statements.simple f) = Some f
-form_of_statement (statements.choosing f blocks) = Some f
+form_of_statement (statements.choosing f _) = Some f
 form_of_statement (statements.repeating f body) = Some f
 form_of_statement statements.leaving = Some statements.Leave
-form_of_statement (statements.trying body handlers) = None
+form_of_statement (statements.trying _ _) = None
 
 -- A process.
 abbrev pub body_view : List TypedStmt → statements.Block

@@ -2,6 +2,7 @@
 #![tactic(auto)]
 
 mod expressions;
+mod raises;
 mod statements;
 
 pub use expressions::{
