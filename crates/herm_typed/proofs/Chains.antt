@@ -1,11 +1,10 @@
 -- What chains of operands can raise, and how the lists of the code stand for chains.
 use Rattle.std.proofs.Math.Seq.{drop-cons}
-use Rattle.std.proofs.Common.{◌≡◌, ℕ, suc, ◌+◌, ◌<◌, length, drop, get_or, add-one, List, [], ◌∷◌, map, Bool, true, false, ◌||◌, Option, Some, None, refl, sym, ap, ap₂, ◌∙◌}
+use Rattle.std.proofs.Common.{◌≡◌, ℕ, ◌+◌, ◌<◌, length, drop, get_or, add-one, List, [], ◌∷◌, map, Bool, true, false, ◌||◌, Option, Some, None, refl, sym, ap, ap₂, ◌∙◌}
 use denote.Hole.Carrier
 use Rattle.herm_model.specs.Expressions.{Expression, Operator, either, both, operation, is_arithmetic, is_joining, can_overflow, can_deplete}
 use Rattle.herm_typed.specs.declared.expressions.TypedProd.{TypedProd, out-TypedProd}
 use Rattle.herm_typed.specs.declared.expressions.TypedSum.{TypedSum, out-TypedSum}
-use Rattle.herm_typed.specs.declared.expressions.TypedComp.{TypedComp, out-TypedComp}
 use Rattle.herm_typed.specs.declared.expressions.TypedConj.{TypedConj, out-TypedConj}
 use Rattle.herm_typed.specs.declared.expressions.TypedExpr.{TypedExpr, out-TypedExpr}
 use Rattle.herm_typed.specs.declared.expressions.TypedUnary.{TypedUnary}
@@ -13,8 +12,8 @@ use Rattle.herm_syntax.specs.declared.expressions.UnaryOp.{UnaryOp}
 use Rattle.herm_syntax.specs.declared.expressions.UnaryOp.TheVariants.{Neg, Not}
 use Rattle.herm_typed.specs.declared.expressions.TypedPrimary.TheBlock as expressions
 use Rattle.herm_typed.specs.declared.raises.Raises.{Raises}
-use Rattle.herm_typed.specs.Views.{compare_view, sum_view, product_view, signed_view, expression_view, either_view, conjunction_view, both_view, comparison_view, compared_view, sum_expression_view, added_view, product_expression_view, multiplied_view, primary_view}
-use Rattle.herm_typed.specs.Raising.{raised_together, raised_each, raises_by, raises_of, raises_behind, raised_signed, unary_view, chained}
+use Rattle.herm_typed.specs.Views.{sum_view, product_view, signed_view, expression_view, either_view, conjunction_view, both_view, comparison_view, sum_expression_view, added_view, product_expression_view, multiplied_view, primary_view}
+use Rattle.herm_typed.specs.Raising.{raised_together, raised_each, raises_of, raises_behind, raised_signed, unary_view, chained}
 
 -- operands from the left and operands one by one can raise the same
 or-behind : (a l e : Bool) → (a || (l || e)) ≡ (l || (a || e))

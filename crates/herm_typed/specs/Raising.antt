@@ -1,6 +1,6 @@
 -- Which exceptions expressions can raise, operand by operand.
-use Rattle.std.specs.Prelude.{ℕ, Bool, true, false, ◌||◌, List, [], ◌∷◌, Option, Some, None}
-use Rattle.herm_model.specs.Expressions.{Expression, Operator, operation, either, both, negated, inverted, is_arithmetic, is_joining, can_overflow, can_deplete}
+use Rattle.std.specs.Prelude.{true, false, ◌||◌, List, [], ◌∷◌, Option, Some, None}
+use Rattle.herm_model.specs.Expressions.{Expression, Operator, operation, is_arithmetic, is_joining, can_overflow, can_deplete}
 use Rattle.herm_syntax.specs.declared.expressions.UnaryOp.{UnaryOp}
 use Rattle.herm_syntax.specs.declared.expressions.UnaryOp.TheVariants.{Neg, Not}
 use Rattle.herm_typed.specs.declared.expressions.TypedUnary.{TypedUnary}

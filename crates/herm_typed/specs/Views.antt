@@ -1,9 +1,8 @@
 -- What the typed trees of the code stand for: expressions, statements and processes of the model.
-use Rattle.std.specs.Prelude.{ℕ, List, [], ◌∷◌, ◌++◌, map, Option, Some, None}
+use Rattle.std.specs.Prelude.{ℕ, List, [], ◌∷◌, map, Option, Some, None}
 use Rattle.herm_model.specs.Paths as paths
 use Rattle.herm_model.specs.Expressions as model
 use Rattle.herm_model.specs.Statements as statements
-use Rattle.herm_model.specs.Outcomes as outcomes
 use Rattle.herm_syntax.specs.declared.expressions.CompOp.{CompOp}
 use Rattle.herm_syntax.specs.declared.expressions.CompOp.TheVariants as compares
 use Rattle.herm_syntax.specs.declared.expressions.ProdOp.{ProdOp}

@@ -2,6 +2,7 @@
 #![tactic(auto)]
 
 mod expressions;
+mod outcome_list;
 mod raises;
 mod statements;
 
@@ -9,4 +10,5 @@ pub use expressions::{
     TypedAtom, TypedComp, TypedConj, TypedExpr, TypedLiteral, TypedPath, TypedPrimary, TypedProd,
     TypedSum, TypedUnary,
 };
+pub use outcome_list::{Outcome, outcomes};
 pub use statements::{TypedForm, TypedProcess, TypedStmt, TypedVar};

@@ -158,7 +158,6 @@ fn sum(e: &TypedSum) -> Raises
 
 /// What a comparison can raise.
 #[cycle(raising)]
-
 fn comparison(e: &TypedComp) -> Raises
     ensures { result ≡ raises_of (comparison_view e.now) }
 {

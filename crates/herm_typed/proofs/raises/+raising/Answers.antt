@@ -1,4 +1,4 @@
-use Rattle.std.proofs.Common.{◌≡◌, ℕ, map, ap₂, ◌∙◌}
+use Rattle.std.proofs.Common.{map, ap₂, ◌∙◌}
 use Rattle.herm_typed.specs.Views.{sum_view, product_view, product_expression_view}
 use Rattle.herm_typed.specs.Raising.{raised_each, raises_behind, unary_view}
 use Rattle.herm_typed.proofs.Chains.{product_raises, sum_raises}
