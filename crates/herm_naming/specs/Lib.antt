@@ -7,3 +7,5 @@ pub mod Copies
 pub mod Faults
 pub mod Refusals
 pub mod Laws
+pub mod ExampleScope
+pub mod Examples
