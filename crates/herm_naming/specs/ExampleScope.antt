@@ -1,8 +1,7 @@
 -- A scope for examples: types of every shape, and variables of them. Each comment has the text.
-use Rattle.std.specs.Prelude.{ℕ, List, [], ◌∷◌, codes, pos, Option, Some, None}
+use Rattle.std.specs.Prelude.{ℕ, List, [], ◌∷◌, codes, pos, None}
 use Rattle.herm_model.specs.Types.{names, fields, cases, rows, inport, outport, callmessage, by_in, by_inout, by_out}
-use Rattle.herm_syntax.specs.Symbols.{plus, minus, equal, less, ampersand, kw_and, kw_not}
-use Rattle.herm_syntax.specs.Trees.{Letters, Path, Literal, Integer, Text, Boolean, Tag, Atom, Constant, Place, Expression, Chain, Compare, Unary, NoOperand, Operand, With, Primary, Simple, Size, TextOf, LengthOf, Statement, Statements, NoStatement, Further}
+use Rattle.herm_syntax.specs.Trees.{Letters, Path, Integer, Text, Atom, Constant, Place, Expression, Unary, Simple, Statement, Statements, NoStatement, Further}
 use Rattle.herm_meaning.specs.Names.{NamedTable, behind_predefined}
 use Rattle.herm_naming.specs.Numbers.{Scope}
 
@@ -18,10 +17,10 @@ abbrev pub known : NamedTable
 known = behind_predefined (record {
   names = codes "color" ∷ codes "rec" ∷ codes "var" ∷ codes "tab" ∷ codes "li" ∷ codes "lo" ∷ codes "ask" ∷ codes "ask_in" ∷ codes "ask_out" ∷ codes "pi" ∷ codes "pr" ∷ codes "pt" ∷ codes "cv" ∷ [];
   shapes = names 2 ∷ fields (1 ∷ 2 ∷ []) ∷ cases (1 ∷ 9 ∷ []) ∷ rows 9 (0 ∷ 1 ∷ []) ∷ inport 1 [] ∷ outport 12
-    ∷ callmessage (record { mode = by_in; content = 2 } ∷ record { mode = by_inout; content = 2 } ∷ record { mode = by_out; content = 1 } ∷ []) (record { exception = 7; kept = [] } ∷ [])
-    ∷ inport 14 [] ∷ outport 15 ∷ inport 3 [] ∷ fields (3 ∷ []) ∷ rows 18 [] ∷ cases (14 ∷ []) ∷ [];
+      ∷ callmessage (record { mode = by_in; content = 2 } ∷ record { mode = by_inout; content = 2 } ∷ record { mode = by_out; content = 1 } ∷ []) (record { exception = 7; kept = [] } ∷ [])
+      ∷ inport 14 [] ∷ outport 15 ∷ inport 3 [] ∷ fields (3 ∷ []) ∷ rows 18 [] ∷ cases (14 ∷ []) ∷ [];
   parts = (codes "red" ∷ codes "green" ∷ []) ∷ (codes "n" ∷ codes "s" ∷ []) ∷ (codes "a" ∷ codes "b" ∷ []) ∷ [] ∷ [] ∷ []
-    ∷ (codes "q" ∷ codes "w" ∷ codes "r" ∷ []) ∷ [] ∷ [] ∷ [] ∷ (codes "p" ∷ []) ∷ [] ∷ (codes "c" ∷ []) ∷ [];
+      ∷ (codes "q" ∷ codes "w" ∷ codes "r" ∷ []) ∷ [] ∷ [] ∷ [] ∷ (codes "p" ∷ []) ∷ [] ∷ (codes "c" ∷ []) ∷ [];
   exceptions = codes "e" ∷ [];
 })
 

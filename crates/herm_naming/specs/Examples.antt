@@ -1,7 +1,7 @@
 -- Statements and the codes at them, in the scope of the examples: for each form a right one and the ways to be wrong.
-use Rattle.std.specs.Prelude.{ℕ, Bool, true, false, List, [], ◌∷◌, map, codes, pos, Option, Some, None, ◌≡◌}
-use Rattle.herm_syntax.specs.Symbols.{plus, minus, equal, less, ampersand, kw_and, kw_not}
-use Rattle.herm_syntax.specs.Trees.{Letters, Path, Literal, Integer, Text, Boolean, Tag, Atom, Constant, Place, Expression, Chain, Compare, Unary, NoOperand, Operand, With, Primary, Simple, Size, TextOf, LengthOf, Statement, Assign, TwoPaths, Move, Unite, Dissolve, Wrap, Insert, Connect, Send, Receive, OnePath, New, Discard, Reveal, Keyed, Remove, Get, Unwrap, Call, Return, ReturnBy, Create, Raise, Leave, Case, For, Select, If, While, Try, NoStatement, NoArm, Arm, NoPortArm, PortArm, NoElse}
+use Rattle.std.specs.Prelude.{false, List, [], ◌∷◌, map, codes, Option, Some, None, ◌≡◌}
+use Rattle.herm_syntax.specs.Symbols.{plus, equal, less, ampersand, kw_and, kw_not}
+use Rattle.herm_syntax.specs.Trees.{Tag, Constant, Place, Chain, Compare, Unary, NoOperand, Operand, With, Simple, Size, TextOf, LengthOf, Statement, Assign, TwoPaths, Move, Unite, Dissolve, Wrap, Insert, Connect, Send, Receive, OnePath, New, Discard, Reveal, Keyed, Remove, Get, Unwrap, Call, Return, ReturnBy, Create, Raise, Leave, Case, For, Select, If, While, Try, NoStatement, NoArm, Arm, NoPortArm, PortArm, NoElse}
 use Rattle.herm_naming.specs.Faults.{Code, unknown, twice, wrong_type, not_copyable, statement_code}
 use Rattle.herm_naming.specs.ExampleScope.{scope, one, two, three, atom, at, number, string}
 
@@ -54,8 +54,8 @@ WrongValues = codes_at (
     ∷ Assign (one (codes "z")) (at (one (codes "p")))
     ∷ [])
     ≡ (Some unknown ∷ Some unknown ∷ Some unknown ∷ Some unknown ∷ Some unknown ∷ Some unknown
-      ∷ Some wrong_type ∷ Some wrong_type ∷ Some wrong_type ∷ Some wrong_type ∷ Some wrong_type ∷ Some wrong_type ∷ Some wrong_type
-      ∷ Some not_copyable ∷ Some not_copyable ∷ Some unknown ∷ [])
+    ∷ Some wrong_type ∷ Some wrong_type ∷ Some wrong_type ∷ Some wrong_type ∷ Some wrong_type ∷ Some wrong_type ∷ Some wrong_type
+    ∷ Some not_copyable ∷ Some not_copyable ∷ Some unknown ∷ [])
 
 -- move r to k; new r; new x; new li; discard p; unite v.a from i; dissolve v.a into i; reveal v.b; wrap i as p;
 -- unwrap p as rec into r; insert r into x; connect lo to li; send i to lo; receive i from li; receive q from ai; return q;
@@ -84,7 +84,7 @@ RightForms = codes_at (
     ∷ Create (one (codes "lo")) (codes "odd")
     ∷ [])
     ≡ (fine ∷ fine ∷ fine ∷ fine ∷ fine ∷ fine ∷ fine ∷ fine ∷ fine ∷ fine ∷ fine ∷ fine ∷ fine ∷ fine ∷ fine ∷ fine ∷ fine ∷ fine ∷ fine
-      ∷ fine ∷ Some wrong_type ∷ fine ∷ fine ∷ [])
+    ∷ fine ∷ Some wrong_type ∷ fine ∷ fine ∷ [])
 
 -- unite v.z from i; reveal r.z; unwrap p as nope into r; raise f; return q exception f; create lo of nobody; leave;   unknown
 -- move r to r; move r to r.n; move v.a to i; new i; unite v.a from s; unite r.n from i; dissolve v.b into r.n; reveal r.n;
@@ -121,9 +121,9 @@ WrongForms = codes_at (
     ∷ OnePath Discard (three (codes "cv") (codes "c") (codes "r"))
     ∷ [])
     ≡ (Some unknown ∷ Some unknown ∷ Some unknown ∷ Some unknown ∷ Some unknown ∷ Some unknown ∷ Some unknown
-      ∷ Some wrong_type ∷ Some wrong_type ∷ Some wrong_type ∷ Some wrong_type ∷ Some wrong_type ∷ Some wrong_type ∷ Some wrong_type ∷ Some wrong_type
-      ∷ Some wrong_type ∷ Some wrong_type ∷ Some wrong_type ∷ Some wrong_type ∷ Some wrong_type ∷ Some wrong_type ∷ Some wrong_type ∷ Some wrong_type
-      ∷ Some wrong_type ∷ Some wrong_type ∷ Some wrong_type ∷ Some wrong_type ∷ Some wrong_type ∷ Some wrong_type ∷ Some wrong_type ∷ [])
+    ∷ Some wrong_type ∷ Some wrong_type ∷ Some wrong_type ∷ Some wrong_type ∷ Some wrong_type ∷ Some wrong_type ∷ Some wrong_type ∷ Some wrong_type
+    ∷ Some wrong_type ∷ Some wrong_type ∷ Some wrong_type ∷ Some wrong_type ∷ Some wrong_type ∷ Some wrong_type ∷ Some wrong_type ∷ Some wrong_type
+    ∷ Some wrong_type ∷ Some wrong_type ∷ Some wrong_type ∷ Some wrong_type ∷ Some wrong_type ∷ Some wrong_type ∷ Some wrong_type ∷ [])
 
 -- remove r from x [1, s]; get r from x [i, "a"]; for r in x { } call ao(s, t, i); call ao("a", t, i);                   right
 -- remove r from x [1]; remove r from x [s, 1]; get i from x [1, s]; get pr from pt [1]; call ao(s, t); call ao(s, t, i, j);
@@ -153,9 +153,9 @@ KeysAndCalls = codes_at (
     ∷ For (one (codes "pr")) (one (codes "pt")) NoStatement
     ∷ [])
     ≡ (fine ∷ fine ∷ fine ∷ fine ∷ fine
-      ∷ Some wrong_type ∷ Some wrong_type ∷ Some wrong_type ∷ Some wrong_type ∷ Some wrong_type ∷ Some wrong_type
-      ∷ Some wrong_type ∷ Some wrong_type ∷ Some wrong_type ∷ Some wrong_type ∷ Some wrong_type
-      ∷ Some unknown ∷ Some not_copyable ∷ Some not_copyable ∷ [])
+    ∷ Some wrong_type ∷ Some wrong_type ∷ Some wrong_type ∷ Some wrong_type ∷ Some wrong_type ∷ Some wrong_type
+    ∷ Some wrong_type ∷ Some wrong_type ∷ Some wrong_type ∷ Some wrong_type ∷ Some wrong_type
+    ∷ Some unknown ∷ Some not_copyable ∷ Some not_copyable ∷ [])
 
 -- case v { when b { } when a { } } if b { } while b { } select { when li receive i { } when ai receive q { } }
 -- try { } on e { } on Overflow { } case u { when m { } when n { } }                                                  right
@@ -181,4 +181,4 @@ Blocks = codes_at (
     ∷ Select (PortArm (one (codes "li")) (one (codes "s")) NoStatement NoPortArm)
     ∷ [])
     ≡ (fine ∷ fine ∷ fine ∷ fine ∷ fine ∷ fine ∷ Some unknown ∷ Some unknown ∷ Some unknown ∷ Some twice ∷ Some twice ∷ Some twice
-      ∷ Some wrong_type ∷ Some wrong_type ∷ Some wrong_type ∷ Some wrong_type ∷ Some wrong_type ∷ [])
+    ∷ Some wrong_type ∷ Some wrong_type ∷ Some wrong_type ∷ Some wrong_type ∷ Some wrong_type ∷ [])

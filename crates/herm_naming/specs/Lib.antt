@@ -9,3 +9,4 @@ pub mod Refusals
 pub mod Laws
 pub mod ExampleScope
 pub mod Examples
+pub mod ProcessExamples

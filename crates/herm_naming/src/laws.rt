@@ -1,6 +1,7 @@
 //! Laws of the meaning and the refusals of process modules. No function here does any work: each states a law, which the
 //! check proves.
 ghost use Rattle.herm_naming.specs.Examples.{RightValues, WrongValues, RightForms, WrongForms, KeysAndCalls, Blocks};
+ghost use Rattle.herm_naming.specs.ProcessExamples.{FirstProcess, Declarations, Nested, Main, Limits};
 ghost use Rattle.herm_naming.specs.Laws.{UnrefusedIsTyped, RefusalsAreOne};
 
 /// Modules without a refusal of names and types mean a typed program, over a table that keeps the rules of definitions.
@@ -21,4 +22,13 @@ pub fn examples_are_judged()
     ensures wrong_forms { WrongForms }
     ensures keys_and_calls { KeysAndCalls }
     ensures blocks { Blocks }
+{}
+
+/// Computed examples: processes beside the codes at their places.
+pub fn processes_are_judged()
+    ensures first { FirstProcess }
+    ensures declarations { Declarations }
+    ensures nested { Nested }
+    ensures main { Main }
+    ensures limits { Limits }
 {}
