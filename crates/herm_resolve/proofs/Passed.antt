@@ -1,0 +1,39 @@
+-- A search for a name, one element on.
+use Rattle.std.proofs.Common.{◌≡◌, ℕ, zero, suc, ◌+◌, ◌<◌, List, [], ◌∷◌, map, length, drop, get_or, Bool, true, false, cond, add-one, refl, sym, ap, ◌∙◌, arith}
+use Rattle.std.proofs.Math.Seq.{drop-cons}
+use Rattle.std.specs.Str.{bytes_eq}
+use Rattle.herm_syntax.specs.Trees.{Letters}
+use Rattle.herm_naming.specs.Numbers.{place_of}
+
+shown : {X : Type 0} (f : X → Letters) (xs : List X) (i : ℕ) (r : X) → i < length xs → r ≡ get_or xs i r → map f (drop i xs) ≡ f r ∷ map f (drop (i + 1) xs)
+shown f xs i r h e = by (rw (add-one, drop-cons xs i r) refl)
+  where
+    by : map f (drop i xs) ≡ f (get_or xs i r) ∷ map f (drop (i + 1) xs) → map f (drop i xs) ≡ f r ∷ map f (drop (i + 1) xs)
+    by k = k ∙ ap (λ x. f x ∷ map f (drop (i + 1) xs)) (sym e)
+
+pub found : {X : Type 0} (f : X → Letters) (name : Letters) (xs : List X) (i : ℕ) (r : X) → i < length xs → r ≡ get_or xs i r → bytes_eq name (f r) ≡ true
+    → place_of name (map f xs) ≡ i + place_of name (map f (drop i xs)) → i ≡ place_of name (map f xs)
+found f name xs i r h e t k =
+    let a : place_of name (map f (drop i xs)) ≡ 0 = ap (place_of name) (shown f xs i r h e) ∙ ap (λ b. cond b 0 (suc (place_of name (map f (drop (i + 1) xs))))) t in
+    omega (arith, a, k)
+
+pub passed : {X : Type 0} (f : X → Letters) (name : Letters) (xs : List X) (i : ℕ) (r : X) → i < length xs → r ≡ get_or xs i r → bytes_eq name (f r) ≡ false
+    → place_of name (map f xs) ≡ i + place_of name (map f (drop i xs)) → place_of name (map f xs) ≡ (i + 1) + place_of name (map f (drop (i + 1) xs))
+passed f name xs i r h e t k =
+    let a : place_of name (map f (drop i xs)) ≡ suc (place_of name (map f (drop (i + 1) xs))) = ap (place_of name) (shown f xs i r h e) ∙ ap (λ b. cond b 0 (suc (place_of name (map f (drop (i + 1) xs))))) t in
+    omega (arith, a, k)
+
+pub same-names : (ns : List Letters) → map (λ n. n) ns ≡ ns
+same-names [] = refl
+same-names (n ∷ ns) = ap (n ∷◌) (same-names ns)
+
+pub found_name : (name : Letters) (ns : List Letters) (i : ℕ) (r : Letters) → i < length ns → r ≡ get_or ns i r → bytes_eq name r ≡ true
+    → place_of name ns ≡ i + place_of name (drop i ns) → i ≡ place_of name ns
+found_name name ns i r h e t k =
+    found (λ n. n) name ns i r h e t (ap (place_of name) (same-names ns) ∙ (k ∙ ap (λ ms. i + place_of name ms) (sym (same-names (drop i ns))))) ∙ ap (place_of name) (same-names ns)
+
+pub passed_name : (name : Letters) (ns : List Letters) (i : ℕ) (r : Letters) → i < length ns → r ≡ get_or ns i r → bytes_eq name r ≡ false
+    → place_of name ns ≡ i + place_of name (drop i ns) → place_of name ns ≡ (i + 1) + place_of name (drop (i + 1) ns)
+passed_name name ns i r h e t k =
+    ap (place_of name) (sym (same-names ns)) ∙ (passed (λ n. n) name ns i r h e t (ap (place_of name) (same-names ns) ∙ (k ∙ ap (λ ms. i + place_of name ms) (sym (same-names (drop i ns)))))
+    ∙ ap (λ ms. (i + 1) + place_of name ms) (same-names (drop (i + 1) ns)))

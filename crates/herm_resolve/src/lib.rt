@@ -1,0 +1,6 @@
+//! Names and types of process modules: each name by its number.
+#![tactic(auto)]
+
+mod names;
+mod paths;
+mod scope;
