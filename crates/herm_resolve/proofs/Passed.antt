@@ -1,5 +1,5 @@
 -- A search for a name, one element on.
-use Rattle.std.proofs.Common.{◌≡◌, ℕ, zero, suc, ◌+◌, ◌<◌, List, [], ◌∷◌, map, length, drop, get_or, Bool, true, false, cond, add-one, refl, sym, ap, ◌∙◌, arith}
+use Rattle.std.proofs.Common.{◌≡◌, ℕ, zero, suc, ◌+◌, ◌<◌, ◌≤◌, List, [], ◌∷◌, map, length, drop, get_or, Bool, true, false, cond, add-one, refl, sym, ap, ◌∙◌, arith}
 use Rattle.std.proofs.Math.Seq.{drop-cons}
 use Rattle.std.specs.Str.{bytes_eq}
 use Rattle.herm_syntax.specs.Trees.{Letters}
@@ -37,3 +37,11 @@ pub passed_name : (name : Letters) (ns : List Letters) (i : ℕ) (r : Letters) �
 passed_name name ns i r h e t k =
     ap (place_of name) (sym (same-names ns)) ∙ (passed (λ n. n) name ns i r h e t (ap (place_of name) (same-names ns) ∙ (k ∙ ap (λ ms. i + place_of name ms) (sym (same-names (drop i ns)))))
     ∙ ap (λ ms. (i + 1) + place_of name ms) (same-names (drop (i + 1) ns)))
+
+pub place-within : (name : Letters) (ns : List Letters) → place_of name ns ≤ length ns
+place-within name [] = omega arith
+place-within name (n ∷ ns) = by (bytes_eq name n) (place-within name ns)
+  where
+    by : (b : Bool) → place_of name ns ≤ length ns → cond b 0 (suc (place_of name ns)) ≤ suc (length ns)
+    by true h = omega arith
+    by false h = omega arith
