@@ -1,5 +1,8 @@
 -- A search for a name, one element on.
-use Rattle.std.proofs.Common.{◌≡◌, ℕ, zero, suc, ◌+◌, ◌<◌, ◌≤◌, List, [], ◌∷◌, map, length, drop, get_or, Bool, true, false, cond, add-one, refl, sym, ap, ◌∙◌, arith}
+use Rattle.std.proofs.Common.{◌≡◌, ℕ, zero, suc, ◌+◌, ◌<◌, ◌≤◌, List, [], ◌∷◌, map, length, drop, get_or, Bool, true, false, cond, ltb, Option, Some, None, add-one, refl, sym, ap, ◌∙◌, arith, true≢false}
+use Rattle.std.specs.List.{position, position_or_len}
+use Rattle.std.proofs.lemmas.List.Recursion.{is_position_or_len}
+use Rattle.std.proofs.lemmas.Bool.{lt-ltb}
 use Rattle.std.proofs.Math.Seq.{drop-cons}
 use Rattle.std.specs.Str.{bytes_eq}
 use Rattle.herm_syntax.specs.Trees.{Letters}
@@ -45,3 +48,24 @@ place-within name (n ∷ ns) = by (bytes_eq name n) (place-within name ns)
     by : (b : Bool) → place_of name ns ≤ length ns → cond b 0 (suc (place_of name ns)) ≤ suc (length ns)
     by true h = omega arith
     by false h = omega arith
+
+place-position : (name : Letters) (ns : List Letters) → place_of name ns ≡ position_or_len (bytes_eq name) ns
+place-position name ns = is_position_or_len (place_of name) (bytes_eq name) refl (λ n ms. ap (λ k. cond (bytes_eq name n) 0 k) (let e : suc (place_of name ms) ≡ 1 + place_of name ms = omega arith in e)) ns
+
+pub place-some : (name : Letters) (ns : List Letters) (i : ℕ) → Some i ≡ position (bytes_eq name) ns → i ≡ place_of name ns
+place-some name ns i e = by (ltb (position_or_len (bytes_eq name) ns) (length ns)) e ∙ sym (place-position name ns)
+  where
+    by : (b : Bool) → Some i ≡ cond b (Some (position_or_len (bytes_eq name) ns)) None → i ≡ position_or_len (bytes_eq name) ns
+    by true k = cc k
+    by false k = let f : ⊥ = cc k in absurd f
+
+pub place-none : (name : Letters) (ns : List Letters) → None ≡ position (bytes_eq name) ns → place_of name ns ≡ length ns
+place-none name ns e = by (ltb (position_or_len (bytes_eq name) ns) (length ns)) refl e
+  where
+    by : (b : Bool) → ltb (position_or_len (bytes_eq name) ns) (length ns) ≡ b → None ≡ cond b (Some (position_or_len (bytes_eq name) ns)) None → place_of name ns ≡ length ns
+    by true k h = let f : ⊥ = cc h in absurd f
+    by false k h =
+        let a = place-position name ns in
+        let w = place-within name ns in
+        let m : position_or_len (bytes_eq name) ns < length ns → ⊥ = λ l. true≢false (sym (lt-ltb _ _ l) ∙ k) in
+        omega (arith, a, w, m)

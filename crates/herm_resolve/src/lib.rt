@@ -1,6 +1,7 @@
 //! Names and types of process modules: each name by its number.
 #![tactic(auto)]
 
+mod atoms;
 mod names;
 mod paths;
 mod scope;

@@ -1,5 +1,5 @@
 //! Paths by number.
-ghost use Rattle.std.specs.Prelude.{◌≡◌, ◌<◌, ◌^◌, length, map, option_map, IfOk};
+ghost use Rattle.std.specs.Prelude.{◌≡◌, ◌<◌, ◌^◌, length, map, option_map, slice_get, IfOk};
 ghost use Rattle.herm_model.specs.Types.{part_of, part_type, type_below};
 ghost use Rattle.herm_naming.specs.Numbers.{place_of, part_number, part_numbers, path_number, type_seen};
 ghost use Rattle.herm_syntax.specs.Views.{letters, path_of};
@@ -60,7 +60,7 @@ fn type_of_part(shape: &Shape, place: usize) -> Option<TypeNo>
 }
 
 /// The number of the part with this name in a type, and the part's type.
-fn part(types: &TypeTable, t: Option<TypeNo>, name: &[u8]) -> (u32, Option<TypeNo>)
+pub fn part(types: &TypeTable, t: Option<TypeNo>, name: &[u8]) -> (u32, Option<TypeNo>)
     requires { IsSized types.now }
     ensures place { result.0 ≡ part_number types.now (kind t) name.now }
     ensures of { kind result.1 ≡ part_of types.now.shapes (kind t) (part_number types.now (kind t) name.now) }
@@ -96,4 +96,53 @@ fn parts(
         at = next;
     }
     Ok((found, at))
+}
+
+/// The type of the variable at a place, none where there is no such variable.
+fn variable_type(of: &[TypeNo], place: usize) -> Option<TypeNo>
+    ensures { kind result ≡ slice_get (map (λ t. t.0) of.now) place }
+{
+    of.get(place).copied()
+}
+
+/// The type's number, or the one behind the last where the type is not known.
+fn type_or_unknown(types: &TypeTable, t: Option<TypeNo>) -> TypeNo
+    requires { IsSized types.now }
+    ensures { result.0 ≡ number_of types.now (kind t) }
+{
+    match t {
+        Some(t) => t,
+        None => TypeNo(types.len() as u32),
+    }
+}
+
+/// A path by number, from the letters of its names, of which there is one at least, with the type of its value.
+pub fn path_from(alloc: Global, scope: &Scope, names: &[Name]) -> Result<TypedPath, AllocError>
+    requires sized { IsSized scope.now.types.now }
+    requires few { length scope.now.variables.items < 2 ^ 32 }
+    requires some { 0 < length names.now }
+    ensures path { IfOk result (λ p. typed_path_view p ≡ path_number (scope_view scope.now) (map letters names.now)) }
+    ensures of { IfOk result (λ p. p.of.0 ≡ number_of scope.now.types.now (type_seen (scope_view scope.now) (path_number (scope_view scope.now) (map letters names.now)))) }
+{
+    let place = place_of(names[0].text.bytes(), scope.variables.as_slice());
+    let first = variable_type(scope.of.as_slice(), place);
+    let (parts, t) = parts(alloc, scope.types, first, &names[1..])?;
+    let of = type_or_unknown(scope.types, t);
+    let var = VarNo(place as u32);
+    Ok(TypedPath {
+        path: Path { var, parts },
+        of,
+    })
+}
+
+/// A path by number, with the type of its value.
+pub fn path(alloc: Global, scope: &Scope, p: &PathForm) -> Result<TypedPath, AllocError>
+    requires sized { IsSized scope.now.types.now }
+    requires few { length scope.now.variables.items < 2 ^ 32 }
+    requires some { 0 < length p.now.parts.items }
+    ensures path { IfOk result (λ q. typed_path_view q ≡ path_number (scope_view scope.now) (path_of p.now)) }
+    ensures of { IfOk result (λ q. q.of.0 ≡ number_of scope.now.types.now (type_seen (scope_view scope.now) (path_number (scope_view scope.now) (path_of p.now)))) }
+{
+    let found = path_from(alloc, scope, p.parts.as_slice())?;
+    Ok(found)
 }
