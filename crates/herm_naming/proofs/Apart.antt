@@ -21,7 +21,7 @@ use Rattle.herm_meaning.specs.Names.{NamedTable, IsWellNamed, part_count}
 use Rattle.herm_naming.specs.Numbers.{place_of, Scope, part_names, part_number, part_numbers, path_number, atom_number}
 use Rattle.herm_naming.specs.Meaning.{arm_forms}
 use Rattle.herm_naming.specs.Known.{are_parts_there, is_there}
-use Rattle.herm_naming.specs.Faults.{part_ways, without_last, set_arguments, all_part_ways, same_path, ports_of}
+use Rattle.herm_naming.specs.Faults.{part_ways, set_arguments, all_part_ways, same_path, ports_of}
 use Rattle.herm_naming.proofs.Settled.{has-some, not-false, type-shape, part-leads, when-type}
 
 -- a name that is there is the only one with its number
@@ -124,16 +124,6 @@ module _ (known : NamedTable) (well : IsWellNamed known) where
       let b : p ≡ q = parts-one v.0 p q v.2 (subst (λ o. IsTrue (are_parts_there known.shapes o (part_numbers known o p))) v.1 c.1) g in
       cc (a, b)
 
--- a path's number behind its last name is that of the path without it
-parts-front : (known : NamedTable) (t : Option ℕ) (n : Letters) (p : List Letters) → parent (part_numbers known t (n ∷ p)) ≡ part_numbers known t (without_last (n ∷ p))
-parts-front known t n [] = refl
-parts-front known t n (m ∷ p) = ap (part_number known t n ∷◌) (parts-front known (part_of known.shapes t (part_number known t n)) m p)
-
-pub path-front : (s : Scope) (p : Path) → parent (path_number s p) ≡ path_number s (without_last p)
-path-front s [] = refl
-path-front s (n ∷ []) = refl
-path-front s (n ∷ m ∷ p) = ap (place_of n s.variables ∷◌) (parts-front s.known (slice_get s.types (place_of n s.variables)) m p)
-
 -- the paths among the arguments that a call sets
 pub set-numbers : (s : Scope) (ps : List Parameter) (atoms : List Atom) → arguments_by is_returned ps (map (atom_number s) atoms) ≡ map (path_number s) (set_arguments ps atoms)
 set-numbers s [] atoms = refl
@@ -196,9 +186,23 @@ module _ (s : Scope) (well : IsWellNamed s.known) (same : length s.variables ≡
           further (inr g) = g
       by false e one again = or-left (not (nat_eq (place_of n s.variables) (place_of m s.variables))) rest (subst (λ b. IsTrue (not b)) (sym e) refl)
 
+  below-none : (n : ℕ) → nat_lt n n ≡ false
+  below-none n = by (nat_lt n n) refl
+    where
+      by : (b : Bool) → nat_lt n n ≡ b → b ≡ false
+      by true e = let k : n < n = (below-decides n n).0 e in absurd (omega arith)
+      by false e = refl
+
   paths-one : (p q : Path) → IsTrue (is_there s.known.shapes s.types (path_number s p)) → path_number s p ≡ path_number s q → p ≡ q
-  paths-one [] q h e = not_true h
-  paths-one (n ∷ p) [] h e = let b : ⊥ = cc e in absurd b
+  paths-one [] q h e = absurd (true≢false (sym (and-both (nat_lt (length s.variables) (length s.types)) _ h).0 ∙ not-below))
+    where
+      not-below : nat_lt (length s.variables) (length s.types) ≡ false
+      not-below = ap (nat_lt (length s.variables)) (sym same) ∙ below-none (length s.variables)
+  paths-one (n ∷ p) [] h e =
+      let c = and-both (nat_lt (place_of n s.variables) (length s.types)) _ h in
+      let i : place_of n s.variables < length s.types = (below-decides _ _).0 c.0 in
+      let d : place_of n s.variables ≡ length s.variables = cc e in
+      absurd (omega arith)
   paths-one (n ∷ p) (m ∷ q) h e =
       let c = and-both (nat_lt (place_of n s.variables) (length s.types)) _ h in
       let i : place_of n s.variables < length s.types = (below-decides _ _).0 c.0 in

@@ -3,7 +3,7 @@ use Rattle.std.proofs.Common.{◌≡◌, ℕ, List, [], ◌∷◌, ◌++◌, map
 use Rattle.std.specs.Bool.{⊤}
 use Rattle.std.specs.Str.{bytes_eq}
 use Rattle.herm_model.specs.Lists.{IsIn, every}
-use Rattle.herm_model.specs.Paths.{are_apart, parent}
+use Rattle.herm_model.specs.Paths.{are_apart}
 use Rattle.herm_model.specs.Types.{Parameter, part_of}
 use Rattle.herm_model.specs.Expressions.{paths_among}
 use Rattle.herm_model.specs.Expressions as expressions
@@ -18,15 +18,15 @@ use Rattle.herm_model.proofs.Lists.{not_true, and-both, every-in, in-map, in-app
 use Rattle.herm_model.proofs.Deciding.{below-decides}
 use Rattle.herm_syntax.specs.Trees.{Letters, Path, Atom, Constant, Place, Transfer, Move, Unite, Dissolve, Wrap, Insert, Connect, Send, Receive, Touch, New, Discard, Reveal, Find, Remove, Get, Statement, Assign, TwoPaths, OnePath, Keyed, Unwrap, Call, Return, ReturnBy, Create, Raise, Leave, Case, For, Select, If, While, Try, Statements, NoStatement, Further, Arms, NoArm, Arm, PortArms, NoPortArm, PortArm, Otherwise, NoElse, Else}
 use Rattle.herm_meaning.specs.Names.{IsWellNamed}
-use Rattle.herm_naming.specs.Numbers.{Scope, exception_number, type_number, part_names, part_number, path_number, type_seen, last_step, atom_number, expression_number}
+use Rattle.herm_naming.specs.Numbers.{Scope, exception_number, type_number, part_names, part_number, path_number, type_seen, without_last, component_number, atom_number, expression_number}
 use Rattle.herm_naming.specs.Meaning.{process_number, arm_names, arm_forms, transfer_form, touch_form, find_form, statement_number, block_number, arm_blocks, port_arm_blocks, otherwise_number, handlers_number}
 use Rattle.herm_naming.specs.Known.{paths_named, is_there, is_form_there, is_statement_there}
 use Rattle.herm_naming.specs.Fits.{fits_form, fits_statement}
 use Rattle.herm_naming.specs.Copies.{copies_form, copies_statement}
-use Rattle.herm_naming.specs.Faults.{part_ways, without_last, set_arguments, paths_part, ports_of, repeats, first_code, statement_code, within, in_body, in_arms, in_port_arms, in_otherwise}
+use Rattle.herm_naming.specs.Faults.{part_ways, set_arguments, paths_part, ports_of, repeats, first_code, statement_code, within, in_body, in_arms, in_port_arms, in_otherwise}
 use Rattle.herm_naming.proofs.Settled.{path-type}
 use Rattle.herm_naming.proofs.TypedForms.{IsApartForm, at-more, form-typed}
-use Rattle.herm_naming.proofs.Apart.{part-within, path-front, set-numbers, port-numbers, names-differ, paths-apart, all-apart, ports-differ}
+use Rattle.herm_naming.proofs.Apart.{part-within, set-numbers, port-numbers, names-differ, paths-apart, all-apart, ports-differ}
 
 -- what is known of a scope without faults of declarations, beside the processes that are meant
 pub record IsSettled (s : Scope) (processes : List model.Process) : Type 0 where
@@ -118,10 +118,6 @@ module _ (s : Scope) (processes : List model.Process) (ok : IsSettled s processe
   part : (p q : Path) → IsTrue (is_there s.known.shapes s.types (path_number s p)) → IsTrue (is_there s.known.shapes s.types (path_number s q)) → IsTrue (part_ways p q) → IsTrue (are_apart (path_number s p) (path_number s q))
   part p q a b w = paths-apart s ok.well ok.same ok.known p q a b w
 
-  -- the path before a component
-  front : (c : Path) → IsTrue (is_there s.known.shapes s.types (parent (path_number s c))) → IsTrue (is_there s.known.shapes s.types (path_number s (without_last c)))
-  front c h = subst (λ p. IsTrue (is_there s.known.shapes s.types p)) (path-front s c) h
-
   -- the names of the arms of a `case` have different numbers
   case-differ : (v : List ℕ) (ns : List Letters) → IsTrue (is_there s.known.shapes s.types v) → ((n : Letters) → IsIn n ns → IsTrue (is_there s.known.shapes s.types (v ++ (part_number s.known (type_seen s v) n ∷ []))))
       → IsTrue (are_different bytes_eq ns) → Differ (map (part_number s.known (type_seen s v)) ns)
@@ -142,15 +138,11 @@ module _ (s : Scope) (processes : List model.Process) (ok : IsSettled s processe
       let f : model.Form = model.Move (path_number s y) (path_number s x) in
       form-right f h.there h.fits h.copies (part y x (named f h.there (path_number s y) (inl refl)) (named f h.there (path_number s x) (inr (inl refl))) h.parts)
   statement-right l (TwoPaths Unite v y) h =
-      let f : model.Form = model.Unite (parent (path_number s v)) (last_step (path_number s v)) (path_number s y) in
-      form-right f h.there h.fits h.copies
-      (subst (λ p. IsTrue (are_apart (path_number s y) p)) (sym (path-front s v))
-      (part y (without_last v) (named f h.there (path_number s y) (inr (inr (inl refl)))) (front v (named f h.there (parent (path_number s v)) (inl refl))) h.parts))
+      let f : model.Form = model.Unite (path_number s (without_last v)) (component_number s v) (path_number s y) in
+      form-right f h.there h.fits h.copies (part y (without_last v) (named f h.there (path_number s y) (inr (inr (inl refl)))) (named f h.there (path_number s (without_last v)) (inl refl)) h.parts)
   statement-right l (TwoPaths Dissolve v y) h =
-      let f : model.Form = model.Dissolve (parent (path_number s v)) (last_step (path_number s v)) (path_number s y) in
-      form-right f h.there h.fits h.copies
-      (subst (λ p. IsTrue (are_apart p (path_number s y))) (sym (path-front s v))
-      (part (without_last v) y (front v (named f h.there (parent (path_number s v)) (inl refl))) (named f h.there (path_number s y) (inr (inr (inl refl)))) h.parts))
+      let f : model.Form = model.Dissolve (path_number s (without_last v)) (component_number s v) (path_number s y) in
+      form-right f h.there h.fits h.copies (part (without_last v) y (named f h.there (path_number s (without_last v)) (inl refl)) (named f h.there (path_number s y) (inr (inr (inl refl)))) h.parts)
   statement-right l (TwoPaths Wrap y p) h =
       let f : model.Form = model.Wrap (path_number s y) (path_number s p) in
       form-right f h.there h.fits h.copies (part y p (named f h.there (path_number s y) (inl refl)) (named f h.there (path_number s p) (inr (inl refl))) h.parts)
@@ -160,7 +152,7 @@ module _ (s : Scope) (processes : List model.Process) (ok : IsSettled s processe
   statement-right l (TwoPaths Receive x i) h = form-right (model.Receive (path_number s x) (path_number s i)) h.there h.fits h.copies tt
   statement-right l (OnePath New x) h = form-right (model.New (path_number s x)) h.there h.fits h.copies tt
   statement-right l (OnePath Discard x) h = form-right (model.Discard (path_number s x)) h.there h.fits h.copies tt
-  statement-right l (OnePath Reveal v) h = form-right (model.Reveal (parent (path_number s v)) (last_step (path_number s v))) h.there h.fits h.copies tt
+  statement-right l (OnePath Reveal v) h = form-right (model.Reveal (path_number s (without_last v)) (component_number s v)) h.there h.fits h.copies tt
   statement-right l (Keyed Remove r t keys) h = form-right (model.Remove (path_number s r) (path_number s t) (map (atom_number s) keys)) h.there h.fits h.copies tt
   statement-right l (Keyed Get r t keys) h = form-right (model.Get (path_number s r) (path_number s t) (map (atom_number s) keys)) h.there h.fits h.copies tt
   statement-right l (Unwrap p name y) h =
@@ -249,7 +241,7 @@ module _ (s : Scope) (processes : List model.Process) (ok : IsSettled s processe
   keeps-different l (While e body) h = tt
 
   -- forms without blocks stand alone
-  alone : (t : Transfer) (p q : List ℕ) → model.branching_of (transfer_form t p q) ≡ model.goes_on
+  alone : (t : Transfer) (p q : Path) → model.branching_of (transfer_form s t p q) ≡ model.goes_on
   alone Move p q = refl
   alone Unite p q = refl
   alone Dissolve p q = refl
@@ -259,7 +251,7 @@ module _ (s : Scope) (processes : List model.Process) (ok : IsSettled s processe
   alone Send p q = refl
   alone Receive p q = refl
 
-  touch-alone : (t : Touch) (p : List ℕ) → model.branching_of (touch_form t p) ≡ model.goes_on
+  touch-alone : (t : Touch) (p : Path) → model.branching_of (touch_form s t p) ≡ model.goes_on
   touch-alone New p = refl
   touch-alone Discard p = refl
   touch-alone Reveal p = refl
@@ -271,8 +263,8 @@ module _ (s : Scope) (processes : List model.Process) (ok : IsSettled s processe
   mutual
     well-formed : (l : Bool) (x : Statement) → IsFaultless s l x → ((y : Bool × Statement) → IsIn y (within l x) → IsFaultless s y.0 y.1) → IsWellFormed (statement_number s x)
     well-formed l (Assign x e) h each = refl
-    well-formed l (TwoPaths t p q) h each = alone t _ _
-    well-formed l (OnePath t p) h each = touch-alone t _
+    well-formed l (TwoPaths t p q) h each = alone t p q
+    well-formed l (OnePath t p) h each = touch-alone t p
     well-formed l (Keyed f r t keys) h each = find-alone f _ _ _
     well-formed l (Unwrap p name y) h each = refl
     well-formed l (Call o arguments) h each = refl

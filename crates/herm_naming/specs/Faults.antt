@@ -10,7 +10,7 @@ use Rattle.herm_model.specs.TypedPrograms.{greatest_statements, greatest_variabl
 use Rattle.herm_alphabet.specs.Letters.{keyword_of}
 use Rattle.herm_syntax.specs.Trees.{Letters, Path, Atom, Constant, Place, Transfer, Move, Unite, Dissolve, Wrap, Statement, TwoPaths, Unwrap, Call, Case, For, Select, If, While, Try, Statements, NoStatement, Further, Arms, NoArm, Arm, PortArms, NoPortArm, PortArm, Otherwise, NoElse, Else, Field}
 use Rattle.herm_meaning.specs.Names.{NamedTable}
-use Rattle.herm_naming.specs.Numbers.{Scope, path_number, type_number}
+use Rattle.herm_naming.specs.Numbers.{Scope, path_number, type_number, without_last}
 use Rattle.herm_naming.specs.Meaning.{arm_names, statement_number, ProcessText, scope_of, process_meaning}
 use Rattle.herm_naming.specs.Known.{is_type, is_statement_there}
 use Rattle.herm_naming.specs.Fits.{may_be, fits_statement}
@@ -25,12 +25,6 @@ abbrev pub part_ways : Path → Path → Bool
 part_ways [] q = false
 part_ways (n ∷ p) [] = false
 part_ways (n ∷ p) (m ∷ q) = not (bytes_eq n m) || part_ways p q
-
--- the names of a path without the last one
-abbrev pub without_last : Path → Path
-without_last [] = []
-without_last (n ∷ []) = []
-without_last (n ∷ m ∷ p) = n ∷ without_last (m ∷ p)
 
 -- the arguments that a call sets, for these parameters
 abbrev pub set_arguments : List Parameter → List Atom → List Path

@@ -1,6 +1,6 @@
 -- The numbers that stand for names: a name's place among the names that there are. A name that is not there has the
 -- number behind the last one, which nothing has.
-use Rattle.std.specs.Prelude.{ℕ, suc, cond, List, [], ◌∷◌, bytes_eq, Option, Some, None, slice_get}
+use Rattle.std.specs.Prelude.{ℕ, suc, cond, List, [], ◌∷◌, bytes_eq, Option, Some, None, slice_get, length}
 use Rattle.herm_model.specs.Lists.{list_of}
 use Rattle.herm_model.specs.Paths as paths
 use Rattle.herm_model.specs.Types.{part_of, type_at}
@@ -46,9 +46,10 @@ abbrev pub part_numbers : NamedTable → Option ℕ → List Letters → List �
 part_numbers known t [] = []
 part_numbers known t (name ∷ names) = part_number known t name ∷ part_numbers known (part_of known.shapes t (part_number known t name)) names
 
--- A path: the variable's number, and the places of the parts. Language reference, "Paths".
+-- A path: the variable's number, and the places of the parts; a path without a name names nothing. Language reference,
+-- "Paths".
 abbrev pub path_number : Scope → Path → paths.Path
-path_number s [] = []
+path_number s [] = length s.variables ∷ []
 path_number s (name ∷ names) =
     place_of name s.variables ∷ part_numbers s.known (slice_get s.types (place_of name s.variables)) names
 
@@ -56,11 +57,20 @@ path_number s (name ∷ names) =
 abbrev pub type_seen : Scope → paths.Path → Option ℕ
 type_seen s p = type_at s.known.shapes s.types p
 
--- the last step of a path that names a part
-abbrev pub last_step : paths.Path → ℕ
-last_step [] = 0
-last_step (i ∷ []) = i
-last_step (i ∷ j ∷ p) = last_step (j ∷ p)
+-- the names of a path without the last one, and the last one
+abbrev pub without_last : Path → Path
+without_last [] = []
+without_last (n ∷ []) = []
+without_last (n ∷ m ∷ p) = n ∷ without_last (m ∷ p)
+
+abbrev pub last_name : Path → Letters
+last_name [] = []
+last_name (n ∷ []) = n
+last_name (n ∷ m ∷ p) = last_name (m ∷ p)
+
+-- the component of a variant that is written as the last part of a path
+abbrev pub component_number : Scope → Path → ℕ
+component_number s c = part_number s.known (type_seen s (path_number s (without_last c))) (last_name c)
 
 -- A literal, an atom. A value of an enumeration is the type, and its place among the type's names.
 abbrev pub literal_number : NamedTable → Literal → model.Literal
