@@ -1,7 +1,5 @@
 -- The scope of the code as the definitions have it.
-use Rattle.std.specs.Prelude.{ℕ, ◌<◌, ◌^◌, List, map, length, Option, Some, None, option_map, slice_get, ◌≡◌, ⊤}
-use Rattle.herm_syntax.specs.declared.expressions.Atom.{Atom as AtomForm}
-use Rattle.herm_syntax.specs.declared.expressions.Atom.TheVariants as atoms
+use Rattle.std.specs.Prelude.{ℕ, ◌<◌, ◌^◌, List, map, length, Option, Some, None, option_map, slice_get, ◌≡◌}
 use Rattle.herm_base.specs.declared.numbers.TypeNo.{TypeNo}
 use Rattle.herm_syntax.specs.Trees.{Letters}
 use Rattle.herm_meaning.specs.Names.{NamedTable}
@@ -31,11 +29,3 @@ pub record IsSized (known : NamedTable) : Type 0 where
   pub each : length known.parts ≡ length known.shapes
   pub few : length known.shapes < 2 ^ 32
   pub few_parts : (t : ℕ) (names : List Letters) → slice_get known.parts t ≡ Some names → length names < 2 ^ 32
-
--- a path of an atom has a variable at least, as the grammar has it
-abbrev pub IsNamed : AtomForm → Type 0
-IsNamed (atoms.Literal l) = ⊤
-IsNamed (atoms.Path p) = 0 < length p.parts.items
-
-abbrev pub AreNamed : List AtomForm → Type 0
-AreNamed list = (i : ℕ) (a : AtomForm) → slice_get list i ≡ Some a → IsNamed a

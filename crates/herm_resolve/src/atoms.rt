@@ -3,7 +3,7 @@ ghost use Rattle.std.specs.Prelude.{◌≡◌, ◌<◌, ◌^◌, length, map, If
 ghost use Rattle.herm_syntax.specs.Views.{literal_of, atom_of};
 ghost use Rattle.herm_naming.specs.Numbers.{literal_number, atom_number, type_number, part_number};
 ghost use Rattle.herm_typed.specs.Views.{literal_view, atom_view};
-ghost use Rattle.herm_resolve.specs.View.{scope_view, kind, IsSized, IsNamed, AreNamed};
+ghost use Rattle.herm_resolve.specs.View.{scope_view, kind, IsSized};
 
 use crate::paths::{part, path};
 use crate::scope::Scope;
@@ -48,7 +48,6 @@ pub fn literal(alloc: Global, types: &TypeTable, l: &Literal) -> Result<TypedLit
 pub fn atom(alloc: Global, scope: &Scope, a: &Atom) -> Result<TypedAtom, AllocError>
     requires sized { IsSized scope.now.types.now }
     requires few { length scope.now.variables.items < 2 ^ 32 }
-    requires named { IsNamed a.now }
     ensures { IfOk result (λ b. atom_view b ≡ atom_number (scope_view scope.now) (atom_of a.now)) }
 {
     match a {
@@ -67,7 +66,6 @@ pub fn atom(alloc: Global, scope: &Scope, a: &Atom) -> Result<TypedAtom, AllocEr
 pub fn atoms(alloc: Global, scope: &Scope, list: &[Atom]) -> Result<Vec<TypedAtom>, AllocError>
     requires sized { IsSized scope.now.types.now }
     requires few { length scope.now.variables.items < 2 ^ 32 }
-    requires named { AreNamed list.now }
     ensures { IfOk result (λ v. map atom_view v.items ≡ map (atom_number (scope_view scope.now)) (map atom_of list.now)) }
 {
     let mut found = Vec::new(alloc);

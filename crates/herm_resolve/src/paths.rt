@@ -1,5 +1,5 @@
 //! Paths by number.
-ghost use Rattle.std.specs.Prelude.{◌≡◌, ◌<◌, ◌^◌, length, map, option_map, slice_get, IfOk};
+ghost use Rattle.std.specs.Prelude.{◌≡◌, ◌<◌, ◌^◌, ◌∷◌, length, map, option_map, slice_get, IfOk};
 ghost use Rattle.herm_model.specs.Types.{part_of, part_type, type_below};
 ghost use Rattle.herm_naming.specs.Numbers.{place_of, part_number, part_numbers, path_number, type_seen};
 ghost use Rattle.herm_syntax.specs.Views.{letters, path_of};
@@ -116,17 +116,20 @@ fn type_or_unknown(types: &TypeTable, t: Option<TypeNo>) -> TypeNo
     }
 }
 
-/// A path by number, from the letters of its names, of which there is one at least, with the type of its value.
-pub fn path_from(alloc: Global, scope: &Scope, names: &[Name]) -> Result<TypedPath, AllocError>
+/// A path by number, from the variable's place and the parts behind it, with the type of its value.
+fn path_at(
+    alloc: Global,
+    scope: &Scope,
+    place: usize,
+    names: &[Name],
+) -> Result<TypedPath, AllocError>
     requires sized { IsSized scope.now.types.now }
-    requires few { length scope.now.variables.items < 2 ^ 32 }
-    requires some { 0 < length names.now }
-    ensures path { IfOk result (λ p. typed_path_view p ≡ path_number (scope_view scope.now) (map letters names.now)) }
-    ensures of { IfOk result (λ p. p.of.0 ≡ number_of scope.now.types.now (type_seen (scope_view scope.now) (path_number (scope_view scope.now) (map letters names.now)))) }
+    requires few { place < 2 ^ 32 }
+    ensures path { IfOk result (λ p. typed_path_view p ≡ place ∷ part_numbers scope.now.types.now (slice_get (scope_view scope.now).types place) (map letters names.now)) }
+    ensures of { IfOk result (λ p. p.of.0 ≡ number_of scope.now.types.now (type_seen (scope_view scope.now) (place ∷ part_numbers scope.now.types.now (slice_get (scope_view scope.now).types place) (map letters names.now)))) }
 {
-    let place = place_of(names[0].text.bytes(), scope.variables.as_slice());
     let first = variable_type(scope.of.as_slice(), place);
-    let (parts, t) = parts(alloc, scope.types, first, &names[1..])?;
+    let (parts, t) = parts(alloc, scope.types, first, names)?;
     let of = type_or_unknown(scope.types, t);
     let var = VarNo(place as u32);
     Ok(TypedPath {
@@ -135,11 +138,25 @@ pub fn path_from(alloc: Global, scope: &Scope, names: &[Name]) -> Result<TypedPa
     })
 }
 
+/// A path by number, with the type of its value. A path without a name names a variable that is not there.
+pub fn path_from(alloc: Global, scope: &Scope, names: &[Name]) -> Result<TypedPath, AllocError>
+    requires sized { IsSized scope.now.types.now }
+    requires few { length scope.now.variables.items < 2 ^ 32 }
+    ensures path { IfOk result (λ p. typed_path_view p ≡ path_number (scope_view scope.now) (map letters names.now)) }
+    ensures of { IfOk result (λ p. p.of.0 ≡ number_of scope.now.types.now (type_seen (scope_view scope.now) (path_number (scope_view scope.now) (map letters names.now)))) }
+{
+    if names.is_empty() {
+        let place = scope.variables.len();
+        return path_at(alloc, scope, place, names);
+    }
+    let place = place_of(names[0].text.bytes(), scope.variables.as_slice());
+    path_at(alloc, scope, place, &names[1..])
+}
+
 /// A path by number, with the type of its value.
 pub fn path(alloc: Global, scope: &Scope, p: &PathForm) -> Result<TypedPath, AllocError>
     requires sized { IsSized scope.now.types.now }
     requires few { length scope.now.variables.items < 2 ^ 32 }
-    requires some { 0 < length p.now.parts.items }
     ensures path { IfOk result (λ q. typed_path_view q ≡ path_number (scope_view scope.now) (path_of p.now)) }
     ensures of { IfOk result (λ q. q.of.0 ≡ number_of scope.now.types.now (type_seen (scope_view scope.now) (path_number (scope_view scope.now) (path_of p.now)))) }
 {

@@ -9,4 +9,5 @@ use Rattle.herm_resolve.proofs.paths.parts.Given as goal
 abbrev pub invariant-names : goal.invariant-names
 invariant-names l = record {
   numbers : l.found.items ++ part_numbers l.types (kind l.at) (map letters (drop l.name-index l.names)) ≡ part_numbers l.types (kind l.initial.at) (map letters l.names);
-  of : type_below l.types.shapes (kind l.at) (part_numbers l.types (kind l.at) (map letters (drop l.name-index l.names))) ≡ type_below l.types.shapes (kind l.initial.at) (part_numbers l.types (kind l.initial.at) (map letters l.names)) }
+  of : type_below l.types.shapes (kind l.at) (part_numbers l.types (kind l.at) (map letters (drop l.name-index l.names))) ≡ type_below l.types.shapes (kind l.initial.at) (part_numbers l.types (kind l.initial.at) (map letters l.names));
+}
