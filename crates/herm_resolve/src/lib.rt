@@ -2,6 +2,7 @@
 #![tactic(auto)]
 
 mod atoms;
+mod expressions;
 mod names;
 mod paths;
 mod scope;
