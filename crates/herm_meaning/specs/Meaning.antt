@@ -61,7 +61,7 @@ outline items = behind_predefined (record {
   names = map (λ d. d.0) (types_in items);
   shapes = map (λ d. numbered_shape (type_names items) (exception_names items) d.1) (types_in items);
   parts = map (λ d. part_names d.1) (types_in items);
-  exceptions = exceptions_in items
+  exceptions = exceptions_in items;
 })
 
 -- the facts that a declared fact lists, for a message of a type
@@ -82,5 +82,5 @@ meaning items = behind_predefined (record {
   names = map (λ d. d.0) (types_in items);
   shapes = map (λ d. meant_shape (outline items) d.1) (types_in items);
   parts = map (λ d. part_names d.1) (types_in items);
-  exceptions = exceptions_in items
+  exceptions = exceptions_in items;
 })

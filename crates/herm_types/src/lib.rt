@@ -13,5 +13,6 @@ mod shape;
 mod table;
 
 pub use fact::{DeclFact, Fact, Path};
+pub use predefined::{predefined_exceptions, predefined_names, predefined_shapes};
 pub use shape::{Mode, Param, Part, RaiseDecl, Shape};
 pub use table::TypeTable;

@@ -1,0 +1,10 @@
+use Rattle.std.proofs.Common.{◌≡◌, ◌<◌, ◌||◌, ℕ, map, take, length, not, nat_lt}
+use Rattle.std.specs.List.{list_any}
+use Rattle.herm_model.specs.Types as types
+use Rattle.herm_types.specs.Table.{says}
+use Rattle.herm_types.specs.View.{shape_view}
+use Rattle.herm_types.specs.Chosen.{lists}
+use Rattle.herm_defs.proofs.context.may_copy.Given as goal
+
+abbrev pub invariant-loop-shape : goal.invariant-loop-shape
+invariant-loop-shape l = l.tests.items ≡ map (λ s. types.is_plain (shape_view s) || types.is_composed (shape_view s)) (take l.shape-index l.shapes)
