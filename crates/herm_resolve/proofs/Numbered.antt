@@ -1,7 +1,7 @@
 -- Chains of operands by number: as the code's lists have them, and as the grammar's trees.
-use Rattle.std.proofs.Common.{◌≡◌, ℕ, List, [], ◌∷◌, map, Option, Some, None, option_map, refl, sym, ap, ap₂, ◌∙◌, Vec, Global}
+use Rattle.std.proofs.Common.{◌≡◌, map, option_map, refl, sym, ap, ap₂, ◌∙◌, Vec, Global}
 use denote.Hole.Carrier
-use Rattle.herm_model.specs.Expressions.{Expression, Operator, either, both, operation}
+use Rattle.herm_model.specs.Expressions.{Expression, either, both, operation}
 use Rattle.herm_syntax.specs.declared.expressions.CompOp.{CompOp}
 use Rattle.herm_syntax.specs.declared.expressions.CompOp.TheVariants as compares
 use Rattle.herm_syntax.specs.declared.expressions.ProdOp.{ProdOp}
@@ -12,16 +12,15 @@ use Rattle.herm_syntax.specs.declared.expressions.Conj.{Conj, out-Conj}
 use Rattle.herm_syntax.specs.declared.expressions.Expr.{Expr, out-Expr}
 use Rattle.herm_syntax.specs.declared.expressions.Prod.{Prod, out-Prod}
 use Rattle.herm_syntax.specs.declared.expressions.Sum.{Sum, out-Sum}
-use Rattle.herm_syntax.specs.declared.expressions.Unary.{Unary}
 use Rattle.herm_syntax.specs.declared.expressions.Primary.TheBlock as expressions
 use Rattle.herm_syntax.specs.Views.{expression_of, conjunctions_of, conjunction_of, comparisons_of, comparison_of, sum_of, products_of, product_of, unaries_of, primary_of, compare_symbol, sum_symbol, product_symbol, sign_symbol}
 use Rattle.herm_naming.specs.Numbers.{Scope, operator_of, signed, expression_number, joined, primary_number}
 use Rattle.herm_typed.specs.declared.expressions.TypedUnary.{TypedUnary}
-use Rattle.herm_typed.specs.declared.expressions.TypedProd.{TypedProd, roll-TypedProd, out-TypedProd, out-roll-TypedProd}
-use Rattle.herm_typed.specs.declared.expressions.TypedSum.{TypedSum, roll-TypedSum, out-TypedSum, out-roll-TypedSum}
+use Rattle.herm_typed.specs.declared.expressions.TypedProd.{TypedProd, roll-TypedProd, out-roll-TypedProd}
+use Rattle.herm_typed.specs.declared.expressions.TypedSum.{roll-TypedSum, out-roll-TypedSum}
 use Rattle.herm_typed.specs.declared.expressions.TypedComp.{TypedComp}
-use Rattle.herm_typed.specs.declared.expressions.TypedConj.{TypedConj, roll-TypedConj, out-TypedConj, out-roll-TypedConj}
-use Rattle.herm_typed.specs.declared.expressions.TypedExpr.{TypedExpr, roll-TypedExpr, out-TypedExpr, out-roll-TypedExpr}
+use Rattle.herm_typed.specs.declared.expressions.TypedConj.{TypedConj, roll-TypedConj, out-roll-TypedConj}
+use Rattle.herm_typed.specs.declared.expressions.TypedExpr.{roll-TypedExpr, out-roll-TypedExpr}
 use Rattle.herm_typed.specs.Views.{compare_view, sum_view, product_view, expression_view, conjunction_view, comparison_view, sum_expression_view, product_expression_view}
 use Rattle.herm_typed.specs.Raising.{unary_view, chained}
 use Rattle.herm_typed.proofs.Chains.{product_chain, sum_chain, conjunction_chain, expression_chain}

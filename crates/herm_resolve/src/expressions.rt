@@ -10,12 +10,8 @@ ghost use Rattle.herm_resolve.specs.View.{scope_view, IsSized, unary_number, beh
 use crate::atoms::literal;
 use crate::paths::path;
 use crate::scope::Scope;
-use herm_syntax::{
-    Comp, CompOp, Conj, Expr, Primary, Prod, ProdOp, Sum, SumOp, Unary, UnaryOp,
-};
-use herm_typed::{
-    TypedComp, TypedConj, TypedExpr, TypedPrimary, TypedProd, TypedSum, TypedUnary,
-};
+use herm_syntax::{Comp, CompOp, Conj, Expr, Primary, Prod, ProdOp, Sum, SumOp, Unary, UnaryOp};
+use herm_typed::{TypedComp, TypedConj, TypedExpr, TypedPrimary, TypedProd, TypedSum, TypedUnary};
 use std::alloc::{AllocError, Global};
 
 /// An operand by number.

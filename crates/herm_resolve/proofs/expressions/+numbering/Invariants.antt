@@ -1,10 +1,5 @@
 use Rattle.std.proofs.Common.{◌≡◌, map, take}
-use Rattle.herm_model.specs.Expressions.{either, both}
-use Rattle.herm_syntax.specs.Views.{conjunction_of, comparison_of, product_of}
-use Rattle.herm_naming.specs.Numbers.{expression_number}
-use Rattle.herm_typed.specs.Views.{sum_view, product_view, conjunction_view, comparison_view, product_expression_view}
-use Rattle.herm_typed.specs.Raising.{unary_view}
-use Rattle.herm_resolve.specs.View.{scope_view, unary_number, behind_product, behind_sum, behind_and, behind_or, product_number, sum_number, and_number, or_number}
+use Rattle.herm_resolve.specs.View.{scope_view, behind_product, behind_sum, behind_and, behind_or, product_number, sum_number, and_number, or_number}
 use Rattle.herm_resolve.proofs.expressions.+numbering.Given as goal
 
 abbrev pub invariant-product_operands-products : goal.invariant-product_operands-products
