@@ -1,0 +1,6 @@
+pub mod Settled
+pub mod TypedForms
+pub mod Apart
+pub mod Bodies
+pub mod KeptRules
+pub mod Unrefused

@@ -1,0 +1,12 @@
+-- What process modules mean, every name replaced by its number, and where their names and types are wrong.
+pub mod Numbers
+pub mod Meaning
+pub mod Known
+pub mod Fits
+pub mod Copies
+pub mod Faults
+pub mod Refusals
+pub mod Laws
+pub mod ExampleScope
+pub mod Examples
+pub mod ProcessExamples

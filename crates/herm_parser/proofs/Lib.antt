@@ -1,0 +1,5 @@
+pub mod Loops
+pub mod Depths
+pub mod Seen
+pub mod Going
+pub mod Choosing
