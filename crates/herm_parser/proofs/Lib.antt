@@ -3,3 +3,6 @@ pub mod Depths
 pub mod Seen
 pub mod Going
 pub mod Choosing
+pub mod SeenForms
+pub mod Bodies
+pub mod Turns

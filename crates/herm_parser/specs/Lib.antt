@@ -4,3 +4,4 @@ pub mod Along
 pub mod Levels
 pub mod Walk
 pub mod Forms
+pub mod Blocks

@@ -285,3 +285,17 @@ fn expression(alloc: Global, depth: usize, tokens: &[Token]) -> Result<(Expr, &[
         rest,
     ))
 }
+
+/// An expression.
+#[tactic(auto, using(crate::proofs::Depths::expression_at_is))]
+pub fn expression_within(
+    alloc: Global,
+    depth: usize,
+    tokens: &[Token],
+) -> Result<(Expr, &[Token]), Stop>
+    ensures read { Gives (λ x. expression_of x.0) (λ x. x.1.now) result (read_expression depth (kinds tokens.now)) }
+    ensures along { IfOk result (λ x. past_expression x.0 tokens.now ≡ Some x.1.now) }
+{
+    let (found, rest) = expression(alloc, depth, tokens)?;
+    Ok((found, rest))
+}

@@ -1,6 +1,7 @@
 //! The parser: the tokens of a source file as its modules, or the fault at the exact token.
 #![tactic(auto)]
 
+mod blocks;
 mod expressions;
 mod forms;
 mod operators;
