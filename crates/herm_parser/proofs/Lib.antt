@@ -6,3 +6,4 @@ pub mod Choosing
 pub mod SeenForms
 pub mod Bodies
 pub mod Turns
+pub mod Whole

@@ -33,7 +33,7 @@ fn number_behind(number: u32) -> Result<u32, Stop>
 }
 
 /// Whether a statement is ahead: a token other than the brace that closes the block.
-fn inside_ahead(tokens: &[Token]) -> bool
+pub fn inside_ahead(tokens: &[Token]) -> bool
     ensures { result ≡ passes inside (ahead (kinds tokens.now) None) }
 {
     match tokens {

@@ -2,10 +2,18 @@
 #![tactic(auto)]
 
 mod blocks;
+mod brackets;
+mod definitions;
 mod expressions;
+mod fault;
 mod forms;
+mod modules;
 mod operators;
+mod parser;
 mod parts;
 mod paths;
 mod stop;
 mod tokens;
+
+pub use fault::ParseFault;
+pub use parser::parse;

@@ -1,15 +1,18 @@
-use Rattle.std.proofs.Common.{rules, map, Some, refl, ap, [], arith, ◌∙◌, ◌≡◌, ◌<◌, length}
+use Rattle.std.proofs.Common.{rules, map, Some, refl, sym, ap, [], arith, ◌∙◌, ◌≡◌, ◌<◌, length}
 use Rattle.herm_readers.specs.Combinators.{many}
 use Rattle.herm_syntax.specs.Symbols.{is, kw_on, kw_when}
 use Rattle.herm_syntax.specs.ReadStatements.{inside}
-use Rattle.herm_syntax.specs.Views.{statement_of}
+use Rattle.herm_readers.specs.Reader.{Read}
+use Rattle.herm_syntax.specs.Trees.{If as IfTree}
+use Rattle.herm_syntax.specs.Views.{statement_of, expression_of, body_of}
 use Rattle.herm_syntax.specs.declared.statements.Stmt.{Stmt}
-use Rattle.herm_parser.specs.Blocks.{arm_of, port_arm_of, case_arm_at, handler_at, port_arm_at, statement_at}
+use Rattle.herm_parser.specs.Blocks.{arm_of, port_arm_of, else_of, if_at, otherwise_at, case_arm_at, handler_at, port_arm_at, statement_at}
 use Rattle.herm_parser.specs.Walk.{walk_body, walk_each, walk_arm, walk_port_arm}
 use Rattle.herm_parser.specs.Gives.{kinds, with_front}
 use Rattle.herm_parser.proofs.Loops.{loop_next, loop_start, loop_smaller}
 use Rattle.herm_parser.proofs.Turns.{case_arm_goes, handler_goes, port_arm_goes, statement_goes, each_next, each_start, body_next, body_start}
 use Rattle.herm_parser.proofs.Bodies.{statement_behind, no_kinds}
+use Rattle.herm_parser.proofs.SeenForms.{if_seen}
 use Rattle.herm_parser.proofs.blocks.+blocks.Goals as goal
 
 pub case_arms-list-init : goal.case_arms-list-init
@@ -80,3 +83,10 @@ pub statement-returns-in-empty-clause-read : goal.statement-returns-in-empty-cla
 statement-returns-in-empty-clause-read t c =
     let empty : kinds c.args.tokens.now ≡ [] = no_kinds c.args.tokens.now (omega arith) in
     ap (statement_at c.args.depth) empty ∙ statement_behind c.args.depth
+
+pub if_form-returns-clause-read : goal.if_form-returns-clause-read
+unfolding if_at otherwise_at
+if_form-returns-clause-read t c =
+    let rest = kinds c.in_ok-other.rest.now in
+    let read : if_at c.args.depth (kinds c.args.tokens.now) ≡ Read (IfTree (expression_of c.in_ok-condition.condition) (body_of c.in_ok-inner.inner.items) (else_of c.in_ok-other.other)) rest = search rules in
+    read ∙ ap (λ s. Read s rest) (sym (if_seen c.in_ok-condition.condition c.in_ok-inner.inner c.in_ok-other.other))
