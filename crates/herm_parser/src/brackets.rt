@@ -37,6 +37,7 @@ fn room_behind(room: usize, kind: &TokenKind) -> Option<usize>
 }
 
 /// The number of tokens left at the first bracket that is open too many, that one with them.
+#[tactic(auto, unfolding(crate::specs::Parsing::most_brackets))]
 pub fn too_deep(tokens: &[Token]) -> Option<usize>
     ensures { result ≡ too_deep side (kinds tokens.now) most_brackets }
 {
