@@ -71,7 +71,12 @@ fn assign(alloc: Global, depth: usize, tokens: &[Token]) -> Result<(StmtForm, u3
 
 /// The statements of a block, up to its closing brace.
 #[cycle(blocks)]
-fn further(alloc: Global, depth: usize, next: u32, tokens: &[Token]) -> Result<(Vec<Stmt>, u32, &[Token]), Stop>
+fn further(
+    alloc: Global,
+    depth: usize,
+    next: u32,
+    tokens: &[Token],
+) -> Result<(Vec<Stmt>, u32, &[Token]), Stop>
     ensures read { Gives (λ x. map (λ s. statement_of s.form) x.0.items) (λ x. x.2.now) result (many inside (statement_at depth) (kinds tokens.now)) }
     ensures along { IfOk result (λ x. walk_body x.0.items next tokens.now ≡ Some (x.1, x.2.now)) }
 {
@@ -90,7 +95,12 @@ fn further(alloc: Global, depth: usize, next: u32, tokens: &[Token]) -> Result<(
 /// The statements of a block or of a process.
 #[cycle(blocks)]
 #[tactic(auto, using(crate::proofs::Bodies::body_none, crate::proofs::Bodies::body_more, crate::proofs::Bodies::body_list))]
-pub fn body(alloc: Global, depth: usize, next: u32, tokens: &[Token]) -> Result<(Vec<Stmt>, u32, &[Token]), Stop>
+pub fn body(
+    alloc: Global,
+    depth: usize,
+    next: u32,
+    tokens: &[Token],
+) -> Result<(Vec<Stmt>, u32, &[Token]), Stop>
     ensures read { Gives (λ x. body_of x.0.items) (λ x. x.2.now) result (body_at depth (kinds tokens.now)) }
     ensures along { IfOk result (λ x. walk_body x.0.items next tokens.now ≡ Some (x.1, x.2.now)) }
 {
@@ -104,7 +114,12 @@ pub fn body(alloc: Global, depth: usize, next: u32, tokens: &[Token]) -> Result<
 /// `{`, statements, `}`.
 #[cycle(blocks)]
 #[tactic(auto, unfolding(crate::specs::Blocks::block_at))]
-fn block(alloc: Global, depth: usize, next: u32, tokens: &[Token]) -> Result<(Vec<Stmt>, u32, u32, &[Token]), Stop>
+fn block(
+    alloc: Global,
+    depth: usize,
+    next: u32,
+    tokens: &[Token],
+) -> Result<(Vec<Stmt>, u32, u32, &[Token]), Stop>
     ensures read { Gives (λ x. body_of x.0.items) (λ x. x.3.now) result (block_at depth (kinds tokens.now)) }
     ensures along { IfOk result (λ x. blocked (walk_body x.0.items) next tokens.now ≡ Some (x.1, (x.2, x.3.now))) }
 {
@@ -117,7 +132,12 @@ fn block(alloc: Global, depth: usize, next: u32, tokens: &[Token]) -> Result<(Ve
 /// `when`, a component and its block.
 #[cycle(blocks)]
 #[tactic(auto, unfolding(crate::specs::Blocks::case_arm_at, crate::specs::Blocks::block_at))]
-fn case_arm(alloc: Global, depth: usize, next: u32, tokens: &[Token]) -> Result<((Name, Vec<Stmt>), u32, u32, &[Token]), Stop>
+fn case_arm(
+    alloc: Global,
+    depth: usize,
+    next: u32,
+    tokens: &[Token],
+) -> Result<((Name, Vec<Stmt>), u32, u32, &[Token]), Stop>
     ensures read { Gives (λ x. arm_of x.0) (λ x. x.3.now) result (case_arm_at depth (kinds tokens.now)) }
     ensures along { IfOk result (λ x. (e : _) → walk_arm x.0 (next, (e, tokens.now)) ≡ Some (x.1, (x.2, x.3.now))) }
 {
@@ -130,7 +150,12 @@ fn case_arm(alloc: Global, depth: usize, next: u32, tokens: &[Token]) -> Result<
 /// `on`, an exception and its block.
 #[cycle(blocks)]
 #[tactic(auto, unfolding(crate::specs::Blocks::handler_at, crate::specs::Blocks::block_at))]
-fn handler(alloc: Global, depth: usize, next: u32, tokens: &[Token]) -> Result<((Name, Vec<Stmt>), u32, u32, &[Token]), Stop>
+fn handler(
+    alloc: Global,
+    depth: usize,
+    next: u32,
+    tokens: &[Token],
+) -> Result<((Name, Vec<Stmt>), u32, u32, &[Token]), Stop>
     ensures read { Gives (λ x. arm_of x.0) (λ x. x.3.now) result (handler_at depth (kinds tokens.now)) }
     ensures along { IfOk result (λ x. (e : _) → walk_arm x.0 (next, (e, tokens.now)) ≡ Some (x.1, (x.2, x.3.now))) }
 {
@@ -143,7 +168,12 @@ fn handler(alloc: Global, depth: usize, next: u32, tokens: &[Token]) -> Result<(
 /// `when`, a port, `receive`, a target and their block.
 #[cycle(blocks)]
 #[tactic(auto, unfolding(crate::specs::Blocks::port_arm_at, crate::specs::Blocks::block_at))]
-fn port_arm(alloc: Global, depth: usize, next: u32, tokens: &[Token]) -> Result<((PathForm, PathForm, Vec<Stmt>), u32, u32, &[Token]), Stop>
+fn port_arm(
+    alloc: Global,
+    depth: usize,
+    next: u32,
+    tokens: &[Token],
+) -> Result<((PathForm, PathForm, Vec<Stmt>), u32, u32, &[Token]), Stop>
     ensures read { Gives (λ x. port_arm_of x.0) (λ x. x.3.now) result (port_arm_at depth (kinds tokens.now)) }
     ensures along { IfOk result (λ x. (e : _) → walk_port_arm x.0 (next, (e, tokens.now)) ≡ Some (x.1, (x.2, x.3.now))) }
 {
@@ -157,7 +187,13 @@ fn port_arm(alloc: Global, depth: usize, next: u32, tokens: &[Token]) -> Result<
 
 /// Further arms of a case.
 #[cycle(blocks)]
-fn case_arms(alloc: Global, depth: usize, next: u32, end: u32, tokens: &[Token]) -> Result<(Vec<(Name, Vec<Stmt>)>, u32, u32, &[Token]), Stop>
+fn case_arms(
+    alloc: Global,
+    depth: usize,
+    next: u32,
+    end: u32,
+    tokens: &[Token],
+) -> Result<(Vec<(Name, Vec<Stmt>)>, u32, u32, &[Token]), Stop>
     ensures read { Gives (λ x. map arm_of x.0.items) (λ x. x.3.now) result (many (is kw_when) (case_arm_at depth) (kinds tokens.now)) }
     ensures along { IfOk result (λ x. walk_each walk_arm x.0.items (next, (end, tokens.now)) ≡ Some (x.1, (x.2, x.3.now))) }
 {
@@ -177,7 +213,13 @@ fn case_arms(alloc: Global, depth: usize, next: u32, end: u32, tokens: &[Token])
 
 /// Further handlers.
 #[cycle(blocks)]
-fn handlers(alloc: Global, depth: usize, next: u32, end: u32, tokens: &[Token]) -> Result<(Vec<(Name, Vec<Stmt>)>, u32, u32, &[Token]), Stop>
+fn handlers(
+    alloc: Global,
+    depth: usize,
+    next: u32,
+    end: u32,
+    tokens: &[Token],
+) -> Result<(Vec<(Name, Vec<Stmt>)>, u32, u32, &[Token]), Stop>
     ensures read { Gives (λ x. map arm_of x.0.items) (λ x. x.3.now) result (many (is kw_on) (handler_at depth) (kinds tokens.now)) }
     ensures along { IfOk result (λ x. walk_each walk_arm x.0.items (next, (end, tokens.now)) ≡ Some (x.1, (x.2, x.3.now))) }
 {
@@ -197,7 +239,13 @@ fn handlers(alloc: Global, depth: usize, next: u32, end: u32, tokens: &[Token]) 
 
 /// Further arms of a select.
 #[cycle(blocks)]
-fn port_arms(alloc: Global, depth: usize, next: u32, end: u32, tokens: &[Token]) -> Result<(Vec<(PathForm, PathForm, Vec<Stmt>)>, u32, u32, &[Token]), Stop>
+fn port_arms(
+    alloc: Global,
+    depth: usize,
+    next: u32,
+    end: u32,
+    tokens: &[Token],
+) -> Result<(Vec<(PathForm, PathForm, Vec<Stmt>)>, u32, u32, &[Token]), Stop>
     ensures read { Gives (λ x. map port_arm_of x.0.items) (λ x. x.3.now) result (many (is kw_when) (port_arm_at depth) (kinds tokens.now)) }
     ensures along { IfOk result (λ x. walk_each walk_port_arm x.0.items (next, (end, tokens.now)) ≡ Some (x.1, (x.2, x.3.now))) }
 {
@@ -218,7 +266,13 @@ fn port_arms(alloc: Global, depth: usize, next: u32, end: u32, tokens: &[Token])
 /// `else` and its block, or nothing.
 #[cycle(blocks)]
 #[tactic(auto, unfolding(crate::specs::Blocks::otherwise_at, crate::specs::Blocks::block_at))]
-fn otherwise(alloc: Global, depth: usize, next: u32, end: u32, tokens: &[Token]) -> Result<(Option<Vec<Stmt>>, u32, u32, &[Token]), Stop>
+fn otherwise(
+    alloc: Global,
+    depth: usize,
+    next: u32,
+    end: u32,
+    tokens: &[Token],
+) -> Result<(Option<Vec<Stmt>>, u32, u32, &[Token]), Stop>
     ensures read { Gives (λ x. else_of x.0) (λ x. x.3.now) result (otherwise_at depth (kinds tokens.now)) }
     ensures along { IfOk result (λ x. walk_else x.0 (next, (end, tokens.now)) ≡ Some (x.1, (x.2, x.3.now))) }
 {
@@ -233,7 +287,12 @@ fn otherwise(alloc: Global, depth: usize, next: u32, end: u32, tokens: &[Token])
 /// `case`, a path and its arms in braces.
 #[cycle(blocks)]
 #[tactic(auto, unfolding(crate::specs::Blocks::case_at, crate::specs::Blocks::case_arm_at), using(crate::proofs::SeenForms::case_seen, crate::proofs::SeenForms::case_walk))]
-fn case_form(alloc: Global, depth: usize, next: u32, tokens: &[Token]) -> Result<(StmtForm, u32, u32, &[Token]), Stop>
+fn case_form(
+    alloc: Global,
+    depth: usize,
+    next: u32,
+    tokens: &[Token],
+) -> Result<(StmtForm, u32, u32, &[Token]), Stop>
     ensures read { Gives (λ x. statement_of x.0) (λ x. x.3.now) result (case_at depth (kinds tokens.now)) }
     ensures along { IfOk result (λ x. walk_form x.0 next tokens.now ≡ Some (x.1, (x.2, x.3.now))) }
 {
@@ -250,7 +309,12 @@ fn case_form(alloc: Global, depth: usize, next: u32, tokens: &[Token]) -> Result
 /// `for`, a row, `in`, a table and the block.
 #[cycle(blocks)]
 #[tactic(auto, unfolding(crate::specs::Blocks::for_at, crate::specs::Blocks::block_at), using(crate::proofs::SeenForms::for_seen, crate::proofs::SeenForms::for_walk))]
-fn for_form(alloc: Global, depth: usize, next: u32, tokens: &[Token]) -> Result<(StmtForm, u32, u32, &[Token]), Stop>
+fn for_form(
+    alloc: Global,
+    depth: usize,
+    next: u32,
+    tokens: &[Token],
+) -> Result<(StmtForm, u32, u32, &[Token]), Stop>
     ensures read { Gives (λ x. statement_of x.0) (λ x. x.3.now) result (for_at depth (kinds tokens.now)) }
     ensures along { IfOk result (λ x. walk_form x.0 next tokens.now ≡ Some (x.1, (x.2, x.3.now))) }
 {
@@ -265,7 +329,12 @@ fn for_form(alloc: Global, depth: usize, next: u32, tokens: &[Token]) -> Result<
 /// `select` and its arms in braces.
 #[cycle(blocks)]
 #[tactic(auto, unfolding(crate::specs::Blocks::select_at, crate::specs::Blocks::port_arm_at), using(crate::proofs::SeenForms::select_seen, crate::proofs::SeenForms::select_walk))]
-fn select_form(alloc: Global, depth: usize, next: u32, tokens: &[Token]) -> Result<(StmtForm, u32, u32, &[Token]), Stop>
+fn select_form(
+    alloc: Global,
+    depth: usize,
+    next: u32,
+    tokens: &[Token],
+) -> Result<(StmtForm, u32, u32, &[Token]), Stop>
     ensures read { Gives (λ x. statement_of x.0) (λ x. x.3.now) result (select_at depth (kinds tokens.now)) }
     ensures along { IfOk result (λ x. walk_form x.0 next tokens.now ≡ Some (x.1, (x.2, x.3.now))) }
 {
@@ -281,7 +350,12 @@ fn select_form(alloc: Global, depth: usize, next: u32, tokens: &[Token]) -> Resu
 /// `if`, a condition, a block, and maybe `else` and a block.
 #[cycle(blocks)]
 #[tactic(auto, unfolding(crate::specs::Blocks::if_at, crate::specs::Blocks::otherwise_at), using(crate::proofs::SeenForms::if_seen, crate::proofs::SeenForms::if_walk))]
-fn if_form(alloc: Global, depth: usize, next: u32, tokens: &[Token]) -> Result<(StmtForm, u32, u32, &[Token]), Stop>
+fn if_form(
+    alloc: Global,
+    depth: usize,
+    next: u32,
+    tokens: &[Token],
+) -> Result<(StmtForm, u32, u32, &[Token]), Stop>
     ensures read { Gives (λ x. statement_of x.0) (λ x. x.3.now) result (if_at depth (kinds tokens.now)) }
     ensures along { IfOk result (λ x. walk_form x.0 next tokens.now ≡ Some (x.1, (x.2, x.3.now))) }
 {
@@ -297,7 +371,12 @@ fn if_form(alloc: Global, depth: usize, next: u32, tokens: &[Token]) -> Result<(
 /// `while`, a condition and a block.
 #[cycle(blocks)]
 #[tactic(auto, unfolding(crate::specs::Blocks::while_at, crate::specs::Blocks::block_at), using(crate::proofs::SeenForms::while_seen, crate::proofs::SeenForms::while_walk))]
-fn while_form(alloc: Global, depth: usize, next: u32, tokens: &[Token]) -> Result<(StmtForm, u32, u32, &[Token]), Stop>
+fn while_form(
+    alloc: Global,
+    depth: usize,
+    next: u32,
+    tokens: &[Token],
+) -> Result<(StmtForm, u32, u32, &[Token]), Stop>
     ensures read { Gives (λ x. statement_of x.0) (λ x. x.3.now) result (while_at depth (kinds tokens.now)) }
     ensures along { IfOk result (λ x. walk_form x.0 next tokens.now ≡ Some (x.1, (x.2, x.3.now))) }
 {
@@ -310,7 +389,12 @@ fn while_form(alloc: Global, depth: usize, next: u32, tokens: &[Token]) -> Resul
 /// `try`, a block and its handlers.
 #[cycle(blocks)]
 #[tactic(auto, unfolding(crate::specs::Blocks::try_at, crate::specs::Blocks::handler_at), using(crate::proofs::SeenForms::try_seen, crate::proofs::SeenForms::try_walk))]
-fn try_form(alloc: Global, depth: usize, next: u32, tokens: &[Token]) -> Result<(StmtForm, u32, u32, &[Token]), Stop>
+fn try_form(
+    alloc: Global,
+    depth: usize,
+    next: u32,
+    tokens: &[Token],
+) -> Result<(StmtForm, u32, u32, &[Token]), Stop>
     ensures read { Gives (λ x. statement_of x.0) (λ x. x.3.now) result (try_at depth (kinds tokens.now)) }
     ensures along { IfOk result (λ x. walk_form x.0 next tokens.now ≡ Some (x.1, (x.2, x.3.now))) }
 {
@@ -327,7 +411,12 @@ fn try_form(alloc: Global, depth: usize, next: u32, tokens: &[Token]) -> Result<
 /// A statement with blocks, or an assignment.
 #[cycle(blocks)]
 #[tactic(auto, unfolding(crate::specs::Blocks::compound_at))]
-fn compound(alloc: Global, depth: usize, next: u32, tokens: &[Token]) -> Result<(StmtForm, u32, u32, &[Token]), Stop>
+fn compound(
+    alloc: Global,
+    depth: usize,
+    next: u32,
+    tokens: &[Token],
+) -> Result<(StmtForm, u32, u32, &[Token]), Stop>
     ensures read { Gives (λ x. statement_of x.0) (λ x. x.3.now) result (compound_at depth (kinds tokens.now)) }
     ensures along { IfOk result (λ x. walk_form x.0 next tokens.now ≡ Some (x.1, (x.2, x.3.now))) }
 {
@@ -362,7 +451,12 @@ fn compound(alloc: Global, depth: usize, next: u32, tokens: &[Token]) -> Result<
 /// What a statement is, without its number and place.
 #[cycle(blocks)]
 #[tactic(auto, unfolding(crate::specs::Blocks::statement_at))]
-fn form(alloc: Global, depth: usize, next: u32, tokens: &[Token]) -> Result<(StmtForm, u32, u32, &[Token]), Stop>
+fn form(
+    alloc: Global,
+    depth: usize,
+    next: u32,
+    tokens: &[Token],
+) -> Result<(StmtForm, u32, u32, &[Token]), Stop>
     ensures read { Gives (λ x. statement_of x.0) (λ x. x.3.now) result (statement_at depth (kinds tokens.now)) }
     ensures along { IfOk result (λ x. walk_form x.0 next tokens.now ≡ Some (x.1, (x.2, x.3.now))) }
 {
@@ -377,7 +471,12 @@ fn form(alloc: Global, depth: usize, next: u32, tokens: &[Token]) -> Result<(Stm
 /// A statement with its number and place.
 #[cycle(blocks)]
 #[tactic(auto, using(crate::proofs::Bodies::statement_behind))]
-fn statement(alloc: Global, depth: usize, next: u32, tokens: &[Token]) -> Result<(Stmt, u32, &[Token]), Stop>
+fn statement(
+    alloc: Global,
+    depth: usize,
+    next: u32,
+    tokens: &[Token],
+) -> Result<(Stmt, u32, &[Token]), Stop>
     ensures read { Gives (λ x. statement_of x.0.form) (λ x. x.2.now) result (statement_at depth (kinds tokens.now)) }
     ensures along { IfOk result (λ x. walk_statement x.0 next tokens.now ≡ Some (x.1, x.2.now)) }
 {

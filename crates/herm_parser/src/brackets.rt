@@ -10,7 +10,8 @@ use herm_alphabet::{Mark, Token, TokenKind};
 /// How many brackets may be open at once.
 #[tactic(auto, unfolding(crate::specs::Parsing::most_brackets))]
 pub fn most_brackets() -> usize
-    ensures { result ≡ most_brackets }
+    ensures exact { result ≡ most_brackets }
+    ensures small { result ≤ 64 }
 {
     64
 }

@@ -442,7 +442,10 @@ fn outport_shape(alloc: Global, tokens: &[Token]) -> Result<(Name, &[Token]), St
 
 /// The parameters of a callmessage and the exceptions that it may raise.
 #[tactic(auto, unfolding(crate::specs::Shapes::callmessage_at))]
-fn callmessage_shape(alloc: Global, tokens: &[Token]) -> Result<((Vec<ParamForm>, Vec<RaiseForm>), &[Token]), Stop>
+fn callmessage_shape(
+    alloc: Global,
+    tokens: &[Token],
+) -> Result<((Vec<ParamForm>, Vec<RaiseForm>), &[Token]), Stop>
     ensures read { Gives (λ x. (map param_of x.0.0.items, map raising_of x.0.1.items)) (λ x. x.1.now) result (callmessage_at (kinds tokens.now)) }
     ensures along { IfOk result (λ x. past_shape (CallMessage x.0.0 x.0.1) tokens.now ≡ Some x.1.now) }
 {

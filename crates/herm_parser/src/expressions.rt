@@ -248,11 +248,7 @@ fn conjunction(alloc: Global, depth: usize, tokens: &[Token]) -> Result<(Conj, &
 
 /// Operands of `or` behind it.
 #[cycle(expressions)]
-fn or_operands(
-    alloc: Global,
-    depth: usize,
-    tokens: &[Token],
-) -> Result<(Vec<Conj>, &[Token]), Stop>
+fn or_operands(alloc: Global, depth: usize, tokens: &[Token]) -> Result<(Vec<Conj>, &[Token]), Stop>
     ensures read { Gives (λ x. map (λ o. (kw_or, conjunction_of o)) x.0.items) (λ x. x.1.now) result
         (many (is_operator 5) (sequence (one (pick_by (is_operator 5))) (conjunction_at depth)) (kinds tokens.now)) }
     ensures along { IfOk result (λ x. past_each (past_behind past_conjunction) x.0.items tokens.now ≡ Some x.1.now) }

@@ -98,7 +98,11 @@ fn any_ahead(tokens: &[Token]) -> bool
 }
 
 /// The modules of a file.
-pub fn modules(alloc: Global, depth: usize, tokens: &[Token]) -> Result<(Vec<Module>, &[Token]), Stop>
+pub fn modules(
+    alloc: Global,
+    depth: usize,
+    tokens: &[Token],
+) -> Result<(Vec<Module>, &[Token]), Stop>
     ensures read { Gives (λ x. map module_of x.0.items) (λ x. x.1.now) result (many anything (module_at depth) (kinds tokens.now)) }
     ensures along { IfOk result (λ x. past_each past_module x.0.items tokens.now ≡ Some x.1.now) }
 {

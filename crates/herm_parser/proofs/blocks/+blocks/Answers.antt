@@ -24,12 +24,13 @@ case_arms-list-smaller t c =
     loop_smaller arm_of (is kw_when) (case_arm_at c.args.depth) (case_arm_goes c.args.depth) c.in_ok-item.item c.list.rest.now c.in_ok-item.behind.now c.in_ok-item.ensures.read
 
 pub case_arms-list-preserved : goal.case_arms-list-preserved
-case_arms-list-preserved t c =
-    (loop_next arm_of (is kw_when) (case_arm_at c.args.depth) (case_arm_goes c.args.depth)
-    c.list.found.items c.push.new.self.items c.in_ok-item.item (kinds c.list.rest.now) (kinds c.in_ok-item.behind.now)
-    c.in_ok-push.ensures.items (search rules) c.in_ok-item.ensures.read ∙ c.list.invariant.0,
-    each_next walk_arm c.list.found.items c.push.new.self.items c.in_ok-item.item (c.args.next, (c.args.end, c.args.tokens.now)) (c.list.number, (c.list.last, c.list.rest.now)) (c.in_ok-item.after, (c.in_ok-item.end, c.in_ok-item.behind.now))
-    c.in_ok-push.ensures.items c.list.invariant.1 (c.in_ok-item.ensures.along c.list.last))
+case_arms-list-preserved t c = (
+  loop_next arm_of (is kw_when) (case_arm_at c.args.depth) (case_arm_goes c.args.depth)
+      c.list.found.items c.push.new.self.items c.in_ok-item.item (kinds c.list.rest.now) (kinds c.in_ok-item.behind.now)
+      c.in_ok-push.ensures.items (search rules) c.in_ok-item.ensures.read ∙ c.list.invariant.0,
+  each_next walk_arm c.list.found.items c.push.new.self.items c.in_ok-item.item (c.args.next, (c.args.end, c.args.tokens.now)) (c.list.number, (c.list.last, c.list.rest.now)) (c.in_ok-item.after, (c.in_ok-item.end, c.in_ok-item.behind.now))
+      c.in_ok-push.ensures.items c.list.invariant.1 (c.in_ok-item.ensures.along c.list.last),
+)
 
 pub handlers-list-init : goal.handlers-list-init
 handlers-list-init t c =
@@ -40,12 +41,13 @@ handlers-list-smaller t c =
     loop_smaller arm_of (is kw_on) (handler_at c.args.depth) (handler_goes c.args.depth) c.in_ok-item.item c.list.rest.now c.in_ok-item.behind.now c.in_ok-item.ensures.read
 
 pub handlers-list-preserved : goal.handlers-list-preserved
-handlers-list-preserved t c =
-    (loop_next arm_of (is kw_on) (handler_at c.args.depth) (handler_goes c.args.depth)
-    c.list.found.items c.push.new.self.items c.in_ok-item.item (kinds c.list.rest.now) (kinds c.in_ok-item.behind.now)
-    c.in_ok-push.ensures.items (search rules) c.in_ok-item.ensures.read ∙ c.list.invariant.0,
-    each_next walk_arm c.list.found.items c.push.new.self.items c.in_ok-item.item (c.args.next, (c.args.end, c.args.tokens.now)) (c.list.number, (c.list.last, c.list.rest.now)) (c.in_ok-item.after, (c.in_ok-item.end, c.in_ok-item.behind.now))
-    c.in_ok-push.ensures.items c.list.invariant.1 (c.in_ok-item.ensures.along c.list.last))
+handlers-list-preserved t c = (
+  loop_next arm_of (is kw_on) (handler_at c.args.depth) (handler_goes c.args.depth)
+      c.list.found.items c.push.new.self.items c.in_ok-item.item (kinds c.list.rest.now) (kinds c.in_ok-item.behind.now)
+      c.in_ok-push.ensures.items (search rules) c.in_ok-item.ensures.read ∙ c.list.invariant.0,
+  each_next walk_arm c.list.found.items c.push.new.self.items c.in_ok-item.item (c.args.next, (c.args.end, c.args.tokens.now)) (c.list.number, (c.list.last, c.list.rest.now)) (c.in_ok-item.after, (c.in_ok-item.end, c.in_ok-item.behind.now))
+      c.in_ok-push.ensures.items c.list.invariant.1 (c.in_ok-item.ensures.along c.list.last),
+)
 
 pub port_arms-list-init : goal.port_arms-list-init
 port_arms-list-init t c =
@@ -56,12 +58,13 @@ port_arms-list-smaller t c =
     loop_smaller port_arm_of (is kw_when) (port_arm_at c.args.depth) (port_arm_goes c.args.depth) c.in_ok-item.item c.list.rest.now c.in_ok-item.behind.now c.in_ok-item.ensures.read
 
 pub port_arms-list-preserved : goal.port_arms-list-preserved
-port_arms-list-preserved t c =
-    (loop_next port_arm_of (is kw_when) (port_arm_at c.args.depth) (port_arm_goes c.args.depth)
-    c.list.found.items c.push.new.self.items c.in_ok-item.item (kinds c.list.rest.now) (kinds c.in_ok-item.behind.now)
-    c.in_ok-push.ensures.items (search rules) c.in_ok-item.ensures.read ∙ c.list.invariant.0,
-    each_next walk_port_arm c.list.found.items c.push.new.self.items c.in_ok-item.item (c.args.next, (c.args.end, c.args.tokens.now)) (c.list.number, (c.list.last, c.list.rest.now)) (c.in_ok-item.after, (c.in_ok-item.end, c.in_ok-item.behind.now))
-    c.in_ok-push.ensures.items c.list.invariant.1 (c.in_ok-item.ensures.along c.list.last))
+port_arms-list-preserved t c = (
+  loop_next port_arm_of (is kw_when) (port_arm_at c.args.depth) (port_arm_goes c.args.depth)
+      c.list.found.items c.push.new.self.items c.in_ok-item.item (kinds c.list.rest.now) (kinds c.in_ok-item.behind.now)
+      c.in_ok-push.ensures.items (search rules) c.in_ok-item.ensures.read ∙ c.list.invariant.0,
+  each_next walk_port_arm c.list.found.items c.push.new.self.items c.in_ok-item.item (c.args.next, (c.args.end, c.args.tokens.now)) (c.list.number, (c.list.last, c.list.rest.now)) (c.in_ok-item.after, (c.in_ok-item.end, c.in_ok-item.behind.now))
+      c.in_ok-push.ensures.items c.list.invariant.1 (c.in_ok-item.ensures.along c.list.last),
+)
 
 pub further-list-init : goal.further-list-init
 further-list-init t c =
@@ -72,12 +75,13 @@ further-list-smaller t c =
     loop_smaller (λ (s : Stmt). statement_of s.form) inside (statement_at c.args.depth) (statement_goes c.args.depth) c.in_ok-item.item c.list.rest.now c.in_ok-item.behind.now c.in_ok-item.ensures.read
 
 pub further-list-preserved : goal.further-list-preserved
-further-list-preserved t c =
-    (loop_next (λ (s : Stmt). statement_of s.form) inside (statement_at c.args.depth) (statement_goes c.args.depth)
-    c.list.found.items c.push.new.self.items c.in_ok-item.item (kinds c.list.rest.now) (kinds c.in_ok-item.behind.now)
-    c.in_ok-push.ensures.items (search rules) c.in_ok-item.ensures.read ∙ c.list.invariant.0,
-    body_next c.list.found.items c.push.new.self.items c.in_ok-item.item c.args.next c.list.number c.in_ok-item.after c.args.tokens.now c.list.rest.now c.in_ok-item.behind.now
-    c.in_ok-push.ensures.items c.list.invariant.1 c.in_ok-item.ensures.along)
+further-list-preserved t c = (
+  loop_next (λ (s : Stmt). statement_of s.form) inside (statement_at c.args.depth) (statement_goes c.args.depth)
+      c.list.found.items c.push.new.self.items c.in_ok-item.item (kinds c.list.rest.now) (kinds c.in_ok-item.behind.now)
+      c.in_ok-push.ensures.items (search rules) c.in_ok-item.ensures.read ∙ c.list.invariant.0,
+  body_next c.list.found.items c.push.new.self.items c.in_ok-item.item c.args.next c.list.number c.in_ok-item.after c.args.tokens.now c.list.rest.now c.in_ok-item.behind.now
+      c.in_ok-push.ensures.items c.list.invariant.1 c.in_ok-item.ensures.along,
+)
 
 pub statement-returns-in-empty-clause-read : goal.statement-returns-in-empty-clause-read
 statement-returns-in-empty-clause-read t c =

@@ -20,9 +20,10 @@ pub list-smaller : goal.list-smaller
 list-smaller c = loop_smaller (field_of) (is comma) (leading (is comma) read_field) (goes_behind Comma field_r.rule read_field field_r.reads) c.in_ok-item.item c.list.rest.now c.in_ok-item.behind.now c.in_ok-item.ensures.read
 
 pub list-preserved : goal.list-preserved
-list-preserved c =
-    (loop_next (field_of) (is comma) (leading (is comma) read_field) (goes_behind Comma field_r.rule read_field field_r.reads)
-    c.list.found.items c.push.new.self.items c.in_ok-item.item (kinds c.list.rest.now) (kinds c.in_ok-item.behind.now)
-    c.in_ok-push.ensures.items (search rules) c.in_ok-item.ensures.read ∙ c.list.invariant.0,
-    past_next (past_behind past_field) c.list.found.items c.push.new.self.items c.in_ok-item.item c.args.tokens.now c.list.rest.now c.in_ok-item.behind.now
-    c.in_ok-push.ensures.items c.list.invariant.1 c.in_ok-item.ensures.along)
+list-preserved c = (
+  loop_next (field_of) (is comma) (leading (is comma) read_field) (goes_behind Comma field_r.rule read_field field_r.reads)
+      c.list.found.items c.push.new.self.items c.in_ok-item.item (kinds c.list.rest.now) (kinds c.in_ok-item.behind.now)
+      c.in_ok-push.ensures.items (search rules) c.in_ok-item.ensures.read ∙ c.list.invariant.0,
+  past_next (past_behind past_field) c.list.found.items c.push.new.self.items c.in_ok-item.item c.args.tokens.now c.list.rest.now c.in_ok-item.behind.now
+      c.in_ok-push.ensures.items c.list.invariant.1 c.in_ok-item.ensures.along,
+)

@@ -18,9 +18,10 @@ pub list-smaller : goal.list-smaller
 list-smaller c = loop_smaller (module_of) (anything) (module_at c.args.depth) (module_goes c.args.depth) c.in_ok-item.item c.list.rest.now c.in_ok-item.behind.now c.in_ok-item.ensures.read
 
 pub list-preserved : goal.list-preserved
-list-preserved c =
-    (loop_next (module_of) (anything) (module_at c.args.depth) (module_goes c.args.depth)
-    c.list.found.items c.push.new.self.items c.in_ok-item.item (kinds c.list.rest.now) (kinds c.in_ok-item.behind.now)
-    c.in_ok-push.ensures.items (search rules) c.in_ok-item.ensures.read ∙ c.list.invariant.0,
-    past_next (past_module) c.list.found.items c.push.new.self.items c.in_ok-item.item c.args.tokens.now c.list.rest.now c.in_ok-item.behind.now
-    c.in_ok-push.ensures.items c.list.invariant.1 c.in_ok-item.ensures.along)
+list-preserved c = (
+  loop_next (module_of) (anything) (module_at c.args.depth) (module_goes c.args.depth)
+      c.list.found.items c.push.new.self.items c.in_ok-item.item (kinds c.list.rest.now) (kinds c.in_ok-item.behind.now)
+      c.in_ok-push.ensures.items (search rules) c.in_ok-item.ensures.read ∙ c.list.invariant.0,
+  past_next (past_module) c.list.found.items c.push.new.self.items c.in_ok-item.item c.args.tokens.now c.list.rest.now c.in_ok-item.behind.now
+      c.in_ok-push.ensures.items c.list.invariant.1 c.in_ok-item.ensures.along,
+)
