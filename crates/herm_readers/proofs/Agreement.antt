@@ -2,7 +2,8 @@
 -- they go agree on symbols that do not go so deep.
 use Rattle.std.proofs.Common.{◌≡◌, ℕ, zero, suc, Bool, true, false, ◌⊎◌, inl, inr, List, [], ◌∷◌, length, Option, Some, None, refl, ap, ◌∙◌, subst}
 use Rattle.herm_readers.specs.Reader.{Answer, Read, Fault, Reader, ahead}
-use Rattle.herm_readers.specs.Combinators.{onward, passes, one, picked, changed, depending, sequence, led, leading, closing, chosen, choice, many_step, many_at, many, separated}
+use Rattle.herm_readers.proofs.Marks.{led}
+use Rattle.herm_readers.specs.Combinators.{onward, passes, one, picked, changed, depending, sequence, leading, closing, chosen, choice, many_step, many_at, many, separated}
 use Rattle.herm_readers.specs.Brackets.{Side, Opening, Closing, Neither, too_deep_step, too_deep}
 
 -- With so much room before, the two answer alike, and what is read leaves so much room after.

@@ -2,10 +2,14 @@
 use Rattle.std.proofs.Common.{◌≡◌, Bool, true, false, ◌&&◌, List, [], ◌∷◌, Option, Some, None, refl, ap}
 use Rattle.std.proofs.lemmas.Bool.{and_parts, and_from}
 use Rattle.herm_readers.specs.Reader.{Answer, Read, Fault, Reader, Rule, Reads}
-use Rattle.herm_readers.specs.Combinators.{onward, one, one_rule, picked, changed, sequence, sequence_rule, led, leading, leading_rule, shut, closing, closing_rule}
+use Rattle.herm_readers.specs.Combinators.{onward, one, one_rule, picked, changed, sequence, sequence_rule, skipped, leading, leading_rule, shut, closing, closing_rule}
 use Rattle.herm_readers.specs.Laws.{Picks, IsTestFor, Changes}
 use Rattle.herm_readers.proofs.Simple.{one_reads, changed_reads, alike_reads}
 use Rattle.herm_readers.proofs.Sequences.{sequence_reads}
+
+-- what follows where a symbol passed the test
+abbrev pub led : {S A : Type 0} → Bool → Reader S A → List S → Answer S A
+led passed read rest = onward (skipped passed rest) (λ none behind. read behind)
 
 -- the mark alone
 abbrev marked : Bool → Option (Unit {0})

@@ -54,21 +54,25 @@ sequence first second = depending first (λ a. second)
 abbrev pub sequence_rule : {S A B : Type 0} → Rule S A → Rule S B → Rule S (A × B)
 sequence_rule first second = depending_rule first (λ a. second)
 
--- A symbol that passes the test, and then what `read` reads.
-abbrev pub led : {S A : Type 0} → Bool → Reader S A → List S → Answer S A
-led true read rest = read rest
-led false read rest = Fault (suc (length rest))
+-- A symbol that passes the test is passed over.
+abbrev pub skipped : {S : Type 0} → Bool → List S → Answer S (Unit {0})
+skipped true rest = Read tt rest
+skipped false rest = Fault (suc (length rest))
 
+abbrev pub skip : {S : Type 0} → (S → Bool) → Reader S (Unit {0})
+skip test [] = Fault 0
+skip test (x ∷ rest) = skipped (test x) rest
+
+-- A symbol that passes the test, and then what `read` reads.
 abbrev pub leading : {S A : Type 0} → (S → Bool) → Reader S A → Reader S A
-leading test read [] = Fault 0
-leading test read (x ∷ rest) = led (test x) read rest
+leading test read symbols = onward (skip test symbols) (λ none rest. read rest)
 
 abbrev pub leading_rule : {S A : Type 0} → S → Rule S A → Rule S A
 leading_rule x rule = record { fits = rule.fits; spelling = λ tree. x ∷ rule.spelling tree; ends = rule.ends }
 
 -- What `read` reads, and then a symbol that passes the test.
 abbrev pub shut : {S A : Type 0} → (S → Bool) → A → List S → Answer S A
-shut test tree symbols = leading test (λ rest. Read tree rest) symbols
+shut test tree symbols = onward (skip test symbols) (λ none rest. Read tree rest)
 
 abbrev pub closing : {S A : Type 0} → (S → Bool) → Reader S A → Reader S A
 closing test read symbols = onward (read symbols) (shut test)

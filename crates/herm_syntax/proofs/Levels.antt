@@ -275,7 +275,7 @@ module _ (n levels : ℕ) (read : Reader Symbol Expression) (reads : Reads (expr
       (sequence_reads (expression_rule n levels) (choice_rule (is_operator (suc n)) operand_parts nothing_rule) read (choice (is_operator (suc n)) (sequence (one (pick_by (is_operator (suc n)))) read) nothing) reads
       (choice_reads (is_operator (suc n)) operand_parts nothing_rule (sequence (one (pick_by (is_operator (suc n)))) read) nothing operand_reads (nothing_reads Symbol)))
 
-levels_reads : (levels : ℕ) (read : Reader Symbol Primary) → Reads (primary_rule levels) read → Reads (expression_rule 5 levels) (read_levels read)
+pub levels_reads : (levels : ℕ) (read : Reader Symbol Primary) → Reads (primary_rule levels) read → Reads (expression_rule 5 levels) (read_levels read)
 levels_reads levels read reads =
     let unary = unary_reads levels read reads in
     let product = chain_reads 0 levels (read_unary read) unary star refl refl in
