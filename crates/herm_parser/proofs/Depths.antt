@@ -34,3 +34,6 @@ levels_are (suc depth) = ap (λ (read : Reader Symbol Expression). read_levels (
 -- The reader of expressions is the grammar's.
 pub expression_is : (depth : ℕ) → expression_at depth ≡ read_expression depth
 expression_is depth = at_levels_alone depth ∙ levels_are depth
+
+pub expression_at_is : (depth : ℕ) (symbols : List Symbol) → read_expression depth symbols ≡ expression_at depth symbols
+expression_at_is depth symbols = ap (λ (read : Reader Symbol Expression). read symbols) (sym (expression_is depth))

@@ -3,3 +3,7 @@ pub mod Depths
 pub mod Seen
 pub mod Going
 pub mod Choosing
+pub mod SeenForms
+pub mod Bodies
+pub mod Turns
+pub mod Whole

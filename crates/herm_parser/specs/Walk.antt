@@ -1,6 +1,8 @@
 -- Statements go along tokens: each name has its token's place, each statement begins at its first token, ends at its
 -- last and has the next number, one in a block a greater one than what holds it.
 use Rattle.std.specs.Prelude.{ℕ, suc, Bool, false, ◌==◌, ◌&&◌, if◌then◌else◌, List, [], ◌∷◌, Option, Some, None}
+use Rattle.std.specs.Prelude.{Vec}
+use Rattle.std.specs.Global.{Global}
 use Rattle.herm_base.specs.declared.numbers.StmtNo.{StmtNo}
 use Rattle.herm_base.specs.declared.word.Span.{Span}
 use Rattle.herm_base.specs.declared.word.Name.{Name}
@@ -111,3 +113,19 @@ walk_statement s n tokens = stated s.no s.span n tokens (walk_form s.form (suc n
 abbrev pub walk_body : List Stmt → ℕ → List Token → Moved
 walk_body [] n tokens = Some (n, tokens)
 walk_body (s ∷ others) n tokens = walk_statement s n tokens >>= λ w. walk_body others w.0 w.1
+
+-- Arms one after the other, each behind the end of the one before.
+abbrev pub walk_each : {X : Type 0} → (X → ℕ × (ℕ × List Token) → Walked) → List X → ℕ × (ℕ × List Token) → Walked
+walk_each walk [] w = Some w
+walk_each walk (x ∷ others) w = walk x w >>= λ v. walk_each walk others v
+
+-- An arm of a case or a handler, an arm of a select, and what stands behind `else`.
+abbrev pub walk_arm : Name × Vec Stmt Global → ℕ × (ℕ × List Token) → Walked
+walk_arm a w = past_token w.1.1 >>= λ b. past_name a.0 b >>= λ c. blocked (walk_body a.1.items) w.0 c
+
+abbrev pub walk_port_arm : PathForm × PathForm × Vec Stmt Global → ℕ × (ℕ × List Token) → Walked
+walk_port_arm a w = past_token w.1.1 >>= λ b. past_pair a.0 a.1 b >>= λ c. blocked (walk_body a.2.items) w.0 c
+
+abbrev pub walk_else : Option (Vec Stmt Global) → ℕ × (ℕ × List Token) → Walked
+walk_else None w = Some w
+walk_else (Some body) w = past_token w.1.1 >>= λ a. blocked (walk_body body.items) w.0 a

@@ -248,11 +248,7 @@ fn conjunction(alloc: Global, depth: usize, tokens: &[Token]) -> Result<(Conj, &
 
 /// Operands of `or` behind it.
 #[cycle(expressions)]
-fn or_operands(
-    alloc: Global,
-    depth: usize,
-    tokens: &[Token],
-) -> Result<(Vec<Conj>, &[Token]), Stop>
+fn or_operands(alloc: Global, depth: usize, tokens: &[Token]) -> Result<(Vec<Conj>, &[Token]), Stop>
     ensures read { Gives (λ x. map (λ o. (kw_or, conjunction_of o)) x.0.items) (λ x. x.1.now) result
         (many (is_operator 5) (sequence (one (pick_by (is_operator 5))) (conjunction_at depth)) (kinds tokens.now)) }
     ensures along { IfOk result (λ x. past_each (past_behind past_conjunction) x.0.items tokens.now ≡ Some x.1.now) }
@@ -284,4 +280,18 @@ fn expression(alloc: Global, depth: usize, tokens: &[Token]) -> Result<(Expr, &[
         },
         rest,
     ))
+}
+
+/// An expression.
+#[tactic(auto, using(crate::proofs::Depths::expression_at_is))]
+pub fn expression_within(
+    alloc: Global,
+    depth: usize,
+    tokens: &[Token],
+) -> Result<(Expr, &[Token]), Stop>
+    ensures read { Gives (λ x. expression_of x.0) (λ x. x.1.now) result (read_expression depth (kinds tokens.now)) }
+    ensures along { IfOk result (λ x. past_expression x.0 tokens.now ≡ Some x.1.now) }
+{
+    let (found, rest) = expression(alloc, depth, tokens)?;
+    Ok((found, rest))
 }

@@ -93,11 +93,7 @@ fn touch_ahead(tokens: &[Token]) -> bool
     match tokens {
         [first, ..] => matches!(
             &first.kind,
-            TokenKind::Key(
-                Keyword::KwNew
-                    | Keyword::KwDiscard
-                    | Keyword::KwReveal
-            )
+            TokenKind::Key(Keyword::KwNew | Keyword::KwDiscard | Keyword::KwReveal)
         ),
         [] => false,
     }
@@ -136,10 +132,7 @@ fn find_ahead(tokens: &[Token]) -> bool
     match tokens {
         [first, ..] => matches!(
             &first.kind,
-            TokenKind::Key(
-                Keyword::KwRemove
-                    | Keyword::KwGet
-            )
+            TokenKind::Key(Keyword::KwRemove | Keyword::KwGet)
         ),
         [] => false,
     }

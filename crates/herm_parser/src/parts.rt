@@ -80,7 +80,10 @@ pub fn one_path(alloc: Global, tokens: &[Token]) -> Result<(PathForm, u32, &[Tok
 }
 
 /// The same where the path is one to a component.
-pub fn one_component_path(alloc: Global, tokens: &[Token]) -> Result<(PathForm, u32, &[Token]), Stop>
+pub fn one_component_path(
+    alloc: Global,
+    tokens: &[Token],
+) -> Result<(PathForm, u32, &[Token]), Stop>
     ensures read { Gives (λ x. path_of x.0) (λ x. x.2.now) result (closing (is semicolon) read_component_path (kinds tokens.now)) }
     ensures along { IfOk result (λ x. (n : _) → ended n (past_path x.0 tokens.now) ≡ Some (n, (x.1, x.2.now))) }
 {

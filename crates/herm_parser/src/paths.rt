@@ -15,7 +15,11 @@ use herm_syntax::{Atom, Literal, PathForm};
 use std::alloc::{AllocError, Global};
 
 /// A first item, and those behind it.
-pub fn with_first<T: Drop>(alloc: Global, first: T, mut behind: Vec<T>) -> Result<Vec<T>, AllocError>
+pub fn with_first<T: Drop>(
+    alloc: Global,
+    first: T,
+    mut behind: Vec<T>,
+) -> Result<Vec<T>, AllocError>
     ensures { IfOk result (λ v. v.items ≡ first ∷ behind.items) }
 {
     let mut all = Vec::with_capacity(alloc, behind.len() + 1)?;

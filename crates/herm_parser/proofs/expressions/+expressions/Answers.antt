@@ -24,12 +24,13 @@ product_operands-list-smaller t c =
     loop_smaller (λ (o : ProdOp × Unary). (product_symbol o.0, unary_of o.1)) (is_operator 1) (sequence (one (pick_by (is_operator 1))) (unary_at c.args.depth)) (unary_goes c.args.depth) (c.in_ok-operator.operator, c.in_ok-item.item) c.list.rest.now c.in_ok-item.behind.now (search rules)
 
 pub product_operands-list-preserved : goal.product_operands-list-preserved
-product_operands-list-preserved t c =
-    (loop_next (λ (o : ProdOp × Unary). (product_symbol o.0, unary_of o.1)) (is_operator 1) (sequence (one (pick_by (is_operator 1))) (unary_at c.args.depth)) (unary_goes c.args.depth)
-    c.list.found.items c.push.new.self.items (c.in_ok-operator.operator, c.in_ok-item.item) (kinds c.list.rest.now) (kinds c.in_ok-item.behind.now)
-    c.in_ok-push.ensures.items (search rules) (search rules) ∙ c.list.invariant.0,
-    past_next (λ (o : ProdOp × Unary). past_behind past_unary o.1) c.list.found.items c.push.new.self.items (c.in_ok-operator.operator, c.in_ok-item.item) c.args.tokens.now c.list.rest.now c.in_ok-item.behind.now
-    c.in_ok-push.ensures.items c.list.invariant.1 (search rules))
+product_operands-list-preserved t c = (
+  loop_next (λ (o : ProdOp × Unary). (product_symbol o.0, unary_of o.1)) (is_operator 1) (sequence (one (pick_by (is_operator 1))) (unary_at c.args.depth)) (unary_goes c.args.depth)
+      c.list.found.items c.push.new.self.items (c.in_ok-operator.operator, c.in_ok-item.item) (kinds c.list.rest.now) (kinds c.in_ok-item.behind.now)
+      c.in_ok-push.ensures.items (search rules) (search rules) ∙ c.list.invariant.0,
+  past_next (λ (o : ProdOp × Unary). past_behind past_unary o.1) c.list.found.items c.push.new.self.items (c.in_ok-operator.operator, c.in_ok-item.item) c.args.tokens.now c.list.rest.now c.in_ok-item.behind.now
+      c.in_ok-push.ensures.items c.list.invariant.1 (search rules),
+)
 
 pub sum_operands-list-init : goal.sum_operands-list-init
 sum_operands-list-init t c =
@@ -40,12 +41,13 @@ sum_operands-list-smaller t c =
     loop_smaller (λ (o : SumOp × Prod). (sum_symbol o.0, product_of o.1)) (is_operator 2) (sequence (one (pick_by (is_operator 2))) (product_at c.args.depth)) (product_goes c.args.depth) (c.in_ok-operator.operator, c.in_ok-item.item) c.list.rest.now c.in_ok-item.behind.now (search rules)
 
 pub sum_operands-list-preserved : goal.sum_operands-list-preserved
-sum_operands-list-preserved t c =
-    (loop_next (λ (o : SumOp × Prod). (sum_symbol o.0, product_of o.1)) (is_operator 2) (sequence (one (pick_by (is_operator 2))) (product_at c.args.depth)) (product_goes c.args.depth)
-    c.list.found.items c.push.new.self.items (c.in_ok-operator.operator, c.in_ok-item.item) (kinds c.list.rest.now) (kinds c.in_ok-item.behind.now)
-    c.in_ok-push.ensures.items (search rules) (search rules) ∙ c.list.invariant.0,
-    past_next (λ (o : SumOp × Prod). past_behind past_product o.1) c.list.found.items c.push.new.self.items (c.in_ok-operator.operator, c.in_ok-item.item) c.args.tokens.now c.list.rest.now c.in_ok-item.behind.now
-    c.in_ok-push.ensures.items c.list.invariant.1 (search rules))
+sum_operands-list-preserved t c = (
+  loop_next (λ (o : SumOp × Prod). (sum_symbol o.0, product_of o.1)) (is_operator 2) (sequence (one (pick_by (is_operator 2))) (product_at c.args.depth)) (product_goes c.args.depth)
+      c.list.found.items c.push.new.self.items (c.in_ok-operator.operator, c.in_ok-item.item) (kinds c.list.rest.now) (kinds c.in_ok-item.behind.now)
+      c.in_ok-push.ensures.items (search rules) (search rules) ∙ c.list.invariant.0,
+  past_next (λ (o : SumOp × Prod). past_behind past_product o.1) c.list.found.items c.push.new.self.items (c.in_ok-operator.operator, c.in_ok-item.item) c.args.tokens.now c.list.rest.now c.in_ok-item.behind.now
+      c.in_ok-push.ensures.items c.list.invariant.1 (search rules),
+)
 
 pub and_operands-list-init : goal.and_operands-list-init
 and_operands-list-init t c =
@@ -56,12 +58,13 @@ and_operands-list-smaller t c =
     loop_smaller (λ o. (kw_and, comparison_of o)) (is_operator 4) (sequence (one (pick_by (is_operator 4))) (comparison_at c.args.depth)) (comparison_goes c.args.depth) c.in_ok-item.item c.list.rest.now c.in_ok-item.behind.now (search rules)
 
 pub and_operands-list-preserved : goal.and_operands-list-preserved
-and_operands-list-preserved t c =
-    (loop_next (λ o. (kw_and, comparison_of o)) (is_operator 4) (sequence (one (pick_by (is_operator 4))) (comparison_at c.args.depth)) (comparison_goes c.args.depth)
-    c.list.found.items c.push.new.self.items c.in_ok-item.item (kinds c.list.rest.now) (kinds c.in_ok-item.behind.now)
-    c.in_ok-push.ensures.items (search rules) (search rules) ∙ c.list.invariant.0,
-    past_next (past_behind past_comparison) c.list.found.items c.push.new.self.items c.in_ok-item.item c.args.tokens.now c.list.rest.now c.in_ok-item.behind.now
-    c.in_ok-push.ensures.items c.list.invariant.1 (search rules))
+and_operands-list-preserved t c = (
+  loop_next (λ o. (kw_and, comparison_of o)) (is_operator 4) (sequence (one (pick_by (is_operator 4))) (comparison_at c.args.depth)) (comparison_goes c.args.depth)
+      c.list.found.items c.push.new.self.items c.in_ok-item.item (kinds c.list.rest.now) (kinds c.in_ok-item.behind.now)
+      c.in_ok-push.ensures.items (search rules) (search rules) ∙ c.list.invariant.0,
+  past_next (past_behind past_comparison) c.list.found.items c.push.new.self.items c.in_ok-item.item c.args.tokens.now c.list.rest.now c.in_ok-item.behind.now
+      c.in_ok-push.ensures.items c.list.invariant.1 (search rules),
+)
 
 pub or_operands-list-init : goal.or_operands-list-init
 or_operands-list-init t c =
@@ -72,10 +75,10 @@ or_operands-list-smaller t c =
     loop_smaller (λ o. (kw_or, conjunction_of o)) (is_operator 5) (sequence (one (pick_by (is_operator 5))) (conjunction_at c.args.depth)) (conjunction_goes c.args.depth) c.in_ok-item.item c.list.rest.now c.in_ok-item.behind.now (search rules)
 
 pub or_operands-list-preserved : goal.or_operands-list-preserved
-or_operands-list-preserved t c =
-    (loop_next (λ o. (kw_or, conjunction_of o)) (is_operator 5) (sequence (one (pick_by (is_operator 5))) (conjunction_at c.args.depth)) (conjunction_goes c.args.depth)
-    c.list.found.items c.push.new.self.items c.in_ok-item.item (kinds c.list.rest.now) (kinds c.in_ok-item.behind.now)
-    c.in_ok-push.ensures.items (search rules) (search rules) ∙ c.list.invariant.0,
-    past_next (past_behind past_conjunction) c.list.found.items c.push.new.self.items c.in_ok-item.item c.args.tokens.now c.list.rest.now c.in_ok-item.behind.now
-    c.in_ok-push.ensures.items c.list.invariant.1 (search rules))
-
+or_operands-list-preserved t c = (
+  loop_next (λ o. (kw_or, conjunction_of o)) (is_operator 5) (sequence (one (pick_by (is_operator 5))) (conjunction_at c.args.depth)) (conjunction_goes c.args.depth)
+      c.list.found.items c.push.new.self.items c.in_ok-item.item (kinds c.list.rest.now) (kinds c.in_ok-item.behind.now)
+      c.in_ok-push.ensures.items (search rules) (search rules) ∙ c.list.invariant.0,
+  past_next (past_behind past_conjunction) c.list.found.items c.push.new.self.items c.in_ok-item.item c.args.tokens.now c.list.rest.now c.in_ok-item.behind.now
+      c.in_ok-push.ensures.items c.list.invariant.1 (search rules),
+)

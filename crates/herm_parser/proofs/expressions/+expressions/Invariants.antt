@@ -75,4 +75,3 @@ invariant-or_operands-list l =
 
 abbrev pub decreases-or_operands-list : goal.decreases-or_operands-list
 decreases-or_operands-list l = length l.rest
-

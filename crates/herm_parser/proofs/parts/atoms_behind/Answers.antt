@@ -19,9 +19,10 @@ pub list-smaller : goal.list-smaller
 list-smaller c = loop_smaller (atom_of) (is comma) (leading (is comma) read_atom) (goes_behind Comma atom_rule read_atom atom_reads) c.in_ok-item.item c.list.rest.now c.in_ok-item.behind.now c.in_ok-item.ensures.read
 
 pub list-preserved : goal.list-preserved
-list-preserved c =
-    (loop_next (atom_of) (is comma) (leading (is comma) read_atom) (goes_behind Comma atom_rule read_atom atom_reads)
-    c.list.found.items c.push.new.self.items c.in_ok-item.item (kinds c.list.rest.now) (kinds c.in_ok-item.behind.now)
-    c.in_ok-push.ensures.items (search rules) c.in_ok-item.ensures.read ∙ c.list.invariant.0,
-    past_next (past_behind past_atom) c.list.found.items c.push.new.self.items c.in_ok-item.item c.args.tokens.now c.list.rest.now c.in_ok-item.behind.now
-    c.in_ok-push.ensures.items c.list.invariant.1 c.in_ok-item.ensures.along)
+list-preserved c = (
+  loop_next (atom_of) (is comma) (leading (is comma) read_atom) (goes_behind Comma atom_rule read_atom atom_reads)
+      c.list.found.items c.push.new.self.items c.in_ok-item.item (kinds c.list.rest.now) (kinds c.in_ok-item.behind.now)
+      c.in_ok-push.ensures.items (search rules) c.in_ok-item.ensures.read ∙ c.list.invariant.0,
+  past_next (past_behind past_atom) c.list.found.items c.push.new.self.items c.in_ok-item.item c.args.tokens.now c.list.rest.now c.in_ok-item.behind.now
+      c.in_ok-push.ensures.items c.list.invariant.1 c.in_ok-item.ensures.along,
+)

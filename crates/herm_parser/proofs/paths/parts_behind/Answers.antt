@@ -18,9 +18,10 @@ pub list-smaller : goal.list-smaller
 list-smaller c = loop_smaller (letters) (is (Sign c.args.before)) (leading (is (Sign c.args.before)) read_part) (goes_behind c.args.before part_rule read_part part_reads) c.in_ok-item.item c.list.rest.now c.in_ok-item.behind.now c.in_ok-item.ensures.read
 
 pub list-preserved : goal.list-preserved
-list-preserved c =
-    (loop_next (letters) (is (Sign c.args.before)) (leading (is (Sign c.args.before)) read_part) (goes_behind c.args.before part_rule read_part part_reads)
-    c.list.found.items c.push.new.self.items c.in_ok-item.item (kinds c.list.rest.now) (kinds c.in_ok-item.behind.now)
-    c.in_ok-push.ensures.items (search rules) c.in_ok-item.ensures.read ∙ c.list.invariant.0,
-    past_next (past_behind past_name) c.list.found.items c.push.new.self.items c.in_ok-item.item c.args.tokens.now c.list.rest.now c.in_ok-item.behind.now
-    c.in_ok-push.ensures.items c.list.invariant.1 c.in_ok-item.ensures.along)
+list-preserved c = (
+  loop_next (letters) (is (Sign c.args.before)) (leading (is (Sign c.args.before)) read_part) (goes_behind c.args.before part_rule read_part part_reads)
+      c.list.found.items c.push.new.self.items c.in_ok-item.item (kinds c.list.rest.now) (kinds c.in_ok-item.behind.now)
+      c.in_ok-push.ensures.items (search rules) c.in_ok-item.ensures.read ∙ c.list.invariant.0,
+  past_next (past_behind past_name) c.list.found.items c.push.new.self.items c.in_ok-item.item c.args.tokens.now c.list.rest.now c.in_ok-item.behind.now
+      c.in_ok-push.ensures.items c.list.invariant.1 c.in_ok-item.ensures.along,
+)
