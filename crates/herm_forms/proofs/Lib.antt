@@ -17,3 +17,4 @@ pub mod forms
 pub mod renamed
 pub mod evaluated
 pub mod called
+pub mod typed

@@ -15,3 +15,5 @@ pub mod ExpressionLaws
 pub mod Exceptions
 pub mod ComponentLaws
 pub mod CallLaws
+pub mod TypedForms
+pub mod laws

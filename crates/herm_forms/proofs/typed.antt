@@ -1,0 +1,2 @@
+-- What typed forms keep.
+pub mod TypedAtoms

@@ -1,0 +1,2 @@
+-- What is claimed of typed forms.
+pub mod TypedAtoms
