@@ -1,2 +1,6 @@
 -- What typed forms keep.
 pub mod TypedAtoms
+pub mod LocalForms
+pub mod ActionForms
+pub mod CallForms
+pub mod FormsSound

@@ -16,4 +16,5 @@ pub mod Exceptions
 pub mod ComponentLaws
 pub mod CallLaws
 pub mod TypedForms
+pub mod Incoming
 pub mod laws

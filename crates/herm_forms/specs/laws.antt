@@ -1,2 +1,3 @@
 -- What is claimed of typed forms.
 pub mod TypedAtoms
+pub mod FormsSound

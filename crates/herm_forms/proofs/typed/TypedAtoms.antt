@@ -7,24 +7,24 @@ use Rattle.herm_model.specs.Types.{TypeTable, fields, rows, Mode, by_in, by_inou
 use Rattle.herm_model.specs.Expressions.{Atom, literal, path, copy, paths_among}
 use Rattle.herm_model.specs.Calls.{call_parameters, is_given, arguments_by}
 use Rattle.herm_model.specs.Statements.{Form, Process, Remove, Get, Call}
-use Rattle.herm_model.specs.StatementTable.{room_for, present, full, full_of_each, given, set_by_call, needs}
-use Rattle.herm_model.specs.Values.{Scalar, Cell, Parts, part, read_at, Value, forget}
+use Rattle.herm_model.specs.StatementTable.{room_for, present, full, full_of_each, given, set_by_call}
+use Rattle.herm_model.specs.Values.{Cell, Parts, part, read_at, Value, forget}
 use Rattle.herm_model.specs.Typed.{IsFull}
 use Rattle.herm_model.specs.TypedExpressions.{HasShape}
 use Rattle.herm_model.specs.WellFormedTables.{IsWellFormedTable, IsScalarField}
 use Rattle.herm_model.specs.TypedStatements.{IsTypedAtom, IsArgument, AreArguments, AreKeysOf, IsFound}
 use Rattle.herm_model.proofs.Lists.{in-flat_map, in-flat_map_from, in-append_right}
-use Rattle.herm_model.proofs.Options.{some-injective, none-not_some}
+use Rattle.herm_model.proofs.Options.{some-injective}
 use Rattle.herm_model.proofs.TypedCalls.{parameters-are}
 use Rattle.herm_forms.specs.Bodies.{Name}
 use Rattle.herm_forms.specs.Edges.{Code}
-use Rattle.herm_forms.specs.Evaluate.{Evaluated, gives, scalar_value, scalar_of, atom_value, value_there, key_of_value, key_values}
+use Rattle.herm_forms.specs.Evaluate.{Evaluated, gives, scalar_value, scalar_of, atom_value, value_there, key_of_value}
 use Rattle.herm_forms.specs.Acts.{input_of, inputs_of, value_before}
 use Rattle.herm_forms.specs.Arrival.{AreSound, AreDeep}
 use Rattle.herm_forms.specs.CallLaws.{AreFullInputs}
 use Rattle.herm_forms.specs.ExpressionLaws.{ComesTo, WhereFound}
 use Rattle.herm_forms.specs.TypedForms.{IsTypedIn}
-use Rattle.herm_forms.specs.laws.TypedAtoms.{AreKeyOf, ComeToKey, ComeToInputs, TypedAtomsAreFull}
+use Rattle.herm_forms.specs.laws.TypedAtoms.{ComeToKey, ComeToInputs, TypedAtomsAreFull}
 use Rattle.herm_forms.proofs.forms.ToldFacts.{in-closed}
 use Rattle.herm_forms.proofs.evaluated.AssignedExpressions.{typed-comes}
 use Rattle.herm_forms.proofs.evaluated.TypedExpressions.{literal-comes, full-scalar}
