@@ -4,3 +4,4 @@ pub mod LocalForms
 pub mod ActionForms
 pub mod CallForms
 pub mod FormsSound
+pub mod EachForm
