@@ -9,3 +9,4 @@ pub mod ledger;
 pub mod machine;
 pub mod needs;
 pub mod runs;
+pub mod sound_processes;
