@@ -3,3 +3,4 @@ pub mod Shapes
 pub mod OneForm
 pub mod OneModule
 pub mod SoundProcesses
+pub mod CheckedPrograms

@@ -16,4 +16,5 @@ pub mod Sharing
 pub mod NeedsLaws
 pub mod RunLaws
 pub mod Programs
+pub mod CheckedExamples
 pub mod Examples

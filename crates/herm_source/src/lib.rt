@@ -3,6 +3,7 @@
 #![tactic(auto)]
 
 pub mod arrival;
+pub mod checked_examples;
 pub mod examples;
 pub mod forgetting;
 pub mod ledger;
