@@ -5,3 +5,5 @@ pub mod ActionForms
 pub mod CallForms
 pub mod FormsSound
 pub mod EachForm
+pub mod Room
+pub mod LocalGoes

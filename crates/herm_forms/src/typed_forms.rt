@@ -4,6 +4,7 @@ ghost use Rattle.std.specs.Prelude.{ℕ, List};
 ghost use Rattle.herm_model.specs.Statements.{Process};
 ghost use Rattle.herm_forms.specs.Edges.{Code};
 ghost use Rattle.herm_forms.specs.Callings.{Calling};
+ghost use Rattle.herm_forms.specs.laws.FormsGoOn.{FormsGoOn};
 ghost use Rattle.herm_forms.specs.laws.FormsSound.{FormsGiveWhatSuits, FormsKeepSound, OpenCallsKeepSound};
 ghost use Rattle.herm_forms.specs.laws.TypedAtoms.{TypedAtomsAreFull};
 
@@ -29,4 +30,10 @@ pub fn typed_open_calls_keep_sound()
 /// reply that the caller's call waits for.
 pub fn typed_forms_give_what_suits()
     ensures messages { (exceptions : ℕ) (processes : List Process) (c : Code) → FormsGiveWhatSuits exceptions processes c }
+{}
+
+/// A typed form that is a local step comes to an outcome in sound values that have what it needs, whatever they are: none is
+/// stuck. Of `insert` this is not proved.
+pub fn typed_forms_go_on()
+    ensures forms { (exceptions : ℕ) (processes : List Process) (c : Code) → FormsGoOn exceptions processes c }
 {}
