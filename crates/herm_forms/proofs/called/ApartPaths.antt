@@ -68,7 +68,7 @@ not-under x y p apart one = by (is_at_or_below y p) refl one
     by true e (inr h) = absurd (between (both-begin x y p h e))
 
 module _ (types : TypeTable) (variables : List ℕ) where
-  way-begins : (p : Path) (f : Fact) → IsIn f (facts_to types variables p) → is_at_or_below (path_of f) p ≡ true
+  pub way-begins : (p : Path) (f : Fact) → IsIn f (facts_to types variables p) → is_at_or_below (path_of f) p ≡ true
   way-begins [] f h = absurd h
   way-begins (v ∷ r) f h =
       let s = speaks types (v ∷ []) (slice_get variables v) false r f h in

@@ -30,7 +30,7 @@ use Rattle.herm_forms.specs.Acts.{is_action, key_at, new_value, act}
 use Rattle.herm_forms.specs.Arrival.{AreSound, without}
 use Rattle.herm_forms.specs.ExpressionLaws.{ComesTo, Decides}
 use Rattle.herm_forms.specs.TypedForms.{IsTypedIn}
-use Rattle.herm_forms.specs.laws.FormsGoOn.{GoesOn, VisitGoesOn, FormsGoOn}
+use Rattle.herm_forms.specs.laws.FormsGoOn.{GoesOn, VisitGoesOn}
 use Rattle.herm_journal.proofs.Rising.{same-true}
 use Rattle.herm_journal.specs.Messages.{is_inport}
 use Rattle.herm_forms.proofs.TypedReading.{typed-read}
@@ -59,7 +59,7 @@ comes-by r s e x = (x.0, x.1, e ∙ x.2)
 set-comes : (x : Path) (o : Outcome) (d : Cell Name) (b : Body Name) → IsTrue (has_place b.variables x) → Comes (putting x o d b)
 set-comes x o d b place = (o, put x d b, ap (λ t. cond t (goes o (put x d b)) stuck) place)
 
-there-comes : {X : Type 0} (next : X → Result Name) (o : Option X) (x : X) → o ≡ Some x → Comes (next x) → Comes (if_there next o)
+pub there-comes : {X : Type 0} (next : X → Result Name) (o : Option X) (x : X) → o ≡ Some x → Comes (next x) → Comes (if_there next o)
 there-comes next o x e h = comes-by (if_there next o) (next x) (ap (if_there next) e) h
 
 -- what stands at the place of a key is a row
@@ -83,7 +83,7 @@ module _ (exceptions : ℕ) (processes : List Process) (c : Code) where
     abbrev asks : List Fact
     asks = (row c.types c.variables form).needed
 
-    asked : (f : Fact) → IsIn f asks → IsTrue (has f)
+    pub asked : (f : Fact) → IsIn f asks → IsTrue (has f)
     asked f h = needed f (in-closed c.types c.variables asks f h)
 
     parent-of : (x : Path) (t : ℕ) → IsTarget c.types c.variables x t → ((f : Fact) → IsIn f (room_for c.types c.variables x) → IsIn f asks) → HasParent has x
@@ -100,7 +100,7 @@ module _ (exceptions : ℕ) (processes : List Process) (c : Code) where
           let d = value-there c has b.variables sound i q (asked (init (i ∷ q)) (among (init (i ∷ q)) (to-direct c.types c.variables i q source.1))) in
           there-comes (λ d. next d (cleared (i ∷ q) b)) (cell_at (i ∷ q) b.variables) d.0 d.1 (on d.0 d.1)
 
-      moved-comes : (i : ℕ) (q : List ℕ) (u : ℕ) → IsSource c.types c.variables (i ∷ q) u → ((f : Fact) → IsIn f (full c.types c.variables (i ∷ q)) → IsIn f asks) → (next : Cell Name → Body Name → Result Name)
+      pub moved-comes : (i : ℕ) (q : List ℕ) (u : ℕ) → IsSource c.types c.variables (i ∷ q) u → ((f : Fact) → IsIn f (full c.types c.variables (i ∷ q)) → IsIn f asks) → (next : Cell Name → Body Name → Result Name)
           → ((d : Cell Name) (b' : Body Name) → AreSound c (without (i ∷ q) has) b'.variables → Comes (next d b')) → Comes (moving (beyond_full c (i ∷ q) b) (i ∷ q) next b)
       moved-comes i q u source among next on =
           let type = source.0.0 in
@@ -114,7 +114,7 @@ module _ (exceptions : ℕ) (processes : List Process) (c : Code) where
       place-left y x t target apart among b' left = place-there c (without y has) b'.variables left x t target.0.0 target.1 (parent-left c has y x apart (parent-of x t target among))
 
   -- the forms
-  assign-comes : (x : Path) (e : Expression) → IsTypedIn exceptions processes c (Assign x e) → GoesOn c (Assign x e)
+  pub assign-comes : (x : Path) (e : Expression) → IsTypedIn exceptions processes c (Assign x e) → GoesOn c (Assign x e)
   assign-comes x e is name statement has b sound needed =
       by (evaluate b.variables e) ((typed-values c (typed-deep exceptions processes c (Assign x e) is)).assigned x e is.typed.0 is.typed.2 has b.variables sound needed)
     where
@@ -123,19 +123,19 @@ module _ (exceptions : ℕ) (processes : List Process) (c : Code) where
       by (raises y) h = (raised y, b, refl)
       by no_value h = absurd h
 
-  move-comes : (y x : Path) → IsTypedIn exceptions processes c (Move y x) → GoesOn c (Move y x)
+  pub move-comes : (y x : Path) → IsTypedIn exceptions processes c (Move y x) → GoesOn c (Move y x)
   move-comes [] x is name statement has b sound needed = none-not_some is.typed.1.0.0
   move-comes (i ∷ q) x is name statement has b sound needed =
       let form = Move (i ∷ q) x in
       moved-comes form is has needed b sound i q is.typed.0 is.typed.1 (λ f h. in-append_right f (room_for c.types c.variables x) (full c.types c.variables (i ∷ q)) h) (putting x ok)
       (λ d b' left. set-comes x ok d b' (place-left form is has needed b sound (i ∷ q) x is.typed.0 is.typed.2 is.typed.3 (λ f h. in-append_left f (room_for c.types c.variables x) (full c.types c.variables (i ∷ q)) h) b' left))
 
-  discard-comes : (x : Path) → IsTypedIn exceptions processes c (Discard x) → GoesOn c (Discard x)
+  pub discard-comes : (x : Path) → IsTypedIn exceptions processes c (Discard x) → GoesOn c (Discard x)
   discard-comes [] is name statement has b sound needed = none-not_some is.typed.1.0.0
   discard-comes (i ∷ q) is name statement has b sound needed =
       taken-comes (Discard (i ∷ q)) is has needed b sound i q is.typed.0 is.typed.1 (λ f h. h) (λ d b. goes ok (let_go d b)) (λ d at. (ok, let_go d (cleared (i ∷ q) b), refl))
 
-  unite-comes : (v : Path) (k : ℕ) (y : Path) → IsTypedIn exceptions processes c (Unite v k y) → GoesOn c (Unite v k y)
+  pub unite-comes : (v : Path) (k : ℕ) (y : Path) → IsTypedIn exceptions processes c (Unite v k y) → GoesOn c (Unite v k y)
   unite-comes v k [] is name statement has b sound needed = none-not_some is.typed.4.0.0
   unite-comes v k (i ∷ q) is name statement has b sound needed =
       let form = Unite v k (i ∷ q) in
@@ -143,7 +143,7 @@ module _ (exceptions : ℕ) (processes : List Process) (c : Code) where
       (λ content b. making name (a_variant k) (part content no_parts) (putting v ok) b)
       (λ d b' left. set-comes v ok _ _ (place-left form is has needed b sound (i ∷ q) v is.typed.0 is.typed.2 is.typed.5 (λ f h. in-append_left f (room_for c.types c.variables v) (full c.types c.variables (i ∷ q)) h) b' left))
 
-  wrap-comes : (y p : Path) → IsTypedIn exceptions processes c (Wrap y p) → GoesOn c (Wrap y p)
+  pub wrap-comes : (y p : Path) → IsTypedIn exceptions processes c (Wrap y p) → GoesOn c (Wrap y p)
   wrap-comes [] p is name statement has b sound needed = none-not_some is.typed.2.0.0
   wrap-comes (i ∷ q) p is name statement has b sound needed =
       let form = Wrap (i ∷ q) p in
@@ -169,13 +169,13 @@ module _ (exceptions : ℕ) (processes : List Process) (c : Code) where
   decided-comes (raises e) b h = (raised e, b, refl)
   decided-comes no_value b h = absurd h
 
-  if-comes : (e : Expression) → IsTypedIn exceptions processes c (If e) → GoesOn c (If e)
+  pub if-comes : (e : Expression) → IsTypedIn exceptions processes c (If e) → GoesOn c (If e)
   if-comes e is name statement has b sound needed = decided-comes (evaluate b.variables e) b ((typed-values c (typed-deep exceptions processes c (If e) is)).if_test e is.typed.0 is.typed.1 is.typed.2 has b.variables sound needed)
 
-  while-comes : (e : Expression) → IsTypedIn exceptions processes c (While e) → GoesOn c (While e)
+  pub while-comes : (e : Expression) → IsTypedIn exceptions processes c (While e) → GoesOn c (While e)
   while-comes e is name statement has b sound needed = decided-comes (evaluate b.variables e) b ((typed-values c (typed-deep exceptions processes c (While e) is)).while_test e is.typed.0 is.typed.1 is.typed.2 has b.variables sound needed)
 
-  new-comes : (x : Path) → IsTypedIn exceptions processes c (New x) → IsFalse (is_action c (New x)) → GoesOn c (New x)
+  pub new-comes : (x : Path) → IsTypedIn exceptions processes c (New x) → IsFalse (is_action c (New x)) → GoesOn c (New x)
   new-comes x is local name statement has b sound needed =
       comes-by (act name c statement (New x) b) (new_value name (Some is.typed.1) x b) (ap (λ s. new_value name s x b) shape)
       (by is.typed.1 is.typed.4 (sym (ap is_inport shape) ∙ local))
@@ -193,7 +193,7 @@ module _ (exceptions : ℕ) (processes : List Process) (c : Code) where
       by s can local = not_true can
 
   -- what is only looked at is there, also behind components
-  looked-there : (form : Form) → IsTypedIn exceptions processes c form → (has : Fact → Bool) (ps : Parts Name) → AreSound c has ps → (p : Path) (t : ℕ) → IsPathOf c.types c.variables p t → ((f : Fact) → IsIn f (facts_to c.types c.variables p) → IsTrue (has f))
+  pub looked-there : (form : Form) → IsTypedIn exceptions processes c form → (has : Fact → Bool) (ps : Parts Name) → AreSound c has ps → (p : Path) (t : ℕ) → IsPathOf c.types c.variables p t → ((f : Fact) → IsIn f (facts_to c.types c.variables p) → IsTrue (has f))
       → (d : Cell Name) × (read_at p ps ≡ Some d) × HasType c.types t d
   looked-there form is has ps sound [] t h held = none-not_some h.0
   looked-there form is has ps sound (i ∷ q) t h held =
@@ -204,7 +204,7 @@ module _ (exceptions : ℕ) (processes : List Process) (c : Code) where
       told (init p) h = (sound.facts.values p).1 h
       told (case p k) h = sound.facts.components p k h
 
-  reveal-comes : (v : Path) (k : ℕ) → IsTypedIn exceptions processes c (Reveal v k) → GoesOn c (Reveal v k)
+  pub reveal-comes : (v : Path) (k : ℕ) → IsTypedIn exceptions processes c (Reveal v k) → GoesOn c (Reveal v k)
   reveal-comes v k is name statement has b sound needed =
       let d = looked-there (Reveal v k) is has b.variables sound v is.typed.0 is.typed.2 (asked (Reveal v k) is has needed) in
       there-comes _ (read_at v b.variables) d.0 d.1 (_, b, refl)
@@ -217,7 +217,7 @@ module _ (exceptions : ℕ) (processes : List Process) (c : Code) where
       by (a_variant k) h = (k, refl)
       by kind h = absurd h
 
-  choose-comes : (v : Path) (ks : List ℕ) → IsTypedIn exceptions processes c (Case v ks) → GoesOn c (Case v ks)
+  pub choose-comes : (v : Path) (ks : List ℕ) → IsTypedIn exceptions processes c (Case v ks) → GoesOn c (Case v ks)
   choose-comes v ks is name statement has b sound needed =
       let d = looked-there (Case v ks) is has b.variables sound v is.typed.0 is.typed.2 (asked (Case v ks) is has needed) in
       let k = has-component is.typed.0 is.typed.1 d.0 is.typed.3 d.2 in
@@ -231,7 +231,7 @@ module _ (exceptions : ℕ) (processes : List Process) (c : Code) where
       by (an_inport k) h = (k, refl)
       by kind h = absurd h
 
-  connect-comes : (o i : Path) → IsTypedIn exceptions processes c (Connect o i) → GoesOn c (Connect o i)
+  pub connect-comes : (o i : Path) → IsTypedIn exceptions processes c (Connect o i) → GoesOn c (Connect o i)
   connect-comes o i is name statement has b sound needed =
       let rooms = room_for c.types c.variables o in
       let from = is.table.outports is.typed.0 (outport is.typed.1) is.typed.3 in
@@ -240,7 +240,7 @@ module _ (exceptions : ℕ) (processes : List Process) (c : Code) where
       there-comes _ (read_at i b.variables) d.0 d.1 (there-comes _ (inport_number d.0) k.0 k.1
       (set-comes o ok _ _ (place-of (Connect o i) is has needed b sound o is.typed.0 is.typed.2 (λ f h. in-append_left f rooms (present c.types c.variables i) h))))
 
-  unwrap-comes : (p : Path) (t : ℕ) (y : Path) → IsTypedIn exceptions processes c (Unwrap p t y) → GoesOn c (Unwrap p t y)
+  pub unwrap-comes : (p : Path) (t : ℕ) (y : Path) → IsTypedIn exceptions processes c (Unwrap p t y) → GoesOn c (Unwrap p t y)
   unwrap-comes [] t y is name statement has b sound needed = none-not_some is.typed.1.0.0
   unwrap-comes (i ∷ q) t y is name statement has b sound needed =
       let form = Unwrap (i ∷ q) t y in
@@ -260,7 +260,7 @@ module _ (exceptions : ℕ) (processes : List Process) (c : Code) where
       (record { name = n; content = x.content }, ap (λ ps. component_in k (cell n (a_variant m) ps)) x.alone ∙ ap (λ b. cond b (Some (record { name = n; content = x.content })) None) (ap (nat_eq k) (eqb-true m k is) ∙ same-true k))
   component-there t k d h is = absurd (false≢true is)
 
-  dissolve-comes : (v : Path) (k : ℕ) (y : Path) → IsTypedIn exceptions processes c (Dissolve v k y) → GoesOn c (Dissolve v k y)
+  pub dissolve-comes : (v : Path) (k : ℕ) (y : Path) → IsTypedIn exceptions processes c (Dissolve v k y) → GoesOn c (Dissolve v k y)
   dissolve-comes [] k y is name statement has b sound needed = none-not_some is.typed.2.0.0
   dissolve-comes (i ∷ q) k y is name statement has b sound needed =
       let form = Dissolve (i ∷ q) k y in
@@ -290,7 +290,7 @@ module _ (exceptions : ℕ) (processes : List Process) (c : Code) where
       by None e = (raised not_found, b, refl)
       by (Some i) e = let row = part-found key k (parts_of d) i e in there-comes (next i) (part_at i (parts_of d)) row.0 row.1 (on i row.0)
 
-  get-comes : (r t : Path) (keys : List Atom) → IsTypedIn exceptions processes c (Get r t keys) → GoesOn c (Get r t keys)
+  pub get-comes : (r t : Path) (keys : List Atom) → IsTypedIn exceptions processes c (Get r t keys) → GoesOn c (Get r t keys)
   get-comes r t keys is name statement has b sound needed =
       let form = Get r t keys in
       let h = is.typed.1 in
@@ -302,7 +302,7 @@ module _ (exceptions : ℕ) (processes : List Process) (c : Code) where
       there-comes _ (key_values b.variables keys) k.0 k.1
       (finding-comes (key_at c t) k.0 t _ b d.0 d.1 (λ i row. set-comes r ok _ _ (place-of form is has needed b sound r is.typed.0 h.3 (λ f m. in-append_left f (rooms ++ there) reads (in-append_left f rooms there m)))))
 
-  remove-comes : (r t : Path) (keys : List Atom) → IsTypedIn exceptions processes c (Remove r t keys) → GoesOn c (Remove r t keys)
+  pub remove-comes : (r t : Path) (keys : List Atom) → IsTypedIn exceptions processes c (Remove r t keys) → GoesOn c (Remove r t keys)
   remove-comes [] t keys is name statement has b sound needed = none-not_some is.typed.1.3.0.0
   remove-comes (j ∷ r) [] keys is name statement has b sound needed = none-not_some is.typed.1.2.1.0
   remove-comes (j ∷ r) (i ∷ q) keys is name statement has b sound needed =
@@ -331,7 +331,7 @@ module _ (exceptions : ℕ) (processes : List Process) (c : Code) where
   copied-comes row s r name n (gap ps) b h place = absurd h
   copied-comes row s r name n (part d ps) b h place = set-comes r turn _ _ place
 
-  visit-comes : (r t : Path) → IsTypedIn exceptions processes c (For r t) → (row : ℕ) → type_at c.types c.variables r ≡ Some row → VisitGoesOn c row r t
+  pub visit-comes : (r t : Path) → IsTypedIn exceptions processes c (For r t) → (row : ℕ) → type_at c.types c.variables r ≡ Some row → VisitGoesOn c row r t
   visit-comes r t is row type name statement has b sound needed rows_full =
       let h = is.typed in
       let same : h.0 ≡ row = some-injective (sym h.3.0.0 ∙ type) in
@@ -351,30 +351,8 @@ module _ (exceptions : ℕ) (processes : List Process) (c : Code) where
           there-comes _ (read_at t b.variables) (cell n a_table rs) (at ∙ ap Some is_table) (copied-comes row statement r (λ s. name (b.number, s)) b.serial rs _ fits place)
       by (Some rs') e d at n rs is_table fits place = next-comes row statement r rs' b (rows_full rs' e) place
 
-  raise-comes : (e : ℕ) → GoesOn c (Raise e)
+  pub raise-comes : (e : ℕ) → GoesOn c (Raise e)
   raise-comes e name statement has b sound needed = (raised e, b, refl)
 
-  leave-comes : GoesOn c Leave
+  pub leave-comes : GoesOn c Leave
   leave-comes name statement has b sound needed = (ok, b, refl)
-
-  pub forms-go : FormsGoOn exceptions processes c
-  forms-go = record {
-    assign = assign-comes;
-    move = move-comes;
-    new = new-comes;
-    discard = discard-comes;
-    unite = unite-comes;
-    dissolve = dissolve-comes;
-    reveal = reveal-comes;
-    choose = choose-comes;
-    wrap = wrap-comes;
-    unwrap = unwrap-comes;
-    remove = remove-comes;
-    get = get-comes;
-    visit = visit-comes;
-    connect = connect-comes;
-    if_test = if-comes;
-    while_test = while-comes;
-    raise = λ e is. raise-comes e;
-    leave = λ is. leave-comes;
-  }

@@ -3,7 +3,7 @@ use Rattle.std.specs.Prelude.{◌≡◌, ℕ, List, Bool, Some, IsTrue, IsFalse}
 use Rattle.herm_model.specs.Lists.{IsIn}
 use Rattle.herm_model.specs.Paths.{Path, Fact}
 use Rattle.herm_model.specs.Expressions.{Expression, Atom}
-use Rattle.herm_model.specs.Statements.{Form, Assign, Move, New, Discard, Unite, Dissolve, Reveal, Case, Wrap, Unwrap, Remove, Get, For, Connect, If, While, Raise, Leave, Process}
+use Rattle.herm_model.specs.Statements.{Form, Assign, Move, New, Discard, Unite, Dissolve, Reveal, Case, Wrap, Unwrap, Insert, Remove, Get, For, Connect, If, While, Raise, Leave, Process}
 use Rattle.herm_model.specs.StatementTable.{needs}
 use Rattle.herm_model.specs.Outcomes.{Outcome}
 use Rattle.herm_model.specs.Types.{type_at}
@@ -30,7 +30,7 @@ module _ (exceptions : ℕ) (processes : List Process) (c : Code) where
   abbrev pub LocalGoesOn : Form → Type 0
   LocalGoesOn form = IsTypedIn exceptions processes c form → GoesOn c form
 
-  -- A field for each row of the statement table whose form is a local step, but for `insert`.
+  -- A field for each row of the statement table whose form is a local step. Language reference, "Sound states".
   pub record FormsGoOn : Type 0 where
     pub assign : (x : Path) (e : Expression) → LocalGoesOn (Assign x e)
     pub move : (y x : Path) → LocalGoesOn (Move y x)
@@ -42,6 +42,7 @@ module _ (exceptions : ℕ) (processes : List Process) (c : Code) where
     pub choose : (v : Path) (ks : List ℕ) → LocalGoesOn (Case v ks)
     pub wrap : (y p : Path) → LocalGoesOn (Wrap y p)
     pub unwrap : (p : Path) (t : ℕ) (y : Path) → LocalGoesOn (Unwrap p t y)
+    pub insert : (r t : Path) → LocalGoesOn (Insert r t)
     pub remove : (r t : Path) (keys : List Atom) → LocalGoesOn (Remove r t keys)
     pub get : (r t : Path) (keys : List Atom) → LocalGoesOn (Get r t keys)
     pub visit : (r t : Path) → IsTypedIn exceptions processes c (For r t) → (row : ℕ) → type_at c.types c.variables r ≡ Some row → VisitGoesOn c row r t

@@ -1,4 +1,4 @@
-use Rattle.herm_forms.proofs.typed.LocalGoes.{forms-go}
+use Rattle.herm_forms.proofs.typed.FormsGo.{forms-go}
 use Rattle.herm_forms.proofs.typed_forms.typed_forms_go_on.Goals as goal
 
 pub returns : goal.returns
