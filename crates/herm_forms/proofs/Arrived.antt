@@ -35,7 +35,7 @@ from-direct table at t (i ∷ p) h =
     subst (λ w. IsIn (init (at ++ i ∷ p)) (facts_from table (at ++ i ∷ []) (part_of table t i) w p)) (sym none.0) (subst (λ q. IsIn (init q) (facts_from table (at ++ i ∷ []) (part_of table t i) false p)) same rest) in
     inr (in-append_right (init (at ++ i ∷ p)) (cond (is_variant table t) (case at i ∷ []) []) (facts_from table (at ++ i ∷ []) (part_of table t i) (is_variant table t) p) within)
 
-to-direct : (table : TypeTable) (variables : List ℕ) (v : ℕ) (p : List ℕ) → passes_component table variables (v ∷ p) ≡ false → IsIn (init (v ∷ p)) (facts_to table variables (v ∷ p))
+pub to-direct : (table : TypeTable) (variables : List ℕ) (v : ℕ) (p : List ℕ) → passes_component table variables (v ∷ p) ≡ false → IsIn (init (v ∷ p)) (facts_to table variables (v ∷ p))
 to-direct table variables v p h = from-direct table (v ∷ []) (slice_get variables v) p h
 
 pub parent-begins : (q p : Path) → IsIn q (proper_prefixes p) → (r : Path) × (parent p ≡ q ++ r)

@@ -4,6 +4,7 @@ pub mod KeptLocal
 pub mod KeptActions
 pub mod Counting
 pub mod KeptForms
+pub mod KeptBodies
 pub mod KeptNumbers
 pub mod TypedReading
 pub mod Dropped
@@ -17,3 +18,4 @@ pub mod forms
 pub mod renamed
 pub mod evaluated
 pub mod called
+pub mod typed

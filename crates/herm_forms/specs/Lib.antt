@@ -15,3 +15,6 @@ pub mod ExpressionLaws
 pub mod Exceptions
 pub mod ComponentLaws
 pub mod CallLaws
+pub mod TypedForms
+pub mod Incoming
+pub mod laws

@@ -9,3 +9,4 @@ pub mod exceptions;
 pub mod expressions;
 pub mod ledger;
 pub mod targets;
+pub mod typed_forms;

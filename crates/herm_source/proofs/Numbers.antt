@@ -11,7 +11,8 @@ use Rattle.herm_forms.specs.Exchanges.{Composed, compose, assemble, with_message
 use Rattle.herm_forms.specs.Edges.{Code, arrive}
 use Rattle.herm_source.specs.States.{State, Next, an_item, a_reply, a_statement, nothing, next_of, behind, step_next, settle_next, begin, local_step, answered}
 use Rattle.herm_forms.specs.Acts.{is_action, act, settle, settle_reply, leads_to}
-use Rattle.herm_forms.proofs.KeptNumbers.{Is, All, went, stayed, never, is-arrive, all-act, all-work, all-settle, all-settle_reply}
+use Rattle.herm_forms.proofs.KeptBodies.{went, stayed, never}
+use Rattle.herm_forms.proofs.KeptNumbers.{Is, All, is-arrive, all-act, all-work, all-settle, all-settle_reply}
 
 module _ {N : Type 0} (name : Name → N) (n : ℕ) where
   -- the state behind a result

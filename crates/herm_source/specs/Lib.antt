@@ -10,8 +10,11 @@ pub mod Forgetting
 pub mod Arriving
 pub mod Laws
 pub mod Headline
+pub mod Checked
+pub mod process_laws
 pub mod Sharing
 pub mod NeedsLaws
 pub mod RunLaws
 pub mod Programs
+pub mod CheckedExamples
 pub mod Examples

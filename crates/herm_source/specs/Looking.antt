@@ -1,14 +1,12 @@
 -- What a process holds, at which ports it looks and which call it has open, as a system sees it.
-use Rattle.std.specs.Prelude.{ℕ, List, [], ◌∷◌, ◌++◌, map, flat_map, Bool, find, nat_eq, Option, Some, None, option_map, option_and_then}
-use Rattle.herm_model.specs.Lists.{some_of, list_of}
+use Rattle.std.specs.Prelude.{ℕ, List, [], ◌∷◌, ◌++◌, map, flat_map, Bool, Option, Some, None, option_map, option_and_then}
 use Rattle.herm_model.specs.Paths.{Path}
-use Rattle.herm_model.specs.Types.{type_at}
-use Rattle.herm_model.specs.Statements.{Form, Receive, Select, Arm}
 use Rattle.herm_model.specs.Nodes.{Target, node, end, end_by, Node}
 use Rattle.herm_model.specs.Values.{Cell, Parts, no_parts, gap, part}
 use Rattle.herm_forms.specs.Bodies.{Loop}
-use Rattle.herm_forms.specs.Exchanges.{inport_at}
 use Rattle.herm_forms.specs.Edges.{Code}
+pub use Rattle.herm_forms.specs.Incoming.{ports_of}
+use Rattle.herm_forms.specs.Incoming.{leads_from, looked_at}
 use Rattle.herm_forms.specs.Callings.{Calling, call_type}
 use Rattle.herm_system.specs.Machines.{Held, OpenCall}
 use Rattle.herm_source.specs.States.{State, node_at}
@@ -45,19 +43,13 @@ exception_at (end_by e) = Some e
 exception_at end = None
 exception_at (node i) = None
 
--- the paths of the ports that a form looks at, in written order
-abbrev pub ports_of : Form → List Path
-ports_of (Receive x i) = i ∷ []
-ports_of (Select arms) = map (λ (a : Arm). a.port) arms
-ports_of _ = []
-
 -- the path of the first port in written order that has this number, and its type
 abbrev pub looks_at : {N : Type 0} → ℕ → State N → Path → Bool
-looks_at n s i = some_of (nat_eq n) (list_of (λ k. k ∷ []) (inport_at i s.body))
+looks_at n s i = leads_from n s.body i
 
 abbrev pub port_type : {N : Type 0} → Code → State N → ℕ → Option ℕ
 port_type c s n =
-    option_and_then (λ (node : Node). option_and_then (type_at c.types c.variables) (find (looks_at n s) (ports_of node.form))) (node_at c s.point)
+    option_and_then (λ (node : Node). looked_at c node.form s.body n) (node_at c s.point)
 
 -- the call whose answer it waits for, at its point
 abbrev pub open_call : {N : Type 0} → Code → State N → Option OpenCall

@@ -3,9 +3,11 @@
 #![tactic(auto)]
 
 pub mod arrival;
+pub mod checked_examples;
 pub mod examples;
 pub mod forgetting;
 pub mod ledger;
 pub mod machine;
 pub mod needs;
 pub mod runs;
+pub mod sound_processes;

@@ -18,7 +18,7 @@ not-and : (b : Bool) → IsTrue (not b) → IsTrue b → ⊥
 not-and true h k = false≢true h
 not-and false h k = false≢true k
 
-apart-not_below : (x y : Path) → IsTrue (are_apart x y) → is_at_or_below x y ≡ true → ⊥
+pub apart-not_below : (x y : Path) → IsTrue (are_apart x y) → is_at_or_below x y ≡ true → ⊥
 apart-not_below [] y h k = false≢true h
 apart-not_below (i ∷ p) [] h k = false≢true h
 apart-not_below (i ∷ p) (j ∷ q) h k = let both = and-both (nat_eq i j) (is_at_or_below p q) k in by (or-either (not (nat_eq i j)) (are_apart p q) h) both.0 (λ a. apart-not_below p q a both.1)
@@ -68,7 +68,7 @@ not-under x y p apart one = by (is_at_or_below y p) refl one
     by true e (inr h) = absurd (between (both-begin x y p h e))
 
 module _ (types : TypeTable) (variables : List ℕ) where
-  way-begins : (p : Path) (f : Fact) → IsIn f (facts_to types variables p) → is_at_or_below (path_of f) p ≡ true
+  pub way-begins : (p : Path) (f : Fact) → IsIn f (facts_to types variables p) → is_at_or_below (path_of f) p ≡ true
   way-begins [] f h = absurd h
   way-begins (v ∷ r) f h =
       let s = speaks types (v ∷ []) (slice_get variables v) false r f h in

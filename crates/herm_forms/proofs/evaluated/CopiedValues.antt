@@ -25,7 +25,7 @@ use Rattle.herm_forms.proofs.forms.ToldFacts.{there-read}
 use Rattle.herm_forms.proofs.forms.SetTargets.{in-full, full-root}
 
 -- the types at paths are as deep as those of the variables
-part-named : (s : Shape) (i u : ℕ) → part_type s i ≡ Some u → IsIn u (named_types s)
+pub part-named : (s : Shape) (i u : ℕ) → part_type s i ≡ Some u → IsIn u (named_types s)
 part-named (fields ts) i u e = got-IsIn ts i u e
 part-named (cases ts) i u e = got-IsIn ts i u e
 part-named (callmessage ps raises) i u e = got-IsIn (map (λ (p : Parameter). p.content) ps) i u (slice_get-map (λ (p : Parameter). p.content) ps i ∙ e)

@@ -49,7 +49,7 @@ without-bounded row key i ps h =
 module _ (c : Code) (i : ℕ) (q : List ℕ) (j : ℕ) (r : List ℕ) (row u : ℕ) (key : List ℕ) (table : type_at c.types c.variables (i ∷ q) ≡ Some u) (shape : slice_get c.types u ≡ Some (rows row key)) (target : type_at c.types c.variables (j ∷ r) ≡ Some row)
     (deep : IsTrue (is_within_depth greatest_depth c.types row)) (keys : List Atom) (has : Fact → Bool) (b : Body Name) (sound : AreSound c has b.variables) where
   -- the table without the row
-  less-sound : (d : Cell Name) → read_at (i ∷ q) b.variables ≡ Some d → (n : ℕ) → AreSound c has (change_rows (i ∷ q) (without_part n) b).variables
+  pub less-sound : (d : Cell Name) → read_at (i ∷ q) b.variables ≡ Some d → (n : ℕ) → AreSound c has (change_rows (i ∷ q) (without_part n) b).variables
   less-sound d at n =
       let x = is-table Name c.types u row key d shape (read-typed Name c.types c.variables i q u b.variables d sound.types table at) in
       change-sound c has b.variables sound i q u row key table shape (without_part n) (λ m rs at fits bounded. (without-fits Name c.types row n rs fits, without-bounded row key n rs bounded)) x.name x.rows' (at ∙ ap Some x.is)

@@ -47,7 +47,7 @@ demanded types p i n f at need =
     (in-map (λ (g : Fact). record { at = i; number = n.number; fact = g }) f (needs types p.variables n.form) need)
 
 -- a reached node of an accepted process is labelled with what it needs
-labelled : (types : TypeTable) (p : Process) (labels : Labels) → AreExact (flow_of types p) labels → IsAccepted types p → (t : Target) (n : Node) (f : Fact)
+pub labelled : (types : TypeTable) (p : Process) (labels : Labels) → AreExact (flow_of types p) labels → IsAccepted types p → (t : Target) (n : Node) (f : Fact)
     → node_at (code_of types p labels) t ≡ Some n → IsReached (flow_of types p) t → IsIn f (needs types p.variables n.form) → IsLabelled (code_of types p labels) t f
 labelled types p labels exact accepted (node i) n f at reached need =
     (exact i f reached).1 ((accepted-held types p).0 accepted (record { at = i; number = n.number; fact = f }) (demanded types p i n f at need))

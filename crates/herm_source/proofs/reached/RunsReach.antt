@@ -20,7 +20,7 @@ use Rattle.herm_source.proofs.reached.LeadsOn.{LeadsOn, local-leads, answer-lead
 
 module _ (program : Program) (modules : Modules) (accepted : AreAccepted program modules) (formed : HasWellFormedBodies program) where
   -- a state of the process of its number stands where a control path leads
-  abbrev IsAtReached : State Name → Type 0
+  abbrev pub IsAtReached : State Name → Type 0
   IsAtReached x = (process : Process) → slice_get program.processes x.code ≡ Some process → IsReached (flow_of program.types process) x.point
 
   led-reached : (c : Code) (x y : State Name) → slice_get modules.codes x.code ≡ Some c → y.code ≡ x.code → LeadsOn c x.point y.point → IsAtReached x → IsAtReached y
@@ -39,7 +39,7 @@ module _ (program : Program) (modules : Modules) (accepted : AreAccepted program
       let entry : c.entry ≡ (code_of program.types process m.2.0).entry = ap (λ (d : Code). d.entry) (subst (λ (q : Process). c ≡ code_of program.types q m.2.0) one m.2.1) in
       subst (IsReached (flow_of program.types process)) (sym entry) (entry-reached program.types process)
 
-  stays-reached : StaysSo (source modules) IsAtReached
+  pub stays-reached : StaysSo (source modules) IsAtReached
   stays-reached = record {
     begins = λ code number port x e.
         let m = map-some (λ c. begin c code number port) (slice_get modules.codes code) x e in subst IsAtReached m.2 (begin-reached m.0 code number port m.1);

@@ -1,0 +1,11 @@
+-- What typed forms keep.
+pub mod TypedAtoms
+pub mod LocalForms
+pub mod ActionForms
+pub mod CallForms
+pub mod FormsSound
+pub mod EachForm
+pub mod Room
+pub mod LocalGoes
+pub mod InsertGoes
+pub mod FormsGo

@@ -1,0 +1,4 @@
+-- What is claimed of typed forms.
+pub mod TypedAtoms
+pub mod FormsSound
+pub mod FormsGoOn

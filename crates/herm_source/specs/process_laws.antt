@@ -1,0 +1,2 @@
+-- What is claimed of processes of checked programs.
+pub mod SoundProcesses
