@@ -3,6 +3,7 @@ pub mod Turned
 pub mod SameOutside
 pub mod StepsTogether
 pub mod RunsTogether
+pub mod RunsFollow
 pub mod DiariesJoined
 pub mod CountdownsJoined
 pub mod CountdownsKeep

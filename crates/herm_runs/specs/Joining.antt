@@ -9,7 +9,7 @@ use Rattle.herm_system.specs.Systems.{System, Event, Run, run, start, main_port,
 use Rattle.herm_system.specs.Ledger.{held_by, finalised_by}
 use Rattle.herm_system.specs.Statuses.{fates, queues, counts, status_of, Asked, text_of_run}
 use Rattle.herm_system.specs.Along.{Fulfils, Suits, IsAfter}
-use Rattle.herm_runs.specs.DiaryLaws.{SuitsAlong}
+use Rattle.herm_runs.specs.DiaryLaws.{SuitsAlong, WouldSuit}
 
 -- both are none, or both are there and correspond
 abbrev pub BothOrNone : {X Y : Type 0} → (X → Y → Type 0) → Option X → Option Y → Type 0
@@ -84,3 +84,14 @@ DiariesTogether {P} {Q} a b R = (limit : ℕ) (entries : List Entry) (n : ℕ) (
 -- the same relation seen from the other side
 abbrev pub turned : {P Q : Type 0} → (P → Q → Type 0) → Q → P → Type 0
 turned R y x = R x y
+
+-- Where in every state that the one machine, which has a main, leads to what can be done would suit, all that the other leads
+-- to the one leads to: each run of the other is one of the one and looks alike, and what comes in suits in both.
+abbrev pub RunsFollow : {P Q : Type 0} → Machine Name P → Machine Name Q → (P → Q → Type 0) → Type 0
+RunsFollow {P} {Q} a b R = (limits : Limits) (argument : Text) (main : P) → a.begin a.main 1 main_port ≡ Some main → ((events : List Event) (r : Run P) → run a events (start a limits argument) ≡ Some r → WouldSuit a r.system)
+    → (events : List Event) (q : Run Q) → run b events (start b limits argument) ≡ Some q
+    → (r : Run P) × (run a events (start a limits argument) ≡ Some r) × LookAlike b a (turned R) q r × SuitsAlong a events (start a limits argument) × SuitsAlong b events (start b limits argument)
+
+-- Two states correspond where they are the two of a pair. So is said any relation, by the type of the pairs that it has.
+abbrev pub ArePaired : {J P Q : Type 0} → (J → P) → (J → Q) → P → Q → Type 0
+ArePaired {J} left right x y = (j : J) × (left j ≡ x) × (right j ≡ y)

@@ -2,13 +2,12 @@
 
 ghost use Rattle.herm_source.specs.Arriving.{BeginningsAreSound, OutcomesArrive};
 
-/// With exact labels an edge leads from what is held behind it to the label of its target, so a step that has done
 /// With exact labels a process begins with sound values.
 pub fn beginnings_are_sound()
     ensures begin { BeginningsAreSound }
 {}
 
-/// So a statement that has done what the statement table says of its outcome leads to a sound state, whatever its form:
+/// A statement that has done what the statement table says of its outcome leads to a sound state, whatever its form:
 /// of local steps and of answers alike.
 pub fn outcomes_arrive_soundly()
     ensures arrive { OutcomesArrive }

@@ -5,7 +5,7 @@ ghost use Rattle.herm_runs.specs.OrderLaws.{OrderedJournalsAreRuns};
 ghost use Rattle.herm_runs.specs.RunLaws.{HistoriesTell, LedgerAlong, NamesAreMadeOnce, RoundsAreFinal, RoundsAreRuns, RunsAreJournals, RunsAreNumbered, RunsAreStamped, RunsKeepLedger};
 ghost use Rattle.herm_source.specs.Instance.{source};
 ghost use Rattle.herm_source.specs.Modules.{Modules};
-ghost use Rattle.herm_source.specs.RunLaws.{SourceDescribedDiariesTell, SourceDiariesTell, SourceRunsSuit, SourceSoundDiariesTell, SourceStatesSuit};
+ghost use Rattle.herm_source.specs.RunLaws.{SourceDescribedDiariesTell, SourceDiariesTell, SourceRunsSuit, SourceSoundDiariesTell, SourceStatesSuit, SourceStatesWouldSuit};
 
 /// The schedule of one worker is one of the schedules: what rounds lead to is led to by a list of events.
 pub fn rounds_are_runs()
@@ -70,9 +70,11 @@ pub fn diaries_tell()
 {}
 
 /// In a sound state each message and reply that comes in suits its process: a message is one of the port's type with
-/// exactly the declared facts, a reply is one that the open call waits for.
+/// exactly the declared facts, a reply is one that the open call waits for. So would all that can be done in it, whether or
+/// not the process goes on from there.
 pub fn sound_states_suit()
     ensures suits { SourceStatesSuit }
+    ensures would { SourceStatesWouldSuit }
 {}
 
 /// So what comes in suits along every run through sound states.
