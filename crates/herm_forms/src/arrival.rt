@@ -8,6 +8,7 @@ pub fn edges_leave_what_is_held()
     ensures exact { EdgesAreExact }
 {}
 
+/// With exact labels an edge leads from what is held behind it to the label of its target, so a step that has done
 /// what its outcome says leaves sound values.
 pub fn edges_arrive_soundly()
     ensures arrive { EdgesArrive }
