@@ -2,7 +2,7 @@
 // meets.
 
 ghost use Rattle.herm_runs.specs.OrderLaws.{OrderedJournalsAreRuns};
-ghost use Rattle.herm_runs.specs.RunLaws.{HistoriesTell, LedgerAlong, NamesAreMadeOnce, RoundsAreFinal, RoundsAreRuns, RunsAreJournals, RunsAreNumbered, RunsAreStamped, RunsKeepLedger};
+ghost use Rattle.herm_runs.specs.RunLaws.{HistoriesTell, LedgerAlong, NamesAreMadeOnce, OnlyTakesAndHearsWait, RoundsAreFinal, RoundsAreRuns, RunsAreJournals, RunsAreNumbered, RunsAreStamped, RunsKeepLedger};
 ghost use Rattle.herm_source.specs.Instance.{source};
 ghost use Rattle.herm_source.specs.Modules.{Modules};
 ghost use Rattle.herm_source.specs.RunLaws.{SourceDescribedDiariesTell, SourceDiariesTell, SourceRunsSuit, SourceSoundDiariesTell, SourceStatesSuit, SourceStatesWouldSuit};
@@ -61,6 +61,11 @@ pub fn ledger_along_journals()
 /// port's messages, a reply cell's replies, the book's counts.
 pub fn histories_tell()
     ensures told { (modules : Modules) → HistoriesTell (source modules) }
+{}
+
+/// Whatever the schedule, a process waits for a message or for a reply alone: whatever else it wants can be done.
+pub fn only_takes_and_hears_wait()
+    ensures wait { (modules : Modules) → OnlyTakesAndHearsWait (source modules) }
 {}
 
 /// Whatever the schedule, where each message and reply that comes in suits its process, every process of a run is what
