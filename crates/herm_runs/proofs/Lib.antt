@@ -9,6 +9,7 @@ pub mod Stands
 pub mod RunsOrdered
 pub mod KnownPlaces
 pub mod order
+pub mod OnlyTakesWait
 pub mod SuitsMessages
 pub mod SuitsStates
 pub mod SuitsRuns

@@ -40,7 +40,7 @@ not-moved machine (Some x) r t e m = let k = map-some _ (run_on machine x r.run)
 abbrev NoTurns : {P : Type 0} → ℕ → Machine Name P → ℕ → System P → Type 0
 NoTurns n machine p s = (i : ℕ) → i < n → turn machine s (p + i) ≡ None
 
-elim-some : {X Y : Type 0} (o : Option X) (next : X → Option Y) (y : Y) → elim o [ None ↦ None | Some x ↦ next x ] ≡ Some y → (x : X) × (o ≡ Some x) × (next x ≡ Some y)
+pub elim-some : {X Y : Type 0} (o : Option X) (next : X → Option Y) (y : Y) → elim o [ None ↦ None | Some x ↦ next x ] ≡ Some y → (x : X) × (o ≡ Some x) × (next x ≡ Some y)
 elim-some None next y e = none-not_some e
 elim-some (Some x) next y e = (x, refl, e)
 

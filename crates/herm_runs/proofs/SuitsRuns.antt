@@ -14,7 +14,7 @@ use Rattle.herm_system.specs.Reports.{IsAlong}
 use Rattle.herm_system.specs.Sound.{IsSoundFor}
 use Rattle.herm_runs.specs.OneProcess.{KeepsNumbers, ForgetsNames}
 use Rattle.herm_runs.specs.DiaryLaws.{EventSuits}
-use Rattle.herm_runs.specs.SuitsLaws.{LooksAtHeld, SoundStatesSuit, AreSoundAlong, SoundRunsSuit, SoundDiariesTell, DescribedDiariesTell}
+use Rattle.herm_runs.specs.SuitsLaws.{LooksAtHeld, SoundStatesSuit, SoundStatesWouldSuit, AreSoundAlong, SoundRunsSuit, SoundDiariesTell, DescribedDiariesTell}
 use Rattle.herm_runs.proofs.Events.{run-joined}
 use Rattle.herm_runs.proofs.Stands.{cond-both}
 use Rattle.herm_runs.proofs.DiariesTold.{diaries-tell}
@@ -38,6 +38,9 @@ module _ {P : Type 0} (machine : Machine Name P) (IsSoundWithin : P → Type 0) 
   pub sound-states-suit : SoundStatesSuit machine IsSoundWithin
   sound-states-suit (steps p) s sound = tt
   sound-states-suit (acts p place) s sound = action-suits p place s sound
+
+  pub sound-states-would-suit : SoundStatesWouldSuit machine IsSoundWithin
+  sound-states-would-suit s sound p x w place h a is wants among at does = done-suits machine s p x is IsSoundWithin looks sound.0 sound.1 place w h a wants among at does
 
   sound-behind : (e : Event) (events : List Event) (r t : Run P) → AreSoundAlong machine IsSoundWithin (e ∷ events) r → run_on machine e r ≡ Some t → AreSoundAlong machine IsSoundWithin events t
   sound-behind e events r t sound is before rest u split runs = sound (e ∷ before) rest u (ap (e ∷◌) split) (ap (option_and_then (run machine before)) is ∙ runs)

@@ -1,15 +1,15 @@
 -- What is claimed of processes along their diaries.
-use Rattle.std.specs.Prelude.{ℕ, List, [], ◌∷◌, Some, ◌≡◌, ◌⊎◌, ◌↔◌, ⊤}
+use Rattle.std.specs.Prelude.{ℕ, List, [], ◌∷◌, true, Some, ◌≡◌, ◌⊎◌, ◌↔◌, ⊤}
 use Rattle.herm_journal.specs.Renaming.{rename_action, forget_name}
-use Rattle.herm_model.specs.Lists.{IsIn}
-use Rattle.herm_model.specs.Values.{Name, cell, an_inport, no_parts}
+use Rattle.herm_model.specs.Lists.{IsIn, some_of}
+use Rattle.herm_model.specs.Values.{Name, Cell, cell, an_inport, no_parts}
 use Rattle.herm_journal.specs.Actions.{make_process}
-use Rattle.herm_journal.specs.Places.{Limits}
-use Rattle.herm_journal.specs.Entries.{Text, Entry}
+use Rattle.herm_journal.specs.Places.{Limits, Holding}
+use Rattle.herm_journal.specs.Entries.{Text, Place, same_place, Entry}
 use Rattle.herm_journal.specs.Journals.{part_of_process}
-use Rattle.herm_journal.specs.Messages.{CellAction}
+use Rattle.herm_journal.specs.Messages.{CellReply, CellWant, CellAction}
 use Rattle.herm_system.specs.Machines.{Machine}
-use Rattle.herm_system.specs.Systems.{System, Moved, Event, steps, acts, Run, run, run_on, step, start, main_port, number_of, numbered_from_one}
+use Rattle.herm_system.specs.Systems.{System, Moved, Event, steps, acts, Run, run, run_on, step, start, main_port, number_of, numbered_from_one, places_for, holding_at, done_at}
 use Rattle.herm_system.specs.Along.{Suits, IsToldBy, IsAfter}
 
 -- What comes in with an event suits the process: its message or reply is one that it waits for, and what is left with
@@ -23,6 +23,12 @@ EventSuits {P} machine (acts p place) s =
 abbrev pub SuitsAlong : {P : Type 0} → Machine Name P → List Event → Run P → Type 0
 SuitsAlong machine [] r = ⊤
 SuitsAlong {P} machine (e ∷ events) r = EventSuits machine e r.system × ((t : Run P) → run_on machine e r ≡ Some t → SuitsAlong machine events t)
+
+-- What can be done of what a process wants, at a place where that may be done, suits it; whether the process goes on from
+-- there is not asked.
+abbrev pub WouldSuit : {P : Type 0} → Machine Name P → System P → Type 0
+WouldSuit {P} machine s = (p : ℕ) (x : P) (w : CellWant Name) (place : Place) (h : Holding (Cell Name) (CellReply Name)) (action : CellAction Name) → numbered_from_one p s.processes ≡ Some x → machine.wanted x ≡ Some w
+    → some_of (same_place place) (places_for p w) ≡ true → holding_at place s ≡ Some h → done_at w h ≡ Some action → Suits machine x (number_of place) action
 
 -- The process runs this module at this port: process 1 runs main at port 1, another what the entry says that made it.
 abbrev pub IsBorn : (main : ℕ) → List Entry → (process code port : ℕ) → Type 0

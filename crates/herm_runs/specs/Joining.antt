@@ -6,10 +6,11 @@ use Rattle.herm_journal.specs.Entries.{Text, Place, Entry}
 use Rattle.herm_journal.specs.Messages.{CellAction}
 use Rattle.herm_system.specs.Machines.{Machine, is_local}
 use Rattle.herm_system.specs.Systems.{System, Event, Run, run, start, main_port, number_of, IsFinal}
+use Rattle.herm_system.specs.Rounds.{rounds}
 use Rattle.herm_system.specs.Ledger.{held_by, finalised_by}
 use Rattle.herm_system.specs.Statuses.{fates, queues, counts, status_of, Asked, text_of_run}
 use Rattle.herm_system.specs.Along.{Fulfils, Suits, IsAfter}
-use Rattle.herm_runs.specs.DiaryLaws.{SuitsAlong}
+use Rattle.herm_runs.specs.DiaryLaws.{SuitsAlong, WouldSuit}
 
 -- both are none, or both are there and correspond
 abbrev pub BothOrNone : {X Y : Type 0} → (X → Y → Type 0) → Option X → Option Y → Type 0
@@ -84,3 +85,19 @@ DiariesTogether {P} {Q} a b R = (limit : ℕ) (entries : List Entry) (n : ℕ) (
 -- the same relation seen from the other side
 abbrev pub turned : {P Q : Type 0} → (P → Q → Type 0) → Q → P → Type 0
 turned R y x = R x y
+
+-- Let whatever can be done suit in every state that the one machine, which has a main, leads to. Then each run of the other is
+-- one of the one and looks alike, what comes in suits in both, and whatever can be done would suit in the other too.
+abbrev pub RunsFollow : {P Q : Type 0} → Machine Name P → Machine Name Q → (P → Q → Type 0) → Type 0
+RunsFollow {P} {Q} a b R = (limits : Limits) (argument : Text) (main : P) → a.begin a.main 1 main_port ≡ Some main → ((events : List Event) (r : Run P) → run a events (start a limits argument) ≡ Some r → WouldSuit a r.system)
+    → (events : List Event) (q : Run Q) → run b events (start b limits argument) ≡ Some q
+    → (r : Run P) × (run a events (start a limits argument) ≡ Some r) × LookAlike b a (turned R) q r × SuitsAlong a events (start a limits argument) × SuitsAlong b events (start b limits argument) × WouldSuit b q.system
+
+-- There the rounds of the other are the rounds of the one, and look alike.
+abbrev pub RoundsFollow : {P Q : Type 0} → Machine Name P → Machine Name Q → (P → Q → Type 0) → Type 0
+RoundsFollow {P} {Q} a b R = (limits : Limits) (argument : Text) (main : P) → a.begin a.main 1 main_port ≡ Some main → ((events : List Event) (r : Run P) → run a events (start a limits argument) ≡ Some r → WouldSuit a r.system)
+    → (most : ℕ) (q : Run Q) → rounds most b (start b limits argument) ≡ Some q → (r : Run P) × (rounds most a (start a limits argument) ≡ Some r) × LookAlike b a (turned R) q r
+
+-- Two states correspond where they are the two of a pair. So is said any relation, by the type of the pairs that it has.
+abbrev pub ArePaired : {J P Q : Type 0} → (J → P) → (J → Q) → P → Q → Type 0
+ArePaired {J} left right x y = (j : J) × (left j ≡ x) × (right j ≡ y)

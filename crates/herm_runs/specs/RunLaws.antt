@@ -1,13 +1,14 @@
 -- Laws of places, rounds, runs and journals, as statements about a machine.
-use Rattle.std.specs.Prelude.{ℕ, ◌≤◌, List, Some, ◌≡◌}
+use Rattle.std.specs.Prelude.{ℕ, ◌≤◌, List, false, Some, ◌≡◌, ⊤}
 use Rattle.herm_model.specs.Values.{Name, Cell}
 use Rattle.herm_model.specs.Texts.{text_of}
+use Rattle.herm_journal.specs.Actions.{to_take, to_hear}
 use Rattle.herm_journal.specs.Places.{Limits, Holding, Fits, after}
 use Rattle.herm_journal.specs.Entries.{Text, Place, Entry, recorded, told}
 use Rattle.herm_journal.specs.Journals.{IsStamped, IsJournalOf, ordered, part_of_process, part_of_place, first_told, at_start, replay, IsLegal}
 use Rattle.herm_journal.specs.Messages.{CellReply, CellWant, CellAction}
 use Rattle.herm_system.specs.Machines.{Machine}
-use Rattle.herm_system.specs.Systems.{System, Event, Run, run, start, opening, main_port, done_at, holding_at, first_message, IsFinal}
+use Rattle.herm_system.specs.Systems.{System, Event, Run, run, start, opening, main_port, done_at, holding_at, numbered_from_one, can, first_message, IsFinal}
 use Rattle.herm_system.specs.Rounds.{rounds}
 use Rattle.herm_system.specs.Ledger.{HasLedger, IsMadeOnce}
 use Rattle.herm_system.specs.Sound.{IsNumbered}
@@ -24,6 +25,12 @@ RecordsFit = (h : Holding (Cell Name) (CellReply Name)) (a : CellAction Name) �
 
 abbrev pub RecordsLead : Type 0
 RecordsLead = (h : Holding (Cell Name) (CellReply Name)) (a : CellAction Name) → told (after a h) ≡ after (recorded a) (told h)
+
+-- what is wanted may have to be waited for: a message that is to come, or a reply
+abbrev pub MayWait : {N : Type 0} → CellWant N → Type 0
+MayWait (to_take ports) = ⊤
+MayWait to_hear = ⊤
+MayWait _ = ⊥
 
 module _ {P : Type 0} (machine : Machine Name P) where
   -- this process is main's as it begins
@@ -73,3 +80,8 @@ module _ {P : Type 0} (machine : Machine Name P) where
   abbrev pub LedgerAlong : Type 0
   LedgerAlong = (limits : Limits) (argument : Text) (first : P) (journal : List Entry) (s : System P) → IsMain first
       → IsAlong machine (opening machine limits argument) journal s → HasLedger machine s × IsMadeOnce machine s
+
+  -- In every such state only a process that wants to take or to hear waits: whatever else a process wants can be done.
+  abbrev pub OnlyTakesAndHearsWait : Type 0
+  OnlyTakesAndHearsWait = (limits : Limits) (argument : Text) (first : P) (events : List Event) (r : Run P) → IsMain first → run machine events (start machine limits argument) ≡ Some r
+      → (p : ℕ) (x : P) (want : CellWant Name) → numbered_from_one p r.system.processes ≡ Some x → machine.wanted x ≡ Some want → can r.system p want ≡ false → MayWait want

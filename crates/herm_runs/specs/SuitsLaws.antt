@@ -11,7 +11,7 @@ use Rattle.herm_system.specs.Kinds.{typed_held}
 use Rattle.herm_system.specs.Sound.{IsSoundFor}
 use Rattle.herm_system.specs.Statuses.{Asked}
 use Rattle.herm_system.specs.Reports.{Report, DescribesRun}
-use Rattle.herm_runs.specs.DiaryLaws.{EventSuits, SuitsAlong, IsToldByDiary}
+use Rattle.herm_runs.specs.DiaryLaws.{EventSuits, SuitsAlong, WouldSuit, IsToldByDiary}
 
 -- A process that is sound within itself looks for messages only at ports whose inports it holds: at each port from which it
 -- wants to take, the type is that of an inport that it has there.
@@ -22,6 +22,10 @@ LooksAtHeld {P} machine IsSoundWithin = (x : P) (ports : List ℕ) (n : ℕ) →
 -- In a sound state what comes in with an event suits its process. Language reference, "Diaries".
 abbrev pub SoundStatesSuit : {P : Type 0} → Machine Name P → (P → Type 0) → Type 0
 SoundStatesSuit {P} machine IsSoundWithin = (e : Event) (s : System P) → IsSoundFor machine IsSoundWithin s → EventSuits machine e s
+
+-- What can be done there would suit too, whether or not the process goes on from it.
+abbrev pub SoundStatesWouldSuit : {P : Type 0} → Machine Name P → (P → Type 0) → Type 0
+SoundStatesWouldSuit {P} machine IsSoundWithin = (s : System P) → IsSoundFor machine IsSoundWithin s → WouldSuit machine s
 
 -- each state that a beginning of these events leads to is sound
 abbrev pub AreSoundAlong : {P : Type 0} → Machine Name P → (P → Type 0) → List Event → Run P → Type 0

@@ -1,10 +1,31 @@
-// Two machines that do the same: the law that joins them, at two ways to count down.
+// Two machines that do the same: the law that joins them, and two ways to count down as its example.
 
-ghost use Rattle.std.specs.Prelude.{◌≡◌, List, [], ◌∷◌, ◌++◌, Some, codes, flat_map};
+ghost use Rattle.std.specs.Prelude.{◌≡◌, List, [], ◌∷◌, ◌++◌, Some, codes, flat_map, ⊤};
+ghost use Rattle.herm_model.specs.Values.{Name};
+ghost use Rattle.herm_system.specs.Machines.{Machine};
+ghost use Rattle.herm_runs.specs.OneProcess.{KeepsNumbers};
 ghost use Rattle.herm_journal.specs.Renaming.{forget_name};
 ghost use Rattle.herm_system.specs.Statuses.{line, with_summary, the_journal};
 ghost use Rattle.herm_runs.specs.Countdowns.{as_named, counting_down, counting_up, CountTheSame, written};
-ghost use Rattle.herm_runs.specs.Joining.{AreJoined, DiariesTogether, RunTogether, turned};
+ghost use Rattle.herm_runs.specs.Joining.{AreJoined, ArePaired, DiariesTogether, RoundsFollow, RunsFollow, RunTogether, turned};
+
+/// Two machines are joined where each local step, answer and beginning of the one is exactly one of the other, between states
+/// that correspond; which do is said by a type of pairs. Then whatever events the one goes along, the other does, and they
+/// look alike: journals, ports, replies, the book, ends, queues, numbers, status and text are equal, and the one is at its
+/// end where the other is. In both directions, where what comes in suits. It is enough that in the first whatever can be
+/// done would suit: then each run of the second is one of the first, and the second's rounds are the first's.
+pub fn joined_machines_run_together<P, Q, J>()
+    ensures forth { (a : Machine Name P) → (b : Machine Name Q) → (left : J → P) → (right : J → Q) → AreJoined a b (ArePaired left right) → KeepsNumbers a → RunTogether a b (ArePaired left right) }
+    ensures back { (a : Machine Name P) → (b : Machine Name Q) → (left : J → P) → (right : J → Q) → AreJoined a b (ArePaired left right) → KeepsNumbers b → RunTogether b a (turned (ArePaired left right)) }
+    ensures follow { (a : Machine Name P) → (b : Machine Name Q) → (left : J → P) → (right : J → Q) → AreJoined a b (ArePaired left right) → KeepsNumbers b → RunsFollow a b (ArePaired left right) }
+    ensures rounds { (a : Machine Name P) → (b : Machine Name Q) → (left : J → P) → (right : J → Q) → AreJoined a b (ArePaired left right) → KeepsNumbers b → RoundsFollow a b (ArePaired left right) }
+{}
+
+/// What a diary leads to in the one of two joined machines, it leads to in the other, in both directions.
+pub fn joined_machines_have_the_same_diaries<P, Q, J>()
+    ensures forth { (a : Machine ⊤ P) → (b : Machine ⊤ Q) → (left : J → P) → (right : J → Q) → AreJoined a b (ArePaired left right) → DiariesTogether a b (ArePaired left right) }
+    ensures back { (a : Machine ⊤ P) → (b : Machine ⊤ Q) → (left : J → P) → (right : J → Q) → AreJoined a b (ArePaired left right) → DiariesTogether b a (turned (ArePaired left right)) }
+{}
 
 /// The two machines that count are joined, whatever names their cells have.
 pub fn countdowns_are_joined()

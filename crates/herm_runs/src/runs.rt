@@ -4,7 +4,7 @@ ghost use Rattle.herm_model.specs.Values.{Name};
 ghost use Rattle.herm_system.specs.Machines.{Machine};
 ghost use Rattle.herm_runs.specs.OneProcess.{KeepsLedger, KeepsNumbers, KnowsPlaces};
 ghost use Rattle.herm_runs.specs.OrderLaws.{OrderedJournalsAreRuns};
-ghost use Rattle.herm_runs.specs.RunLaws.{RoundsAreRuns, RoundsAreFinal, RunsAreStamped, RunsAreJournals, RunsKeepLedger, LedgerAlong, RunsAreNumbered, NamesAreMadeOnce, HistoriesTell};
+ghost use Rattle.herm_runs.specs.RunLaws.{RoundsAreRuns, RoundsAreFinal, RunsAreStamped, RunsAreJournals, RunsKeepLedger, LedgerAlong, RunsAreNumbered, NamesAreMadeOnce, OnlyTakesAndHearsWait, HistoriesTell};
 
 /// The schedule of one worker is one of the schedules: what rounds lead to is led to by a list of events.
 pub fn rounds_are_runs<P>()
@@ -61,4 +61,10 @@ pub fn ledger_along_journals<P>()
 /// port's messages, a reply cell's replies, the book's counts.
 pub fn histories_tell<P>()
     ensures told { (machine : Machine Name P) → HistoriesTell machine }
+{}
+
+/// Whatever the schedule, a process waits for a message or for a reply alone: whatever else it wants is wanted of a place
+/// that is there, and can be done.
+pub fn only_takes_and_hears_wait<P>()
+    ensures wait { (machine : Machine Name P) → KeepsNumbers machine → KnowsPlaces machine → OnlyTakesAndHearsWait machine }
 {}

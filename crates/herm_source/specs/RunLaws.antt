@@ -1,6 +1,6 @@
 -- Laws of runs of the source machine.
 use Rattle.herm_runs.specs.DiaryLaws.{DiariesTell}
-use Rattle.herm_runs.specs.SuitsLaws.{SoundStatesSuit, SoundRunsSuit, SoundDiariesTell, DescribedDiariesTell}
+use Rattle.herm_runs.specs.SuitsLaws.{SoundStatesSuit, SoundStatesWouldSuit, SoundRunsSuit, SoundDiariesTell, DescribedDiariesTell}
 use Rattle.herm_source.specs.Modules.{Program, Modules}
 use Rattle.herm_source.specs.Renaming.{forget_state}
 use Rattle.herm_source.specs.Headline.{AreAccepted, FindsNeedsIn}
@@ -10,6 +10,10 @@ use Rattle.herm_source.specs.Sharing.{ShareTypes}
 -- In a sound state what comes in with an event suits its process. Language reference, "Diaries".
 abbrev pub SourceStatesSuit : Type 0
 SourceStatesSuit = (modules : Modules) → ShareTypes modules → SoundStatesSuit (source modules) (IsSoundIn modules)
+
+-- What can be done there would suit too, whether or not the process goes on from it. Language reference, "Diaries".
+abbrev pub SourceStatesWouldSuit : Type 0
+SourceStatesWouldSuit = (modules : Modules) → ShareTypes modules → SoundStatesWouldSuit (source modules) (IsSoundIn modules)
 
 -- So what comes in suits along a run of sound states.
 abbrev pub SourceRunsSuit : Type 0

@@ -2,10 +2,10 @@
 // source machine meets.
 
 ghost use Rattle.herm_runs.specs.OrderLaws.{OrderedJournalsAreRuns};
-ghost use Rattle.herm_runs.specs.RunLaws.{HistoriesTell, LedgerAlong, NamesAreMadeOnce, RoundsAreFinal, RoundsAreRuns, RunsAreJournals, RunsAreNumbered, RunsAreStamped, RunsKeepLedger};
+ghost use Rattle.herm_runs.specs.RunLaws.{HistoriesTell, LedgerAlong, NamesAreMadeOnce, OnlyTakesAndHearsWait, RoundsAreFinal, RoundsAreRuns, RunsAreJournals, RunsAreNumbered, RunsAreStamped, RunsKeepLedger};
 ghost use Rattle.herm_source.specs.Instance.{source};
 ghost use Rattle.herm_source.specs.Modules.{Modules};
-ghost use Rattle.herm_source.specs.RunLaws.{SourceDescribedDiariesTell, SourceDiariesTell, SourceRunsSuit, SourceSoundDiariesTell, SourceStatesSuit};
+ghost use Rattle.herm_source.specs.RunLaws.{SourceDescribedDiariesTell, SourceDiariesTell, SourceRunsSuit, SourceSoundDiariesTell, SourceStatesSuit, SourceStatesWouldSuit};
 
 /// The schedule of one worker is one of the schedules: what rounds lead to is led to by a list of events.
 pub fn rounds_are_runs()
@@ -63,6 +63,11 @@ pub fn histories_tell()
     ensures told { (modules : Modules) → HistoriesTell (source modules) }
 {}
 
+/// Whatever the schedule, a process waits for a message or for a reply alone: whatever else it wants can be done.
+pub fn only_takes_and_hears_wait()
+    ensures wait { (modules : Modules) → OnlyTakesAndHearsWait (source modules) }
+{}
+
 /// Whatever the schedule, where what comes in with each action suits its process, every process of a run is what its
 /// diary says, but for the names of its cells.
 pub fn diaries_tell()
@@ -71,9 +76,11 @@ pub fn diaries_tell()
 
 /// In a sound state what comes in suits its process, where all codes have the modules' table of types: a message is
 /// one of the port's type with exactly the declared facts, a reply is one that the open call waits for, and messages
-/// that are left with a close are well made.
+/// that are left with a close are well made. So would all that can be done in it, whether or not
+/// the process goes on from there.
 pub fn sound_states_suit()
     ensures suits { SourceStatesSuit }
+    ensures would { SourceStatesWouldSuit }
 {}
 
 /// So what comes in suits along every run through sound states.

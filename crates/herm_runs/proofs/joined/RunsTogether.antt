@@ -15,6 +15,20 @@ use Rattle.herm_runs.proofs.Numbered.{step-numbered, opening-numbered}
 use Rattle.herm_runs.proofs.joined.SameOutside.{alike}
 use Rattle.herm_runs.proofs.joined.StepsTogether.{there, step-together, event-suits}
 
+module _ {P Q : Type 0} (a : Machine Name P) (b : Machine Name Q) (R : P → Q → Type 0) (j : AreJoined a b R) where
+  -- the opening states correspond
+  pub opening-together : (limits : Limits) (argument : Text) (main : P) → a.begin a.main 1 main_port ≡ Some main → Correspond R (opening a limits argument) (opening b limits argument)
+  opening-together limits argument main is =
+      let n = there R (a.begin a.main 1 main_port) (b.begin a.main 1 main_port) main (j.begins a.main 1 1 (0, 1)) is in
+      let first : (opening a limits argument).processes ≡ main ∷ [] = ap (list_of (λ x. x ∷ [])) is in
+      let second : (opening b limits argument).processes ≡ n.0 ∷ [] = ap (λ i. list_of (λ x. x ∷ []) (b.begin i 1 main_port)) (sym j.main) ∙ ap (list_of (λ x. x ∷ [])) n.1 in
+      record {
+        processes = subst (λ xs. EachOf R xs (opening b limits argument).processes) (sym first) (subst (EachOf R (main ∷ [])) (sym second) (n.2, tt));
+        ports = refl;
+        replies = refl;
+        book = refl;
+      }
+
 module _ {P Q : Type 0} (a : Machine Name P) (b : Machine Name Q) (R : P → Q → Type 0) (j : AreJoined a b R) (keeps : KeepsNumbers a) where
   -- what a run leads to
   record LeadTogether (events : List Event) (r : Run P) (q : Run Q) : Type 0 where
@@ -53,22 +67,9 @@ module _ {P Q : Type 0} (a : Machine Name P) (b : Machine Name Q) (R : P → Q �
         suits = (event-suits a b R j e r.system q.system m.0 n.0 c suits.0 m.1 n.1 n.3, λ w is. subst (SuitsAlong b events) (some-injective (sym on ∙ is)) rest.suits);
       }
 
-  -- the opening states correspond
-  opening-together : (limits : Limits) (argument : Text) (main : P) → a.begin a.main 1 main_port ≡ Some main → Correspond R (opening a limits argument) (opening b limits argument)
-  opening-together limits argument main is =
-      let n = there R (a.begin a.main 1 main_port) (b.begin a.main 1 main_port) main (j.begins a.main 1 1 (0, 1)) is in
-      let first : (opening a limits argument).processes ≡ main ∷ [] = ap (list_of (λ x. x ∷ [])) is in
-      let second : (opening b limits argument).processes ≡ n.0 ∷ [] = ap (λ i. list_of (λ x. x ∷ []) (b.begin i 1 main_port)) (sym j.main) ∙ ap (list_of (λ x. x ∷ [])) n.1 in
-      record {
-        processes = subst (λ xs. EachOf R xs (opening b limits argument).processes) (sym first) (subst (EachOf R (main ∷ [])) (sym second) (n.2, tt));
-        ports = refl;
-        replies = refl;
-        book = refl;
-      }
-
   pub runs-together : RunTogether a b R
   runs-together limits argument main events r is runs suits =
-      let k = run-together events (start a limits argument) r (start b limits argument) (opening-numbered a keeps limits argument main is) (opening-together limits argument main is) refl runs suits in
+      let k = run-together events (start a limits argument) r (start b limits argument) (opening-numbered a keeps limits argument main is) (opening-together a b R j limits argument main is) refl runs suits in
       let last : Run Q = record { system = (k.last).system; journal = r.journal } in
       let same : last ≡ k.last = ap (λ es. record { system = (k.last).system; journal = es }) k.journal in
       (last, k.runs ∙ ap (λ x. Some x) (sym same), alike a b R j r.system (k.last).system k.systems r.journal, k.suits)

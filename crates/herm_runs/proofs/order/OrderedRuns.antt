@@ -58,7 +58,7 @@ module _ {P : Type 0} (machine : Machine Name P) (s : System P) (numbered : IsNu
       by_test true is e again = subst IsThereAt (sym (place-same place (port n) is)) (port-there n h.0)
       by_test false is e again = again e
 
-  places-there : (w : CellWant Name) (p : ℕ) (place : Place) → WantKinds (IsKnown s.book) w → 1 ≤ p → p ≤ s.book.processes → some_of (same_place place) (places_for p w) ≡ true → IsThereAt place
+  pub places-there : (w : CellWant Name) (p : ℕ) (place : Place) → WantKinds (IsKnown s.book) w → 1 ≤ p → p ≤ s.book.processes → some_of (same_place place) (places_for p w) ≡ true → IsThereAt place
   places-there new_port p place k one le e = subst IsThereAt (sym (one-place place book e)) (a_book s.book, refl)
   places-there (new_process code) p place k one le e = subst IsThereAt (sym (one-place place book e)) (a_book s.book, refl)
   places-there (to_put n m) p place k one le e = subst IsThereAt (sym (one-place place (port n) e)) (port-there n k.0)
@@ -83,7 +83,7 @@ first-holds machine limits argument (reply_cell (suc zero)) h e = subst (Holding
 first-holds machine limits argument (reply_cell (suc (suc p))) h e = none-not_some e
 first-holds machine limits argument book h e = subst (HoldingKinds (IsKnown (first_book limits))) (some-injective e) tt
 
-opening-knows : {P : Type 0} (machine : Machine Name P) → KnowsPlaces machine → (limits : Limits) (argument : Text) (main : P) → machine.begin machine.main 1 main_port ≡ Some main → HasOnly machine (first_book limits) (opening machine limits argument)
+pub opening-knows : {P : Type 0} (machine : Machine Name P) → KnowsPlaces machine → (limits : Limits) (argument : Text) (main : P) → machine.begin machine.main 1 main_port ≡ Some main → HasOnly machine (first_book limits) (opening machine limits argument)
 opening-knows machine known limits argument main is =
     let alone : (opening machine limits argument).processes ≡ main ∷ [] = ap (list_of (λ x. x ∷ [])) is in
     record {
