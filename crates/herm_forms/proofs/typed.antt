@@ -9,3 +9,4 @@ pub mod Room
 pub mod LocalGoes
 pub mod InsertGoes
 pub mod FormsGo
+pub mod LocalOutcomes
