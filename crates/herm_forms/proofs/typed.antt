@@ -10,3 +10,4 @@ pub mod LocalGoes
 pub mod InsertGoes
 pub mod FormsGo
 pub mod LocalOutcomes
+pub mod EachGoes

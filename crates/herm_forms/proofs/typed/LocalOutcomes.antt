@@ -1,16 +1,16 @@
 -- What a local step comes to is among the outcomes of its form.
-use Rattle.std.proofs.Common.{◌≡◌, inl, inr, ℕ, suc, List, [], ◌∷◌, ◌++◌, map, Bool, true, false, cond, Option, Some, None, nat_eq, nat_lt, refl, sym, ap, ◌∙◌, subst}
-use Rattle.std.specs.Prelude.{slice_get, IsTrue, IsFalse, ⊤}
-use Rattle.herm_model.specs.Lists.{IsIn, with_some}
-use Rattle.herm_model.specs.Paths.{Path, Fact}
-use Rattle.herm_model.specs.Types.{Shape, fields, rows, cases, type_at}
+use Rattle.std.proofs.Common.{◌≡◌, inl, inr, ℕ, suc, List, [], ◌∷◌, ◌++◌, map, Bool, true, false, cond, Option, Some, None, nat_lt, refl}
+use Rattle.std.specs.Prelude.{⊤}
+use Rattle.herm_model.specs.Lists.{IsIn}
+use Rattle.herm_model.specs.Paths.{Path}
+use Rattle.herm_model.specs.Types.{Shape, fields, rows, type_at}
 use Rattle.herm_model.specs.Expressions.{Expression}
 use Rattle.herm_model.specs.Calls.{shape_at}
-use Rattle.herm_model.specs.Statements.{Form, Assign, Move, New, Discard, Unite, Dissolve, Reveal, Case, Wrap, Unwrap, Insert, Remove, Get, For, Connect, If, While, Raise, Leave, Process}
-use Rattle.herm_model.specs.Outcomes.{Outcome, ok, is_true, is_false, turn, done, component, raised, depletion, case_error, polymorph_mismatch, duplicate_key, not_found, raised_by, outcomes}
-use Rattle.herm_model.specs.Tables.{has_key, key_of, place_of_key, without_part}
+use Rattle.herm_model.specs.Statements.{Form, Assign, Move, New, Discard, Unite, Dissolve, Reveal, Case, Wrap, Unwrap, Insert, Remove, Get, For, Connect, If, While, Raise, Leave}
+use Rattle.herm_model.specs.Outcomes.{Outcome, ok, is_true, is_false, turn, done, component, raised, case_error, not_found, raised_by, outcomes}
+use Rattle.herm_model.specs.Tables.{has_key, key_of, place_of_key}
 use Rattle.herm_model.specs.Typed.{greatest_rows, greatest_polymorph}
-use Rattle.herm_model.specs.Values.{Scalar, a_boolean, a_scalar, a_variant, a_polymorph, Kind, Cell, cell, Parts, no_parts, gap, part, part_at, parts_of, size, cell_at, read_at, has_place, is_component, polymorph_depth, copy_in, Value}
+use Rattle.herm_model.specs.Values.{Scalar, a_boolean, a_scalar, a_variant, a_polymorph, Cell, cell, Parts, no_parts, gap, part, part_at, parts_of, size, cell_at, read_at, has_place, is_component, polymorph_depth, Value}
 use Rattle.herm_model.proofs.Lists.{in-append_left, in-append_right, in-map}
 use Rattle.herm_forms.specs.Bodies.{Name, Body, Result, goes, stays, stuck, if_there, let_go, end_name, drop, put, reading, taking, putting, making}
 use Rattle.herm_forms.specs.Forms
