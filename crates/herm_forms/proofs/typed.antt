@@ -9,3 +9,5 @@ pub mod Room
 pub mod LocalGoes
 pub mod InsertGoes
 pub mod FormsGo
+pub mod LocalOutcomes
+pub mod EachGoes

@@ -39,7 +39,7 @@ same_outcome-is (arm m) (arm n) h = ap arm (eqb-true m n h)
 same_outcome-is (raised e) (raised f) h = ap raised (eqb-true e f h)
 same_outcome-is _ _ h = cc
 
-same_outcome_self : (o : Outcome) → same_outcome o o ≡ true
+pub same_outcome_self : (o : Outcome) → same_outcome o o ≡ true
 same_outcome_self ok = refl
 same_outcome_self is_true = refl
 same_outcome_self is_false = refl

@@ -37,7 +37,7 @@ abbrev pub Found : Code → Form → (Fact → Bool) → Type 0
 Found c form has = (f : Fact) → IsIn f (needs c.types c.variables form) → IsTrue (has f)
 
 -- the rows that the loop of a statement has yet to visit are full
-rows-fit : (c : Code) (s t : ℕ) → row_type c s ≡ Some t → (loops : List (Loop Name)) → LoopsFit c loops → (rs : Parts Name) → rows_for s loops ≡ Some rs → Fits c.types (many t) rs
+pub rows-fit : (c : Code) (s t : ℕ) → row_type c s ≡ Some t → (loops : List (Loop Name)) → LoopsFit c loops → (rs : Parts Name) → rows_for s loops ≡ Some rs → Fits c.types (many t) rs
 rows-fit c s t row [] fit rs e = none-not_some e
 rows-fit c s t row (l ∷ loops) fit rs e = by (nat_eq l.statement s) refl e (rows-fit c s t row loops (λ m h. fit m (inr h)) rs)
   where

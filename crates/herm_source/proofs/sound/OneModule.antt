@@ -1,5 +1,5 @@
 -- A process of a typed and accepted module stays sound within itself, and where control paths lead.
-use Rattle.std.proofs.Common.{◌≡◌, ◌↔◌, inl, inr, ℕ, arith, List, [], ◌∷◌, map, find, Bool, true, false, cond, nat_eq, Option, Some, None, refl, sym, ap, ◌∙◌, subst, true≢false}
+use Rattle.std.proofs.Common.{◌≡◌, ◌↔◌, inl, inr, ℕ, arith, List, [], ◌∷◌, map, find, Bool, true, false, cond, nat_eq, Option, Some, None, option_map, refl, sym, ap, ◌∙◌, subst, true≢false}
 use Rattle.std.specs.Prelude.{pred, length, slice_get, option_and_then, IsTrue, IsFalse}
 use Rattle.std.proofs.lemmas.Bool.{eqb-true}
 use Rattle.herm_model.specs.Lists.{IsIn, list_of, some_of}
@@ -8,13 +8,15 @@ use Rattle.herm_model.specs.Types.{TypeTable, inport}
 use Rattle.herm_model.specs.WellFormedTables.{IsWellFormedTable}
 use Rattle.herm_model.specs.TypedPrograms.{IsTypedProcess}
 use Rattle.herm_model.specs.Statements.{Process}
-use Rattle.herm_model.specs.Outcomes.{Outcome}
-use Rattle.herm_model.specs.Nodes.{Target, node, end, end_by, Node, process_nodes, entry_of}
+use Rattle.herm_model.specs.Outcomes.{Outcome, same_outcome, outcomes}
+use Rattle.herm_model.specs.Nodes.{Target, node, end, end_by, Node, Exit, exits, process_nodes, entry_of}
 use Rattle.herm_model.specs.Control.{flow_of, IsReached}
 use Rattle.herm_model.specs.FlowLaws.{Rise}
 use Rattle.herm_model.specs.Refusals.{Labels, label_at, AreExact, IsAccepted}
 use Rattle.herm_model.specs.Values.{Cell, cell, an_inport, no_parts, part, gaps}
-use Rattle.herm_model.proofs.Lists.{not_true, in-map}
+use Rattle.herm_model.proofs.Lists.{not_true, in-map, in-map_from}
+use Rattle.herm_model.proofs.NodeExits.{exits-outcomes}
+use Rattle.herm_model.proofs.Reached.{same_outcome_self}
 use Rattle.herm_model.proofs.FactTests.{got-IsIn}
 use Rattle.herm_model.proofs.NodeNumbers.{process_numbers-Rise}
 use Rattle.herm_model.proofs.Options.{none-not_some, some-injective, map-some}
@@ -31,6 +33,8 @@ use Rattle.herm_forms.specs.CallLaws.{without_lent}
 use Rattle.herm_forms.specs.Incoming.{ComesIn}
 use Rattle.herm_forms.specs.TypedForms.{IsTypedIn}
 use Rattle.herm_forms.proofs.KeptBodies.{All, went, stayed, never, is-arrive, all-work}
+use Rattle.herm_forms.proofs.typed.EachGoes.{each-goes}
+use Rattle.herm_source.proofs.incoming.SuitsPorts.{find-some}
 use Rattle.herm_forms.proofs.forms.NewValues.{typed-by}
 use Rattle.herm_forms.proofs.forms.PlainForms.{same_facts}
 use Rattle.herm_source.specs.States.{State, own_name, begin, node_at, behind}
@@ -40,7 +44,7 @@ use Rattle.herm_source.proofs.OutcomesArrive.{outcomes-arrive}
 use Rattle.herm_source.proofs.reached.FoundNeeds.{labelled}
 use Rattle.herm_source.proofs.reached.LeadsOn.{entry-reached}
 use Rattle.herm_source.proofs.sound.Shapes.{LoopsFit, AreItems, IsShaped, shape-kept, fewer-shape, OnlyWorks, only-lets}
-use Rattle.herm_source.proofs.sound.OneForm.{Found, GoesWell, AnswersWell, acts-well, settles-well, replies-well}
+use Rattle.herm_source.proofs.sound.OneForm.{rows-fit, Found, GoesWell, AnswersWell, acts-well, settles-well, replies-well}
 
 -- the facts that a process has, as a test
 abbrev pub has_of : Code → State Name → Fact → Bool
@@ -133,6 +137,13 @@ module _ (exceptions : ℕ) (types : TypeTable) (processes : List Process) (p : 
   at-node end n at = none-not_some at
   at-node (end_by e) n at = none-not_some at
 
+  -- each outcome of a node's form leads along an exit
+  leads-there : (n : Node) → IsIn n (process_nodes p) → (o : Outcome) → IsIn o (outcomes types p.variables n.form) → (t : Target) × (leads_to c n o ≡ Some t)
+  leads-there n m o h =
+      let e = in-map_from (λ (e : Exit). e.outcome) o (exits types p.variables n) (subst (IsIn o) (sym (exits-outcomes types p n good.typed.blocks m)) h) in
+      let found = find-some (λ (e : Exit). same_outcome e.outcome o) e.0 (exits types p.variables n) e.1 (ap (λ q. same_outcome q o) (sym e.2) ∙ same_outcome_self o) in
+      ((found.0).target, ap (option_map (λ (e : Exit). e.target)) found.1)
+
   -- behind an outcome
   leads-well : (i : ℕ) (n : Node) → IsReached (flow_of types p) (node i) → slice_get (process_nodes p) i ≡ Some n → (o : Outcome) (b : Body Name) → AreSound c (held_after types p.variables n.form o (labels i)) b.variables
       → IsShaped c None b → (s t : State Name) → behind c s (Some n) (goes o b) ≡ Some t → StandsWell t
@@ -176,6 +187,16 @@ module _ (exceptions : ℕ) (types : TypeTable) (processes : List Process) (p : 
             by (goes o b) well is = leads-well here.place n reached-here here.there o b well.0 well.1 s t is
             by (stays b) well is = absurd well
             by stuck well is = none-not_some is
+
+        -- where a local step is next, it is there
+        pub step-there : IsFalse (is_action c n.form) → (y : State Name) × (behind c s (Some n) (act own_name c n.number n.form (counted_step s.body)) ≡ Some y)
+        step-there local =
+            let x =
+            each-goes exceptions processes c n.form (typed-at here.place n here.there) local own_name n.number (labels here.place) (counted_step s.body) idle-values idle-found
+            (λ r t row form type rs e. rows-fit c n.number row (row-at here.place n here.there row (ap (row_of c) form ∙ type)) s.body.loops sound.loops rs e) in
+            let leads = leads-there n (got-IsIn (process_nodes p) here.place n here.there) x.0 x.3 in
+            let next : Target → State Name = λ t. record { code = s.code; point = t; body = arrive c t x.1 } in
+            (next leads.0, ap (behind c s (Some n)) x.2 ∙ ap (option_map next) leads.1)
 
         -- an answer
         pub answers-well : IsTrue (is_action c n.form) → (place : ℕ) (action : CellAction Name) → ComesIn own_name c n.form (counted_action (counted_step s.body)) place action

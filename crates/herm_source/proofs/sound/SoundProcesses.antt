@@ -1,12 +1,13 @@
 -- Each process of a checked program begins sound within itself and stays so.
 use Rattle.std.proofs.Common.{◌≡◌, ℕ, suc, List, [], ◌∷◌, Bool, true, false, cond, Option, Some, None, option_map, refl, sym, ap, ◌∙◌, subst}
-use Rattle.std.specs.Prelude.{slice_get, option_and_then, ⊤}
+use Rattle.std.specs.Prelude.{slice_get, option_and_then, nat_lt, IsTrue, ⊤}
 use Rattle.herm_model.specs.Types.{TypeTable}
 use Rattle.herm_model.specs.Statements.{Process}
 use Rattle.herm_model.specs.Nodes.{Node}
 use Rattle.herm_model.specs.Control.{flow_of, IsReached}
 use Rattle.herm_model.specs.Refusals.{Labels}
 use Rattle.herm_model.specs.Values.{Cell, cell, an_inport, no_parts}
+use Rattle.herm_model.proofs.Lists.{not_true}
 use Rattle.herm_model.proofs.FactTests.{got-IsIn}
 use Rattle.herm_model.proofs.Options.{none-not_some, some-injective, chain-some, map-some}
 use Rattle.herm_journal.specs.Actions.{to_put, put, take, hear}
@@ -18,24 +19,29 @@ use Rattle.herm_forms.specs.Callings.{Calling, call_type, IsReply}
 use Rattle.herm_forms.specs.Incoming.{looked_at, ComesIn}
 use Rattle.herm_forms.proofs.typed.EachForm.{puts-same}
 use Rattle.herm_system.specs.Along.{Answers, Suits}
-use Rattle.herm_system.specs.Machines.{OpenCall}
+use Rattle.herm_system.specs.Machines.{OpenCall, is_local, local, to_act, out_of_steps, greatest_actions}
 use Rattle.herm_runs.proofs.Stands.{cond-both}
-use Rattle.herm_source.specs.States.{State, own_name, item_or, call_or_statement, begin, node_at, behind, step_next, local_step, settle_next, answered, wanted_next, wanted}
+use Rattle.herm_source.specs.States.{State, own_name, item_or, call_or_statement, begin, node_at, behind, step_next, local_step, ready_for, ready_in, settle_next, answered, wanted_next, wanted}
 use Rattle.herm_source.specs.Modules.{Program, Modules}
-use Rattle.herm_source.specs.Instance.{source, code_at}
+use Rattle.herm_source.specs.Instance.{source, code_at, ready_if}
 use Rattle.herm_source.specs.Local.{calling, IsLocallySound}
 use Rattle.herm_source.specs.Looking.{port_type, open_call}
 use Rattle.herm_source.specs.Checked.{IsChecked}
-use Rattle.herm_source.specs.process_laws.SoundProcesses.{IsSoundProcess, AnswersWant, CheckedProcessesStaySound}
+use Rattle.herm_source.specs.process_laws.SoundProcesses.{IsSoundProcess, AnswersWant, CheckedProcessesStaySound, LocalStepsAreThere}
 use Rattle.herm_source.proofs.Numbers.{local-stays, answer-stays}
 use Rattle.herm_source.proofs.reached.FoundNeeds.{module-of}
-use Rattle.herm_source.proofs.sound.OneModule.{IsGoodModule, StandsWell, steps-well, answers-well, replied-well, worked-well, begins-well}
+use Rattle.herm_source.proofs.sound.OneModule.{IsGoodModule, StandsWell, steps-well, step-there, answers-well, replied-well, worked-well, begins-well}
 
 -- what comes in suits a code's process
 abbrev SuitsCode : TypeTable → Code → State Name → (at : ℕ) → CellAction Name → Type 0
 SuitsCode types c x at (take k m) = (t : ℕ) × (port_type c x at ≡ Some t) × IsMessage types t m
 SuitsCode types c x at (hear k r) = (call : OpenCall) × (open_call c x ≡ Some call) × (call.number ≡ k) × IsReplyTo types call.call_type r
 SuitsCode types c x at a = ⊤
+
+-- where an action is next no local step is
+acting-not : (b : Bool) {A : Type 0} → IsTrue (is_local (to_act b)) → A
+acting-not true h = not_true h
+acting-not false h = not_true h
 
 -- the message that was to be put is the one that was put
 put-wanted : (w : CellWant Name) (k : Option ℕ) (m : Cell Name) → Answers w (put k m) → (n : ℕ) × (w ≡ to_put n m)
@@ -62,6 +68,22 @@ module _ (exceptions : ℕ) (types : TypeTable) (processes : List Process) (p : 
 
     pub step-well : local_step own_name c s ≡ Some t → Well t
     step-well is = step-by s.body.work s.body.call (node_at c s.point) refl refl is
+
+    there-by : (limit : ℕ) (work : List (Cell Name)) (call : Option ℕ) (o : Option Node) → s.body.call ≡ call → node_at c s.point ≡ o → IsTrue (is_local (ready_for c limit s.body (item_or work (call_or_statement call o))))
+        → (y : State Name) × (step_next own_name c s (item_or work (call_or_statement call o)) ≡ Some y)
+    there-by limit (item ∷ work) call o idle at is = acting-not (nat_lt s.body.actions greatest_actions) is
+    there-by limit [] call None idle at is = not_true is
+    there-by limit [] (Some k) (Some n) idle at is = acting-not (nat_lt s.body.actions greatest_actions) is
+    there-by limit [] None (Some n) idle at is = by (nat_lt s.body.steps limit) (is_action c n.form) refl is
+      where
+        by : (within acts : Bool) → is_action c n.form ≡ acts → IsTrue (is_local (cond within (cond acts (to_act (nat_lt s.body.actions greatest_actions)) local) out_of_steps))
+            → (y : State Name) × (cond acts None (behind c s (Some n) (act own_name c n.number n.form (counted_step s.body))) ≡ Some y)
+        by false acts e is = not_true is
+        by true true e is = acting-not (nat_lt s.body.actions greatest_actions) is
+        by true false e is = step-there exceptions types processes p labels good s t stands n at idle e
+
+    pub local-there : (limit : ℕ) → IsTrue (is_local (ready_in c limit s)) → (y : State Name) × (local_step own_name c s ≡ Some y)
+    local-there limit is = there-by limit s.body.work s.body.call (node_at c s.point) refl refl is
 
     module _ (place : ℕ) (action : CellAction Name) (w : CellWant Name) (answers : Answers w action) (suits : SuitsCode types c s place action) where
       -- what comes in with the answer to a statement
@@ -156,6 +178,17 @@ module _ (exceptions : ℕ) (program : Program) (modules : Modules) (checked : I
   suits-code x c coded at (hear k r) h = (h.0, sym (ap (option_and_then (λ c. open_call c x)) coded) ∙ h.1, h.2, subst (λ types. IsReplyTo types (h.0).call_type r) (checked.accepted).types h.3)
   suits-code x c coded at a h = tt
 
+  there : (limit : ℕ) (x : State Name) → IsSoundProcess program modules x → IsTrue (is_local ((source modules).ready limit x)) → (y : State Name) × ((source modules).local_step x ≡ Some y)
+  there limit x is next = by (code_at modules x) refl next
+    where
+      by : (o : Option Code) → code_at modules x ≡ o → IsTrue (is_local (ready_if limit x o)) → (y : State Name) × ((source modules).local_step x ≡ Some y)
+      by None e h = not_true h
+      by (Some d) e h =
+          let m = module-at x d e in
+          let same : d ≡ code_of program.types m.process m.labels = some-injective (sym e ∙ m.coded) in
+          let y = local-there exceptions program.types program.processes m.process m.labels m.good x x (well-in x m is) limit (subst (λ c. IsTrue (is_local (ready_in c limit x))) same h) in
+          (y.0, ap (option_and_then (λ c. local_step own_name c x)) m.coded ∙ y.1)
+
   answers : (x y : State Name) (at : ℕ) (a : CellAction Name) → AnswersWant modules x a → Suits (source modules) x at a → (source modules).answered x at a ≡ Some y → IsSoundProcess program modules x → IsSoundProcess program modules y
   answers x y at a want suits e is =
       let d = chain-some (λ c. answered own_name c x at a) (code_at modules x) y e in
@@ -172,3 +205,6 @@ stay-sound exceptions program modules checked = record {
   local_steps = steps exceptions program modules checked;
   answers = answers exceptions program modules checked;
 }
+
+pub steps-there : LocalStepsAreThere
+steps-there exceptions program modules checked limit x is next = there exceptions program modules checked limit x is next

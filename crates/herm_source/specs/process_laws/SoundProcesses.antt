@@ -1,10 +1,11 @@
 -- What is claimed of one process of a checked program: it stays sound within itself, and stands where control paths lead.
-use Rattle.std.specs.Prelude.{◌≡◌, ℕ, Some, slice_get}
+use Rattle.std.specs.Prelude.{◌≡◌, ℕ, Some, slice_get, IsTrue}
 use Rattle.herm_model.specs.Statements.{Process}
 use Rattle.herm_model.specs.Control.{flow_of, IsReached}
 use Rattle.herm_model.specs.Values.{an_inport, cell, no_parts}
 use Rattle.herm_journal.specs.Messages.{CellWant, CellAction}
 use Rattle.herm_forms.specs.Bodies.{Name}
+use Rattle.herm_system.specs.Machines.{is_local}
 use Rattle.herm_system.specs.Along.{Answers, Suits}
 use Rattle.herm_source.specs.States.{State}
 use Rattle.herm_source.specs.Modules.{Program, Modules}
@@ -31,3 +32,9 @@ pub record ProcessesStaySound (exceptions : ℕ) (program : Program) (modules : 
 
 abbrev pub CheckedProcessesStaySound : Type 0
 CheckedProcessesStaySound = (exceptions : ℕ) (program : Program) (modules : Modules) → IsChecked exceptions program modules → ProcessesStaySound exceptions program modules
+
+-- Where a local step is next in such a process, it is there: no statement that is a local step is stuck.
+-- Language reference, "Sound states".
+abbrev pub LocalStepsAreThere : Type 0
+LocalStepsAreThere = (exceptions : ℕ) (program : Program) (modules : Modules) → IsChecked exceptions program modules → (limit : ℕ) (x : State Name) → IsSoundProcess program modules x
+    → IsTrue (is_local ((source modules).ready limit x)) → (y : State Name) × ((source modules).local_step x ≡ Some y)
