@@ -1,3 +1,6 @@
+pub mod Loads
+pub mod Copies
+pub mod Begun
 pub mod Weights
 pub mod Balance
 pub mod KeptLocal
