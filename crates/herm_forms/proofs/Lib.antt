@@ -8,6 +8,7 @@ pub mod KeptActions
 pub mod Counting
 pub mod KeptForms
 pub mod KeptNumbers
+pub mod PlainCopies
 pub mod TypedReading
 pub mod Dropped
 pub mod Arrived

@@ -1,5 +1,5 @@
 -- A process's cells are of kinds that local steps keep.
-use Rattle.std.proofs.Common.{ℕ, suc, ◌+◌, List, [], ◌∷◌, ◌++◌, Bool, true, false, cond, Option, Some, None}
+use Rattle.std.proofs.Common.{◌≡◌, refl, ℕ, suc, ◌+◌, List, [], ◌∷◌, ◌++◌, Bool, true, false, cond, Option, Some, None}
 use Rattle.std.specs.Prelude.{length, ℤ, pos, nat_eq, nat_lt, nat_le, filter, not, ◌&&◌, ◌||◌, ◌+ℤ◌, ◌-ℤ◌, ◌*ℤ◌, neg_ℤ, int_lt, int_le, int_div, int_rem}
 use Rattle.herm_model.specs.Paths.{Path}
 use Rattle.herm_model.specs.Types.{Shape, fields, rows, type_at}
@@ -133,19 +133,26 @@ module _ (of : Kind → Type 0) (allows : AllowsPlain of) where
   rows-kinds (Some (cell n a_table ps)) = scalar-given _
   rows-kinds (Some (cell n k ps)) = tt
 
+  -- what an expression gives that copies only such cells
+  pub evaluate-from : {N : Type 0} (ps : Parts N) (e : Expression) → ((p : Path) → e ≡ copy p → IfKinds of (read_at p ps)) → GivesKinds of (evaluate ps e)
+  evaluate-from ps (literal l) h = scalar-given _
+  evaluate-from ps (copy p) h = value-kinds (read_at p ps) (h p refl)
+  evaluate-from ps (negated e) h = one-then _ (evaluate ps e) (λ s. integer-then _ s (λ z. within-bits (neg_ℤ z)))
+  evaluate-from ps (inverted e) h = one-then _ (evaluate ps e) (λ s. boolean-then _ s (λ b. scalar-given (a_boolean (not b))))
+  evaluate-from ps (operation o x y) h = two-then (operate o) (evaluate ps x) (evaluate ps y) (operated o)
+  evaluate-from ps (Expression.size_of p) h = rows-kinds (read_at p ps)
+  evaluate-from ps (decimal e) h = one-then _ (evaluate ps e) (λ s. integer-then _ s (λ z. scalar-given (a_text (signed_numeral z))))
+  evaluate-from ps (length_of e) h = one-then _ (evaluate ps e) (λ s. text-then _ s (λ t. scalar-given (an_integer (pos (length t)))))
+
   evaluate-kinds : {N : Type 0} (ps : Parts N) (e : Expression) → HaveKinds of ps → GivesKinds of (evaluate ps e)
-  evaluate-kinds ps (literal l) h = scalar-given _
-  evaluate-kinds ps (copy p) h = value-kinds (read_at p ps) (read-kinds of p ps h)
-  evaluate-kinds ps (negated e) h = one-then _ (evaluate ps e) (λ s. integer-then _ s (λ z. within-bits (neg_ℤ z)))
-  evaluate-kinds ps (inverted e) h = one-then _ (evaluate ps e) (λ s. boolean-then _ s (λ b. scalar-given (a_boolean (not b))))
-  evaluate-kinds ps (operation o x y) h = two-then (operate o) (evaluate ps x) (evaluate ps y) (operated o)
-  evaluate-kinds ps (Expression.size_of p) h = rows-kinds (read_at p ps)
-  evaluate-kinds ps (decimal e) h = one-then _ (evaluate ps e) (λ s. integer-then _ s (λ z. scalar-given (a_text (signed_numeral z))))
-  evaluate-kinds ps (length_of e) h = one-then _ (evaluate ps e) (λ s. text-then _ s (λ t. scalar-given (an_integer (pos (length t)))))
+  evaluate-kinds ps e h = evaluate-from ps e (λ p is. read-kinds of p ps h)
+
+  pub atom-from : {N : Type 0} (ps : Parts N) (a : Atom) → ((p : Path) → a ≡ path p → IfKinds of (read_at p ps)) → GivesKinds of (atom_value ps a)
+  atom-from ps (Atom.literal l) h = scalar-given _
+  atom-from ps (path p) h = value-kinds (read_at p ps) (h p refl)
 
   pub atom-kinds : {N : Type 0} (ps : Parts N) (a : Atom) → HaveKinds of ps → GivesKinds of (atom_value ps a)
-  atom-kinds ps (Atom.literal l) h = scalar-given _
-  atom-kinds ps (path p) h = value-kinds (read_at p ps) (read-kinds of p ps h)
+  atom-kinds ps a h = atom-from ps a (λ p is. read-kinds of p ps h)
 
 module _ {N : Type 0} (name : Name → N) (of : Kind → Type 0) (allows : AllowsPlain of) where
   -- the result's body is of the kinds, if it has a body
