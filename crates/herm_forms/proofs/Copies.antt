@@ -5,6 +5,7 @@ use Rattle.herm_model.specs.Statements.{Form, Assign, Get, For, Call, Move, New,
 use Rattle.herm_model.specs.Calls.{call_parameters}
 use Rattle.herm_model.specs.Values.{Kind, Cell, cell, Parts, no_parts, gap, part, parts_of, read_at, Value}
 use Rattle.herm_journal.specs.Kinds.{HasKinds, HaveKinds}
+use Rattle.herm_journal.proofs.MoreKinds.{more-kinds, more-kinds_in}
 use Rattle.herm_forms.specs.Evaluate.{gives, evaluate}
 use Rattle.herm_forms.specs.Edges.{Code}
 use Rattle.herm_forms.specs.Acts.{inputs_of}
@@ -35,3 +36,11 @@ module _ (of : Kind → Type 0) (all : (k : Kind) → of k) where
   all-copies c (For r t) ps = λ table is. every-kind_in (parts_of table)
   all-copies c (Call o arguments) ps = λ inputs is. every-kind_in inputs
   all-copies c form ps = tt
+
+-- cells of certain kinds are of more kinds
+pub more-copies : {N : Type 0} (f g : Kind → Type 0) (more : (k : Kind) → f k → g k) (c : Code) (form : Form) (ps : Parts N) → CopiesKinds f c form ps → CopiesKinds g c form ps
+more-copies f g more c (Assign x e) ps h = λ v is. more-kinds f g more v (h v is)
+more-copies f g more c (Get r t keys) ps h = λ table is. more-kinds_in f g more (parts_of table) (h table is)
+more-copies f g more c (For r t) ps h = λ table is. more-kinds_in f g more (parts_of table) (h table is)
+more-copies f g more c (Call o arguments) ps h = λ inputs is. more-kinds_in f g more inputs (h inputs is)
+more-copies f g more c form ps h = tt

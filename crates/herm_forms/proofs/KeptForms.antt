@@ -117,7 +117,7 @@ module _ {N : Type 0} (w : N → ℕ) (extra : Kind → ℕ) (name : Name → N)
       recount-compose steps actions name (map (λ (p : Parameter). p.mode) (call_parameters c.types c.variables o)) inputs
       (flat_map (λ (p : Path). beyond_full c p b) (arguments_at c is_inout o arguments)) (arguments_at c is_inout o arguments) b
 
-  recount-composed : (c : Code) (o : Path) (arguments : List Atom) (b : Body N) → composed name c o arguments (recount steps actions b) ≡ option_map (recount_composed steps actions) (composed name c o arguments b)
+  pub recount-composed : (c : Code) (o : Path) (arguments : List Atom) (b : Body N) → composed name c o arguments (recount steps actions b) ≡ option_map (recount_composed steps actions) (composed name c o arguments b)
   recount-composed c o arguments b = recounted c o arguments b (inputs_of (call_parameters c.types c.variables o) arguments b.variables)
 
   recount-load : (o : Option (Composed N)) → call_load extra (option_map (recount_composed steps actions) o) ≡ call_load extra o

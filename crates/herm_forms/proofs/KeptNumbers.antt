@@ -194,7 +194,7 @@ module _ {N : Type 0} (name : Name → N) (n : ℕ) where
       let made = map-some (with_message name took.0.body) (assemble modes (copy_in (λ s. name (b.number, s)) b.serial inputs) took.0.cells) k took.2 in
       sym (ap (λ (x : Composed N). x.body.number) made.2) ∙ is-take_all moved (drop lost (record b { serial = b.serial + count_in inputs })) took.0 (is-drop lost (record b { serial = b.serial + count_in inputs }) e) took.1
 
-  is-composed : (c : Code) (o : Path) (arguments : List Atom) (b : Body N) (k : Composed N) → Is b → composed name c o arguments b ≡ Some k → Is k.body
+  pub is-composed : (c : Code) (o : Path) (arguments : List Atom) (b : Body N) (k : Composed N) → Is b → composed name c o arguments b ≡ Some k → Is k.body
   is-composed c o arguments b k e is =
       let inputs = chain-some _ (inputs_of (call_parameters c.types c.variables o) arguments b.variables) k is in
       is-compose (map (λ p. p.mode) (call_parameters c.types c.variables o)) inputs.0 (flat_map (λ p. beyond_full c p b) (arguments_at c is_inout o arguments)) (arguments_at c is_inout o arguments) b k e inputs.2

@@ -9,6 +9,7 @@ pub mod Counting
 pub mod KeptForms
 pub mod KeptNumbers
 pub mod PlainCopies
+pub mod CountedCalls
 pub mod TypedReading
 pub mod Dropped
 pub mod Arrived

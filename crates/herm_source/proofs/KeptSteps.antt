@@ -59,7 +59,7 @@ module _ {N : Type 0} (w : N → ℕ) (extra : Kind → ℕ) (name : Name → N)
   step_or_not c s t n true kinds e is = none-not_some is
   step_or_not c s t n false kinds e is = balanced-behind 0 c s (Some n) (act name c n.number n.form (counted_step s.body)) t (kept-act w extra name spares m k c n.number n.form (counted_step s.body) kinds e) is
 
-  balanced-step_next : (c : Code) (s t : State N) (next : Next N) → CopiesNext (Spares extra) c s.body next → Balanced w extra name m k 0 s.body → step_next name c s next ≡ Some t → Balanced w extra name m k 0 t.body
+  pub balanced-step_next : (c : Code) (s t : State N) (next : Next N) → CopiesNext (Spares extra) c s.body next → Balanced w extra name m k 0 s.body → step_next name c s next ≡ Some t → Balanced w extra name m k 0 t.body
   balanced-step_next c s t (a_statement n) kinds e is = step_or_not c s t n (is_action c n.form) kinds e is
   balanced-step_next c s t _ kinds e is = none-not_some is
 
@@ -102,7 +102,7 @@ module _ {N : Type 0} (w : N → ℕ) (extra : Kind → ℕ) (name : Name → N)
       let e = balanced-behind w extra name spares m k (0 + extra (kind_of item)) c s None (Exchanges.work_done item action b) t (kept-work_done w extra name spares m k item action b (omega arith)) is' in
       omega (arith, item-goes item s.body want action is)
 
-  balanced-settle_next : (c : Code) (s t : State N) (want : CellWant N) (at : ℕ) (action : CellAction N) (next : Next N) → next_of c s ≡ next
+  pub balanced-settle_next : (c : Code) (s t : State N) (want : CellWant N) (at : ℕ) (action : CellAction N) (next : Next N) → next_of c s ≡ next
       → wanted_next name c s.body next ≡ Some want → settle_next name c s at action next ≡ Some t → CopiesNext (Spares extra) c s.body next
       → Balanced w extra name (made w name s.body) (load_kept w extra s.body + load_coming w extra action + begun_next extra name c s.body action next) (load_going w extra name s.body want action + over_next extra c s.body action next) t.body
   balanced-settle_next c s t want at action (an_item item work) is wants' is' kinds =

@@ -7,3 +7,4 @@ pub mod renamed
 pub mod reached
 pub mod incoming
 pub mod instance
+pub mod counted

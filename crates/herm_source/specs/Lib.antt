@@ -9,6 +9,7 @@ pub mod Kept
 pub mod Forgetting
 pub mod Arriving
 pub mod Laws
+pub mod CountLaws
 pub mod Headline
 pub mod Sharing
 pub mod NeedsLaws

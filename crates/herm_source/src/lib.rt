@@ -3,6 +3,7 @@
 #![tactic(auto)]
 
 pub mod arrival;
+pub mod counts;
 pub mod examples;
 pub mod forgetting;
 pub mod ledger;
