@@ -16,3 +16,4 @@ pub mod NeedsLaws
 pub mod RunLaws
 pub mod Programs
 pub mod Examples
+pub mod CountExamples
