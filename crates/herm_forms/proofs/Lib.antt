@@ -10,6 +10,7 @@ pub mod KeptForms
 pub mod KeptNumbers
 pub mod PlainCopies
 pub mod CountedCalls
+pub mod placed
 pub mod TypedReading
 pub mod Dropped
 pub mod Arrived

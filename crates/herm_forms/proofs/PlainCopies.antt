@@ -20,7 +20,7 @@ use Rattle.herm_forms.specs.Evaluate.{Evaluated, gives, evaluate, atom_value}
 use Rattle.herm_forms.specs.Edges.{Code}
 use Rattle.herm_forms.specs.Acts.{inputs_of}
 use Rattle.herm_forms.proofs.forms.ReadTypes.{read-typed, is-table}
-use Rattle.herm_forms.proofs.known.KindsKept.{AllowsPlain, IfParts, GivesKinds, evaluate-from, atom-from}
+use Rattle.herm_forms.proofs.known.KindsKept.{AllowsPlain, IfParts, GivesKinds, evaluate-kinds_from, atom-kinds_from}
 use Rattle.herm_forms.proofs.known.KindsExchanged.{inputs-from}
 use Rattle.herm_forms.proofs.known.HeldKinds.{IfKinds}
 use Rattle.herm_forms.proofs.Copies.{CopiesKinds}
@@ -152,15 +152,15 @@ module _ {N : Type 0} (c : Code) (ps : Parts N) (typed : HaveTypes c.types c.var
       by (Some d) e = copyable-plain c.types partly t d copyable (read-typed N c.types c.variables i q t ps d typed at e)
 
   value-plain : (e : Expression) (t : ℕ) → IsTyped c.types c.variables e t → GivesKinds IsPlainKind (evaluate ps e)
-  value-plain e t h = evaluate-from IsPlainKind plain-allowed ps e (by e t h)
+  value-plain e t h = evaluate-kinds_from IsPlainKind plain-allowed ps e (by e t h)
     where
       by : (e : Expression) (t : ℕ) → IsTyped c.types c.variables e t → (p : Path) → e ≡ copy p → IfKinds IsPlainKind (read_at p ps)
       by (copy q) t h p is = let same : q ≡ p = cc is in subst (λ p. IfKinds IsPlainKind (read_at p ps)) same (read-plain q t h.0.0 h.1)
       by e t h p is = cc is
 
   atom-plain : (a : Atom) (t : ℕ) → IsTypedAtom c.types c.variables a t → GivesKinds IsPlainKind (atom_value ps a)
-  atom-plain (Atom.literal l) t h = atom-from IsPlainKind plain-allowed ps (Atom.literal l) (λ p is. cc is)
-  atom-plain (Atom.path q) t h = atom-from IsPlainKind plain-allowed ps (Atom.path q) (λ p is. let same : q ≡ p = cc is in subst (λ p. IfKinds IsPlainKind (read_at p ps)) same (read-plain q t h.0.0 h.1))
+  atom-plain (Atom.literal l) t h = atom-kinds_from IsPlainKind plain-allowed ps (Atom.literal l) (λ p is. cc is)
+  atom-plain (Atom.path q) t h = atom-kinds_from IsPlainKind plain-allowed ps (Atom.path q) (λ p is. let same : q ≡ p = cc is in subst (λ p. IfKinds IsPlainKind (read_at p ps)) same (read-plain q t h.0.0 h.1))
 
   given-of : (e : Evaluated) (v : Value) → GivesKinds IsPlainKind e → e ≡ gives v → HasKinds IsPlainKind v
   given-of e v h is = subst (GivesKinds IsPlainKind) is h

@@ -1,0 +1,2 @@
+-- That forms keep a property of cells with the types of their places.
+pub mod PlacedParts
