@@ -1,2 +1,3 @@
 -- That forms keep a property of cells with the types of their places.
 pub mod PlacedParts
+pub mod PlacedForms

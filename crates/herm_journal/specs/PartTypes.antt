@@ -2,7 +2,7 @@
 use Rattle.std.specs.Prelude.{ℕ, List, [], ◌∷◌, map, Bool, true, false, Option, Some, None, slice_get, ⊤}
 use Rattle.herm_model.specs.Lists.{list_of}
 use Rattle.herm_model.specs.Types.{TypeTable, Shape, boolean, integer, text, names, fields, cases, rows, polymorph, inport, outport, callmessage}
-use Rattle.herm_model.specs.Values.{Kind, a_boolean, an_integer, a_text, a_tag, a_scalar, a_record, a_variant, a_table, a_polymorph, a_callmessage, an_inport, an_outport, Cell, cell, Parts, no_parts, gap, part}
+use Rattle.herm_model.specs.Values.{Kind, a_scalar, a_record, a_variant, a_table, a_polymorph, a_callmessage, an_inport, an_outport, Cell, cell, Parts, no_parts, gap, part}
 
 -- the types of a cell's parts: one for each place, or one for all
 pub data PartTypes : Type 0 where
@@ -21,12 +21,12 @@ abbrev pub part_types_at : Option Shape → Kind → PartTypes
 part_types_at None k = each []
 part_types_at (Some s) k = part_types s k
 
--- whether values of a shape are cells of this kind
+-- whether values of a shape are cells of this kind, as far as their parts go
 abbrev pub is_kind_of : Shape → Kind → Bool
-is_kind_of boolean (a_scalar (a_boolean b)) = true
-is_kind_of integer (a_scalar (an_integer z)) = true
-is_kind_of text (a_scalar (a_text bytes)) = true
-is_kind_of (names count) (a_scalar (a_tag i)) = true
+is_kind_of boolean (a_scalar x) = true
+is_kind_of integer (a_scalar x) = true
+is_kind_of text (a_scalar x) = true
+is_kind_of (names count) (a_scalar x) = true
 is_kind_of (fields ts) a_record = true
 is_kind_of (cases ts) (a_variant c) = true
 is_kind_of (rows row key) a_table = true

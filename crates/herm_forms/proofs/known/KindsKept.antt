@@ -54,6 +54,10 @@ GivesKinds of = Gives (HasKinds of)
 abbrev pub BodyKinds : {N : Type 0} → (Kind → Type 0) → Body N → Type 0
 BodyKinds of b = HaveKinds of b.variables × LoopKinds of b.loops × AllKinds of b.work × ((call : ℕ) → of (a_callmessage b.number call))
 
+pub value-given : {N : Type 0} (Of : Value → Type 0) (o : Option (Cell N)) → ((d : Cell N) → o ≡ Some d → Of (forget d)) → Gives Of (value_there o)
+value-given Of None h = tt
+value-given Of (Some d) h = h d refl
+
 -- what expressions give
 module _ (Of : Value → Type 0) (scalars : (s : Scalar) → Of (Evaluate.scalar_value s)) where
   gives-cond : (b : Bool) (x y : Evaluated) → Gives Of x → Gives Of y → Gives Of (cond b x y)
@@ -128,10 +132,6 @@ module _ (Of : Value → Type 0) (scalars : (s : Scalar) → Of (Evaluate.scalar
   operated modulo s t = integers-given (by_divisor int_rem) s t (by-divisor int_rem)
   operated concatenated s t = texts-given (λ u v. within_length (u ++ v)) s t (λ u v. within-length (u ++ v))
 
-  value-given : {N : Type 0} (o : Option (Cell N)) → ((d : Cell N) → o ≡ Some d → Of (forget d)) → Gives Of (value_there o)
-  value-given None h = tt
-  value-given (Some d) h = h d refl
-
   rows-kinds : {N : Type 0} (o : Option (Cell N)) → Gives Of (rows_there o)
   rows-kinds None = tt
   rows-kinds (Some (cell n a_table ps)) = scalar-given _
@@ -140,7 +140,7 @@ module _ (Of : Value → Type 0) (scalars : (s : Scalar) → Of (Evaluate.scalar
   -- what an expression gives that copies only such cells
   pub evaluate-from : {N : Type 0} (ps : Parts N) (e : Expression) → ((p : Path) → e ≡ copy p → (d : Cell N) → read_at p ps ≡ Some d → Of (forget d)) → Gives Of (evaluate ps e)
   evaluate-from ps (literal l) h = scalar-given _
-  evaluate-from ps (copy p) h = value-given (read_at p ps) (h p refl)
+  evaluate-from ps (copy p) h = value-given Of (read_at p ps) (h p refl)
   evaluate-from ps (negated e) h = one-then _ (evaluate ps e) (λ s. integer-then _ s (λ z. within-bits (neg_ℤ z)))
   evaluate-from ps (inverted e) h = one-then _ (evaluate ps e) (λ s. boolean-then _ s (λ b. scalar-given (a_boolean (not b))))
   evaluate-from ps (operation o x y) h = two-then (operate o) (evaluate ps x) (evaluate ps y) (operated o)
@@ -150,7 +150,7 @@ module _ (Of : Value → Type 0) (scalars : (s : Scalar) → Of (Evaluate.scalar
 
   pub atom-from : {N : Type 0} (ps : Parts N) (a : Atom) → ((p : Path) → a ≡ path p → (d : Cell N) → read_at p ps ≡ Some d → Of (forget d)) → Gives Of (atom_value ps a)
   atom-from ps (Atom.literal l) h = scalar-given _
-  atom-from ps (path p) h = value-given (read_at p ps) (h p refl)
+  atom-from ps (path p) h = value-given Of (read_at p ps) (h p refl)
 
 -- of kinds
 module _ (of : Kind → Type 0) (allows : AllowsPlain of) where
