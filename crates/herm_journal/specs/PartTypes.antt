@@ -40,6 +40,13 @@ abbrev pub is_kind_at : Option Shape → Kind → Bool
 is_kind_at None k = false
 is_kind_at (Some s) k = is_kind_of s k
 
+-- neither an inport, an outport nor a callmessage
+abbrev pub has_no_number : Kind → Bool
+has_no_number (an_inport n) = false
+has_no_number (an_outport n) = false
+has_no_number (a_callmessage caller call) = false
+has_no_number k = true
+
 module _ (types : TypeTable) (P : ℕ → Kind → Type 0) where
   -- Each cell of a value has the property with the type of its place, and there are no cells at other places.
   abbrev mutual

@@ -8,3 +8,4 @@ pub mod reached
 pub mod incoming
 pub mod instance
 pub mod counted
+pub mod placed

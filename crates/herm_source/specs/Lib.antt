@@ -10,6 +10,7 @@ pub mod Forgetting
 pub mod Arriving
 pub mod Laws
 pub mod CountLaws
+pub mod PlaceLaws
 pub mod Headline
 pub mod Sharing
 pub mod NeedsLaws

@@ -9,4 +9,5 @@ pub mod forgetting;
 pub mod ledger;
 pub mod machine;
 pub mod needs;
+pub mod places;
 pub mod runs;

@@ -18,7 +18,7 @@ use Rattle.herm_model.specs.Tables.{has_key, key_of, place_of_key, without_part}
 use Rattle.herm_model.specs.Typed.{greatest_rows, greatest_polymorph}
 use Rattle.herm_model.proofs.Lists.{not_true}
 use Rattle.herm_model.proofs.Options.{none-not_some, some-injective}
-use Rattle.herm_journal.specs.PartTypes.{PartTypes, each, all_of, part_types_at, is_kind_at, IsPlaced, ArePlaced}
+use Rattle.herm_journal.specs.PartTypes.{PartTypes, each, all_of, part_types_at, is_kind_at, has_no_number, IsPlaced, ArePlaced}
 use Rattle.herm_forms.specs.Evaluate.{Evaluated, gives, raises, no_value, evaluate, key_values, scalar_value}
 use Rattle.herm_forms.specs.Bodies.{Name, Loop, Body, Result, goes, stays, stuck, if_there, let_go, let_go_parts, let_go_old, let_go_all, end_name, end_cell, cleared, drop_at, drop, taking, put, putting, putting_all, making, copying, copying_parts, counted_step}
 use Rattle.herm_forms.specs.Forms
@@ -28,17 +28,10 @@ use Rattle.herm_forms.specs.Acts.{key_at, new_value, act}
 use Rattle.herm_forms.proofs.known.KindsKept.{Gives, value-given, evaluate-from}
 use Rattle.herm_forms.proofs.placed.PlacedParts.{Agrees, WhereSet, part-placed, row-placed, cell-placed, read-placed, set-placed, clear-placed, change-placed, joined-placed, without-placed, gaps-placed, copy-placed, copy-placed_in, renamed-placed}
 
--- neither an inport, an outport nor a callmessage
-abbrev pub is_portless : Kind → Bool
-is_portless (an_inport n) = false
-is_portless (an_outport n) = false
-is_portless (a_callmessage caller call) = false
-is_portless k = true
-
 -- The property is had by cells without numbers of ports and processes at places of their types, and by an outport to where an
 -- inport with the property is.
 pub record AllowsLocal (types : TypeTable) (P : ℕ → Kind → Type 0) : Type 0 where
-  pub portless : (t : ℕ) (k : Kind) → IsTrue (is_kind_at (slice_get types t) k) → IsTrue (is_portless k) → P t k
+  pub portless : (t : ℕ) (k : Kind) → IsTrue (is_kind_at (slice_get types t) k) → IsTrue (has_no_number k) → P t k
   pub connects : (t port n : ℕ) → slice_get types t ≡ Some (outport port) → P port (an_inport n) → P t (an_outport n)
 
 module _ {N : Type 0} (name : Name → N) (c : Code) (P : ℕ → Kind → Type 0) (agrees : Agrees c.types P) (row : ℕ → Option ℕ) where
@@ -146,7 +139,7 @@ module _ {N : Type 0} (name : Name → N) (c : Code) (P : ℕ → Kind → Type 
     all-value next (raises x) b e on = e
     all-value next no_value b e on = tt
 
-    portless-at : (t : ℕ) (s : Shape) (k : Kind) → slice_get c.types t ≡ Some s → IsTrue (is_kind_at (Some s) k) → IsTrue (is_portless k) → P t k
+    portless-at : (t : ℕ) (s : Shape) (k : Kind) → slice_get c.types t ≡ Some s → IsTrue (is_kind_at (Some s) k) → IsTrue (has_no_number k) → P t k
     portless-at t s k shape is plain = allows.portless t k (subst (λ o. IsTrue (is_kind_at o k)) (sym shape) is) plain
 
     -- parts at places of a shape

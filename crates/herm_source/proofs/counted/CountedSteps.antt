@@ -51,7 +51,7 @@ use Rattle.herm_source.proofs.instance.SourceLaws.{local-code, answer-code, code
 abbrev pub AreTypedNodes : ℕ → Program → Code → Type 0
 AreTypedNodes exceptions program c = (n : Node) → IsIn n c.nodes → IsTypedForm c.types c.variables exceptions program.processes n.form
 
-node-there : (c : Code) (t : Target) (n : Node) → node_at c t ≡ Some n → IsIn n c.nodes
+pub node-there : (c : Code) (t : Target) (n : Node) → node_at c t ≡ Some n → IsIn n c.nodes
 node-there c (node i) n is = got-IsIn c.nodes i n is
 node-there c end n is = none-not_some is
 node-there c (end_by e) n is = none-not_some is
@@ -65,15 +65,15 @@ code-typed exceptions program (p ∷ ps) (d ∷ cs) zero c typed h e = subst (Ar
 code-typed exceptions program (p ∷ ps) (d ∷ cs) (suc i) c typed h e = code-typed exceptions program ps cs i c (λ q m. typed q (inr m)) h.1 e
 
 -- a statement is next where no call is open
-record Stands (c : Code) (s : State Name) (n : Node) : Type 0 where
-  closed : s.body.call ≡ None
-  at : node_at c s.point ≡ Some n
+pub record Stands (c : Code) (s : State Name) (n : Node) : Type 0 where
+  pub closed : s.body.call ≡ None
+  pub at : node_at c s.point ≡ Some n
 
 abbrev node_of : Next Name → Option Node
 node_of (a_statement n) = Some n
 node_of next = None
 
-stands : (c : Code) (s : State Name) (n : Node) → next_of c s ≡ a_statement n → Stands c s n
+pub stands : (c : Code) (s : State Name) (n : Node) → next_of c s ≡ a_statement n → Stands c s n
 stands c s n is = by s.body.work s.body.call (node_at c s.point) refl refl (ap node_of is)
   where
     by : (work : List (Cell Name)) (call : Option ℕ) (o : Option Node) → s.body.call ≡ call → node_at c s.point ≡ o → node_of (item_or work (call_or_statement call o)) ≡ Some n → Stands c s n
@@ -261,7 +261,7 @@ module _ (test : Kind → Bool) (of : IsOfWaiting test) (modules : Modules) (c :
 
 -- So the source machine keeps counts.
 module _ (exceptions : ℕ) (program : Program) (modules : Modules) (accepted : AreAccepted program modules) (typed : IsTypedProgram exceptions program.types program.processes program.main) where
-  typed-at : (x : State Name) (c : Code) → code_at modules x ≡ Some c → AreTypedNodes exceptions program c
+  pub typed-at : (x : State Name) (c : Code) → code_at modules x ≡ Some c → AreTypedNodes exceptions program c
   typed-at x c is = code-typed exceptions program program.processes modules.codes x.code c (λ p m. (typed.modules p m).typed) accepted.codes is
 
   module _ (test : Kind → Bool) (of : IsOfWaiting test) where
