@@ -1,5 +1,5 @@
 -- What one process keeps of inports and callmessages that are not finalised.
-use Rattle.std.specs.Prelude.{ℕ, ◌+◌, List, [], ◌∷◌, flat_map, Bool, Option, Some, None, ◌≡◌, IsTrue}
+use Rattle.std.specs.Prelude.{ℕ, ◌+◌, List, [], ◌∷◌, flat_map, Bool, Some, None, ◌≡◌, IsTrue}
 use Rattle.herm_model.specs.Lists.{list_of}
 use Rattle.herm_model.specs.Values.{Name, Kind, a_callmessage, an_inport, Cell}
 use Rattle.herm_model.specs.Finalising.{waits}

@@ -1,8 +1,8 @@
 -- The cells of a system by their kinds: those that are not finalised, and those that stand at places with types.
-use Rattle.std.specs.Prelude.{ℕ, List, [], ◌∷◌, ◌++◌, map, flat_map, Bool, false, ◌&&◌, nat_eq, Option, Some, None, slice_get, option_map}
+use Rattle.std.specs.Prelude.{ℕ, List, [], ◌∷◌, ◌++◌, flat_map, Bool, false, ◌&&◌, nat_eq, Option, slice_get, option_map}
 use Rattle.herm_model.specs.Lists.{list_of, numbered, some_of}
-use Rattle.herm_model.specs.Types.{TypeTable, Shape, fields, cases, rows, polymorph, callmessage}
-use Rattle.herm_model.specs.Values.{Name, Kind, a_variant, a_polymorph, a_callmessage, an_inport, Cell, cell, Parts, no_parts, gap, part}
+use Rattle.herm_model.specs.Types.{TypeTable}
+use Rattle.herm_model.specs.Values.{Name, Kind, a_callmessage, an_inport, Cell, cell, Parts, no_parts, gap, part}
 pub use Rattle.herm_journal.specs.PartTypes.{PartTypes, each, all_of, part_types, part_types_at}
 use Rattle.herm_journal.specs.Places.{Port, left_in, Replies}
 use Rattle.herm_journal.specs.Messages.{CellReply, cells_in, message_of_port, types_of_reply}

@@ -85,7 +85,7 @@ module _ {N : Type 0} (name : Name → N) (c : Code) (P : ℕ → Kind → Type 
   drop-is [] b e = e
   drop-is (p ∷ paths) b e = drop-is paths (drop_at p b) (old-is (cell_at p b.variables) (cleared p b) (cleared-is p b e))
 
-  put-is : (p : Path) (t : ℕ) (d : Cell N) (b : Body N) → Typed p t → Is t d → BodyIs b → BodyIs (put p d b)
+  pub put-is : (p : Path) (t : ℕ) (d : Cell N) (b : Body N) → Typed p t → Is t d → BodyIs b → BodyIs (put p d b)
   put-is [] t d b type h e = none-not_some type
   put-is (i ∷ q) t d b type h e =
       old-is (cell_at (i ∷ q) b.variables) (record b { variables = put_at (i ∷ q) d b.variables })
