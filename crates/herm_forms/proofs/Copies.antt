@@ -1,7 +1,7 @@
 -- What a form copies: of what kinds its cells are.
 use Rattle.std.proofs.Common.{◌≡◌, Some}
 use Rattle.std.specs.Prelude.{⊤}
-use Rattle.herm_model.specs.Statements.{Form, Assign, Get, For, Call, Move, New, Discard, Unite, Dissolve, Reveal, Case, Wrap, Unwrap, Insert, Remove, Connect, Send, Receive, Select, Return, ReturnBy, Create, If, While, Raise, Leave}
+use Rattle.herm_model.specs.Statements.{Form, Assign, Get, For, Call}
 use Rattle.herm_model.specs.Calls.{call_parameters}
 use Rattle.herm_model.specs.Values.{Kind, Cell, cell, Parts, no_parts, gap, part, parts_of, read_at, Value}
 use Rattle.herm_journal.specs.Kinds.{HasKinds, HaveKinds}

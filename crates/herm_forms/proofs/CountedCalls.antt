@@ -19,7 +19,7 @@ use Rattle.herm_journal.specs.Actions.{to_answer}
 use Rattle.herm_journal.specs.Messages.{CellReply, CellWant}
 use Rattle.herm_forms.specs.Bodies.{Name, Loop, Body, let_go_parts, let_go_old, cleared, drop_at, drop, Taken, take_all}
 use Rattle.herm_forms.specs.Exchanges.{Composed, compose, assemble, with_message, caller_of, return_wants}
-use Rattle.herm_forms.specs.Edges.{Code, arrive, keeps, keeps_loop, let_go_loops, leave_loops, beyond_full}
+use Rattle.herm_forms.specs.Edges.{Code, arrive, keeps, keeps_loop, let_go_loops, beyond_full}
 use Rattle.herm_forms.specs.Acts.{arguments_at, is_inout, inputs_of, composed, given_back}
 use Rattle.herm_forms.proofs.Arrived.{drop-variables}
 use Rattle.herm_forms.proofs.KeptNumbers.{is-composed}

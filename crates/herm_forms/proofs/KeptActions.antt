@@ -13,7 +13,7 @@ use Rattle.herm_forms.specs.Bodies.{Name, Body, goes, stuck, let_go_all, end_cel
 use Rattle.herm_forms.specs.Exchanges
 use Rattle.herm_journal.specs.Messages.{CellReply, CellAction}
 use Rattle.herm_forms.specs.Exchanges.{born, place_of_port, ports_at, receive_at, assemble, Composed, with_message, compose, hear_reply, hear_call, give_back, outport_at, caller_of}
-use Rattle.herm_journal.specs.Kinds.{HasKinds, HaveKinds}
+use Rattle.herm_journal.specs.Kinds.{HaveKinds}
 use Rattle.herm_forms.proofs.Loads.{load, load_in, load_all, load_reply, load_coming, load_going}
 use Rattle.herm_forms.proofs.Begun.{port_load, kind_load, back_load}
 use Rattle.herm_forms.proofs.Weights.{SparesPlain, Spares}

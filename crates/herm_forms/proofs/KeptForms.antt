@@ -21,7 +21,7 @@ use Rattle.herm_forms.specs.Exchanges.{Composed, compose}
 use Rattle.herm_forms.specs.Edges.{Code, arrive, keeps, keeps_loop, let_go_loops, leave_loops, beyond_full, beyond_declared}
 use Rattle.herm_forms.specs.Acts.{key_at, act, arguments_at, is_inout, is_out, inputs_of, composed, kept_at, left_at, given_back, given_at, given_by, wants, settle, settle_reply}
 use Rattle.herm_forms.specs.Weights.{kept, made}
-use Rattle.herm_forms.proofs.Loads.{load, load_in, load_all, load_reply, load_loops, load_kept, load_coming, load_going, none, names-kept}
+use Rattle.herm_forms.proofs.Loads.{load, load_in, load_all, load_reply, load_loops, load_coming, load_going, none, names-kept}
 use Rattle.herm_forms.proofs.Begun.{call_load, back_load, source_load, begun, over}
 use Rattle.herm_forms.proofs.Copies.{CopiesKinds}
 use Rattle.herm_forms.proofs.Weights.{SparesPlain, Spares}

@@ -1,6 +1,6 @@
 -- The weight of cells by a weight for every name and one for every kind; with one of them 0 it is the weight of the ledger, or
 -- counts the cells of certain kinds.
-use Rattle.std.proofs.Common.{◌≡◌, ℕ, ◌+◌, List, [], ◌∷◌, ◌++◌, Option, Some, None, refl, arith}
+use Rattle.std.proofs.Common.{◌≡◌, ℕ, ◌+◌, List, [], ◌∷◌, Option, Some, None, refl, arith}
 use Rattle.herm_model.specs.Lists.{total}
 use Rattle.herm_model.specs.Values.{Name, Kind, Cell, cell, Parts, no_parts, gap, part}
 use Rattle.herm_journal.specs.Actions.{values, raised, gone, new_port, new_process, to_put, to_take, to_close, to_answer, to_hear, make_port, make_process, put, take, close, answer, hear}
@@ -8,7 +8,7 @@ use Rattle.herm_journal.specs.Messages.{CellReply, CellWant, CellAction}
 use Rattle.herm_journal.specs.Weights.{weigh, weigh_in, weigh_all, weigh_reply, come_in}
 use Rattle.herm_forms.specs.Bodies.{Loop, Body}
 use Rattle.herm_forms.specs.Exchanges.{born}
-use Rattle.herm_forms.specs.Weights.{weigh_loops, held, kept, gone_out}
+use Rattle.herm_forms.specs.Weights.{weigh_loops, kept, gone_out}
 
 module _ {N : Type 0} (w : N → ℕ) (x : Kind → ℕ) where
   abbrev mutual

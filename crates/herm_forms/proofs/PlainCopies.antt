@@ -1,13 +1,13 @@
 -- What typed forms copy are values of copyable types, of which no cell waits to be finalised.
-use Rattle.std.proofs.Common.{◌≡◌, ◌⊎◌, inl, inr, ℕ, List, [], ◌∷◌, map, Bool, true, false, Option, Some, None, refl, sym, ap, subst, ◌∙◌}
-use Rattle.std.specs.Prelude.{slice_get, option_map, IsTrue, IsFalse, ⊤}
+use Rattle.std.proofs.Common.{◌≡◌, ◌⊎◌, inl, inr, ℕ, List, [], ◌∷◌, map, Bool, true, false, Option, Some, None, refl, sym, subst, ◌∙◌}
+use Rattle.std.specs.Prelude.{slice_get, IsTrue, IsFalse, ⊤}
 use Rattle.herm_model.specs.Lists.{IsIn, with_some}
 use Rattle.herm_model.specs.Paths.{Path}
-use Rattle.herm_model.specs.Types.{TypeTable, Shape, boolean, integer, text, polymorph, names, fields, cases, rows, inport, outport, callmessage, Mode, by_in, by_inout, by_out, Parameter, named_types, is_plain, is_composed, IsCopyable, plain, composed, type_at}
-use Rattle.herm_model.specs.Expressions.{Expression, copy, literal, negated, inverted, operation, size_of, decimal, length_of, Atom}
-use Rattle.herm_model.specs.Statements.{Form, Process, Assign, Get, For, Call, Move, New, Discard, Unite, Dissolve, Reveal, Case, Wrap, Unwrap, Insert, Remove, Connect, Send, Receive, Select, Return, ReturnBy, Create, If, While, Raise, Leave}
-use Rattle.herm_model.specs.Values.{Kind, a_boolean, an_integer, a_text, a_tag, a_scalar, a_record, a_variant, a_table, a_polymorph, a_callmessage, an_inport, an_outport, Cell, cell, Parts, no_parts, gap, part, parts_of, read_at, Value}
-use Rattle.herm_model.specs.Typed.{Degree, whole, partly, Content, a_value, nothing, Layout, exactly, many, unfit, leaf_if, one_whole, layout, layout_at, IsOf, Fits, HasType, HaveTypes}
+use Rattle.herm_model.specs.Types.{TypeTable, Shape, boolean, integer, text, polymorph, names, fields, cases, rows, inport, outport, callmessage, Parameter, named_types, is_plain, is_composed, IsCopyable, plain, composed, type_at}
+use Rattle.herm_model.specs.Expressions.{Expression, copy, Atom}
+use Rattle.herm_model.specs.Statements.{Form, Process, Assign, Get, For, Call}
+use Rattle.herm_model.specs.Values.{Kind, a_boolean, an_integer, a_text, a_tag, a_scalar, a_record, a_variant, a_table, a_callmessage, an_inport, an_outport, Cell, cell, Parts, no_parts, gap, part, parts_of, read_at, Value}
+use Rattle.herm_model.specs.Typed.{Degree, whole, partly, Content, a_value, nothing, Layout, exactly, many, unfit, leaf_if, one_whole, layout, layout_at, IsOf, Fits, HaveTypes}
 use Rattle.herm_model.specs.Finalising.{waits}
 use Rattle.herm_model.specs.TypedExpressions.{IsTyped}
 use Rattle.herm_model.specs.TypedStatements.{IsTypedAtom, IsArgument, AreArguments, IsTypedForm}

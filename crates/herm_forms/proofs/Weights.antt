@@ -1,7 +1,7 @@
 -- What each operation on cells does to their weight, by names and kinds.
-use Rattle.std.proofs.Common.{◌≡◌, ◌<◌, ℕ, zero, suc, ◌+◌, List, [], ◌∷◌, ◌++◌, map, Bool, true, false, cond, Option, Some, None, option_map, refl, ap, sym, subst, ◌∙◌, arith}
+use Rattle.std.proofs.Common.{◌≡◌, ◌<◌, ℕ, zero, suc, ◌+◌, List, [], ◌∷◌, ◌++◌, Bool, true, false, cond, Option, Some, None, option_map, refl, ap, sym, subst, ◌∙◌, arith}
 use Rattle.std.proofs.lemmas.Bool.{ltb-true}
-use Rattle.std.specs.Prelude.{nat_eq, IsTrue, IsFalse}
+use Rattle.std.specs.Prelude.{nat_eq, IsFalse}
 use Rattle.herm_model.specs.Lists.{total, range}
 use Rattle.herm_model.specs.Paths.{Path}
 use Rattle.herm_model.specs.Values.{Kind, a_variant, a_record, a_callmessage, has_place, Cell, cell, Parts, no_parts, gap, gaps, part, part_at, place, set_part, size, opens, inside, change_inside, change_part, cell_at, set_at, joined, behind_gaps, readable_of, read_at, change_readable, change_behind, change_from, change_at, count, count_in, copy_from, copy_in}

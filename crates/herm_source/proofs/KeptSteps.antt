@@ -12,8 +12,7 @@ use Rattle.herm_forms.specs.Exchanges.{Composed, compose}
 use Rattle.herm_forms.specs.Edges.{Code, arrive}
 use Rattle.herm_source.specs.States.{State, begin, Next, an_item, a_reply, a_statement, nothing, node_at, call_or_statement, item_or, next_of, behind, wanted_next, step_next, settle_next}
 use Rattle.herm_forms.specs.Acts.{is_action, act, wants, settle, settle_reply, leads_to}
-use Rattle.herm_journal.specs.Weights.{weigh, come_in}
-use Rattle.herm_forms.specs.Weights.{kept, made, gone_out}
+use Rattle.herm_forms.specs.Weights.{made}
 use Rattle.herm_forms.proofs.Loads.{load, load_all, load_coming, load_going, load_kept, none, names-weigh, names-kept, names-coming, names-going}
 use Rattle.herm_forms.proofs.Copies.{CopiesKinds, all-copies}
 use Rattle.herm_forms.proofs.Weights.{SparesPlain, Spares}

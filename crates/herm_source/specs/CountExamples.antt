@@ -1,11 +1,10 @@
 -- Runs of small programs in the middle: which inports and callmessages are not finalised.
 use Rattle.std.specs.Prelude.{ℕ, zero, suc, List, [], map, Bool, true, false, nat_eq, Option, Some, None, option_map, length}
-use Rattle.herm_model.specs.Lists.{range, list_of}
-use Rattle.herm_model.specs.Values.{Name, Cell}
-use Rattle.herm_journal.specs.Places.{Port}
+use Rattle.herm_model.specs.Lists.{range}
+use Rattle.herm_model.specs.Values.{Name}
 use Rattle.herm_system.specs.Machines.{Machine}
 use Rattle.herm_system.specs.Systems.{System, Run, start}
-use Rattle.herm_system.specs.Rounds.{Round, one_round}
+use Rattle.herm_system.specs.Rounds.{one_round}
 use Rattle.herm_system.specs.Statuses.{how_many}
 use Rattle.herm_system.specs.Kinds.{unfinalised, is_inport_of, is_callmessage_of, is_open_port, has_open, replies_of}
 use Rattle.herm_source.specs.Modules.{Program}

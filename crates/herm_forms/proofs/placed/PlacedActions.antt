@@ -1,11 +1,11 @@
 -- What answers leave keeps a property of cells with the types of their places.
-use Rattle.std.proofs.Common.{◌≡◌, ℕ, suc, List, [], ◌∷◌, Bool, true, false, cond, nat_eq, Option, Some, None, refl, sym, ap, ◌∙◌, subst}
+use Rattle.std.proofs.Common.{◌≡◌, ℕ, suc, List, [], ◌∷◌, Option, Some, None, refl, sym, subst}
 use Rattle.std.specs.Prelude.{slice_get, ⊤}
 use Rattle.herm_model.specs.Paths.{Path}
-use Rattle.herm_model.specs.Types.{inport, outport, type_at}
-use Rattle.herm_model.specs.Outcomes.{Outcome, ok, raised, disconnected, depletion}
-use Rattle.herm_model.specs.Values.{Kind, an_inport, an_outport, Cell, cell, no_parts}
-use Rattle.herm_journal.specs.Actions.{make_port, make_process, put, take, close, answer}
+use Rattle.herm_model.specs.Types.{inport, type_at}
+use Rattle.herm_model.specs.Outcomes.{Outcome, ok, raised, disconnected}
+use Rattle.herm_model.specs.Values.{Kind, an_inport, Cell, cell, no_parts}
+use Rattle.herm_journal.specs.Actions.{make_port, put, take, close, answer}
 use Rattle.herm_journal.specs.Messages.{CellAction}
 use Rattle.herm_journal.specs.PartTypes.{part_types_at, IsPlaced, ArePlaced}
 use Rattle.herm_forms.specs.Bodies
@@ -14,7 +14,7 @@ use Rattle.herm_forms.specs.Exchanges
 use Rattle.herm_forms.specs.Exchanges.{receive_at, work_done}
 use Rattle.herm_forms.specs.Edges.{Code}
 use Rattle.herm_forms.proofs.placed.PlacedParts.{Agrees}
-use Rattle.herm_forms.proofs.placed.PlacedForms.{BodyIs, AllAre, put-is, all-cond, all-putting, all-moving, all-is, end-is, drop-is}
+use Rattle.herm_forms.proofs.placed.PlacedForms.{BodyIs, AllAre, put-is, all-cond, all-putting, all-moving, all-is, end-is}
 
 module _ {N : Type 0} (name : Name → N) (c : Code) (P : ℕ → Kind → Type 0) (agrees : Agrees c.types P) (row : ℕ → Option ℕ) where
   abbrev Typed : Path → ℕ → Type 0

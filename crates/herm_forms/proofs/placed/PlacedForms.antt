@@ -1,29 +1,29 @@
 -- Local steps of typed forms keep a property of cells with the types of their places.
-use Rattle.std.proofs.Common.{◌≡◌, ℕ, suc, ◌+◌, List, [], ◌∷◌, ◌++◌, Bool, true, false, cond, Option, Some, None, refl, sym, ap, subst, ◌∙◌, nat_eq}
+use Rattle.std.proofs.Common.{◌≡◌, ℕ, suc, ◌+◌, List, [], ◌∷◌, Bool, true, false, cond, Option, Some, None, refl, sym, ap, subst, ◌∙◌, nat_eq}
 use Rattle.std.proofs.lemmas.Bool.{eqb-true}
-use Rattle.std.specs.Prelude.{slice_get, length, nat_lt, filter, option_and_then, IsTrue, IsFalse, ⊤}
+use Rattle.std.specs.Prelude.{slice_get, length, nat_lt, filter, option_and_then, IsTrue, ⊤}
 use Rattle.herm_model.specs.Lists.{list_of}
 use Rattle.herm_model.specs.Paths.{Path}
-use Rattle.herm_model.specs.Types.{TypeTable, Shape, boolean, integer, text, names, fields, cases, rows, polymorph, inport, outport, callmessage, type_at}
+use Rattle.herm_model.specs.Types.{TypeTable, Shape, boolean, integer, text, names, fields, cases, rows, polymorph, outport, type_at}
 use Rattle.herm_model.specs.Outcomes.{Outcome, ok, turn, raised, depletion, duplicate_key, polymorph_mismatch, not_found}
 use Rattle.herm_model.specs.Expressions.{Literal, Operator, either, both, equal, unequal, less, at_most, greater, at_least, plus, minus, times, divided, modulo, concatenated, Expression, literal, copy, negated, inverted, operation, decimal, length_of}
 use Rattle.herm_model.specs.Calls.{shape_at}
-use Rattle.herm_model.specs.Statements.{Process, Form, Assign, Move, New, Discard, Unite, Dissolve, Reveal, Case, Wrap, Unwrap, Insert, Remove, Get, For, Connect, If, While, Raise, Leave, Send, Receive, Select, Call, Return, ReturnBy, Create}
+use Rattle.herm_model.specs.Statements.{Process, Form, Assign, Move, New, Discard, Unite, Dissolve, Reveal, Case, Wrap, Unwrap, Insert, Remove, Get, For, Connect, If, While, Raise, Leave}
 use Rattle.herm_model.specs.TypedExpressions.{IsLiteralOf, IsTyped, is_scalar_shape, shape_given}
 use Rattle.herm_model.specs.TypedStatements.{IsTypedForm}
 use Rattle.herm_model.specs.Nodes.{Target}
 use Rattle.herm_model.specs.Finalising.{excess}
-use Rattle.herm_model.specs.Values.{has_place, Scalar, a_boolean, an_integer, a_text, a_tag, Kind, a_scalar, a_record, a_variant, a_table, a_polymorph, a_callmessage, an_outport, an_inport, Cell, cell, Parts, no_parts, gap, gaps, part, part_at, parts_of, size, has_value, cell_at, read_at, put_at, copy_from, copy_in, count, count_in, polymorph_depth, Value, forget}
+use Rattle.herm_model.specs.Values.{has_place, Scalar, a_boolean, Kind, a_scalar, a_record, a_variant, a_table, a_polymorph, an_outport, an_inport, Cell, cell, Parts, no_parts, gap, gaps, part, part_at, parts_of, size, has_value, cell_at, read_at, put_at, copy_from, copy_in, count, count_in, polymorph_depth, Value, forget}
 use Rattle.herm_model.specs.Tables.{has_key, key_of, place_of_key, without_part}
 use Rattle.herm_model.specs.Typed.{greatest_rows, greatest_polymorph}
 use Rattle.herm_model.proofs.Lists.{not_true}
 use Rattle.herm_model.proofs.Options.{none-not_some, some-injective}
-use Rattle.herm_journal.specs.PartTypes.{PartTypes, each, all_of, part_types_at, is_kind_at, has_no_number, IsPlaced, ArePlaced}
+use Rattle.herm_journal.specs.PartTypes.{each, all_of, part_types_at, is_kind_at, has_no_number, IsPlaced, ArePlaced}
 use Rattle.herm_forms.specs.Evaluate.{Evaluated, gives, raises, no_value, evaluate, key_values, scalar_value}
-use Rattle.herm_forms.specs.Bodies.{Name, Loop, Body, Result, goes, stays, stuck, if_there, let_go, let_go_parts, let_go_old, let_go_all, end_name, end_cell, cleared, drop_at, drop, taking, put, putting, putting_all, making, copying, copying_parts, counted_step}
+use Rattle.herm_forms.specs.Bodies.{Name, Loop, Body, Result, goes, stays, stuck, if_there, let_go, let_go_parts, let_go_old, let_go_all, end_name, end_cell, cleared, drop_at, drop, taking, put, putting, making, copying, copying_parts}
 use Rattle.herm_forms.specs.Forms
 use Rattle.herm_forms.specs.Forms.{with_value, moving, moving_content, Opened, component_in, content_of, component_of, change_rows, with_parts, add_row, finding, rows_for, set_rows, next_row, inport_number, tested}
-use Rattle.herm_forms.specs.Edges.{Code, arrive, keeps, keeps_loop, let_go_loops, leave_loops, beyond_full}
+use Rattle.herm_forms.specs.Edges.{Code, arrive, keeps, keeps_loop, let_go_loops, beyond_full}
 use Rattle.herm_forms.specs.Acts.{key_at, new_value, act}
 use Rattle.herm_forms.proofs.known.KindsKept.{Gives, value-given, evaluate-from}
 use Rattle.herm_forms.proofs.placed.PlacedParts.{Agrees, WhereSet, part-placed, row-placed, cell-placed, read-placed, set-placed, clear-placed, change-placed, joined-placed, without-placed, gaps-placed, copy-placed, copy-placed_in, renamed-placed}

@@ -1,10 +1,10 @@
 -- Parts whose cells have a property with the types of their places, and that the primitives on parts keep this.
-use Rattle.std.proofs.Common.{◌≡◌, ℕ, zero, suc, ◌+◌, List, [], ◌∷◌, ◌++◌, map, Bool, true, false, cond, Option, Some, None, option_map, refl, sym, ap, subst, ◌∙◌, true≢false}
+use Rattle.std.proofs.Common.{◌≡◌, ℕ, zero, suc, ◌+◌, List, [], ◌∷◌, map, Bool, true, false, cond, Option, Some, None, refl, sym, ap, subst, ◌∙◌, true≢false}
 use Rattle.std.specs.Prelude.{slice_get, IsTrue, ⊤}
 use Rattle.herm_model.specs.Lists.{list_of}
 use Rattle.herm_model.specs.Paths.{Path}
-use Rattle.herm_model.specs.Types.{TypeTable, Shape, boolean, integer, text, names, fields, cases, rows, polymorph, inport, outport, callmessage, Parameter, part_type, part_of, type_below, type_at}
-use Rattle.herm_model.specs.Values.{Kind, a_scalar, a_record, a_variant, a_table, a_polymorph, a_callmessage, an_inport, an_outport, Cell, cell, Parts, no_parts, gap, part, part_at, place, set_part, opens, inside, cell_at, change_inside, change_part, set_at, gaps, joined, behind_gaps, readable_of, read_at, change_readable, change_behind, change_from, change_at, count, copy_from, copy_in, rename, rename_in}
+use Rattle.herm_model.specs.Types.{TypeTable, Shape, fields, cases, callmessage, Parameter, part_type, part_of, type_below}
+use Rattle.herm_model.specs.Values.{Kind, a_record, a_variant, a_callmessage, Cell, cell, Parts, no_parts, gap, part, part_at, set_part, opens, inside, cell_at, change_inside, change_part, set_at, gaps, joined, behind_gaps, readable_of, read_at, change_behind, change_at, count, copy_from, copy_in, rename, rename_in}
 use Rattle.herm_model.specs.Tables.{without_part}
 use Rattle.herm_model.proofs.Lists.{not_true, slice_get-map}
 use Rattle.herm_model.proofs.Options.{none-not_some, some-injective}
@@ -12,7 +12,7 @@ use Rattle.herm_model.proofs.NothingThere.{none-there}
 use Rattle.herm_model.proofs.Places.{read_below, read-below}
 use Rattle.herm_forms.proofs.forms.ChangedTables.{changed, from-changed}
 use Rattle.herm_forms.proofs.forms.ReadTypes.{read-nothing}
-use Rattle.herm_journal.specs.PartTypes.{PartTypes, each, all_of, part_types, part_types_at, is_kind_of, is_kind_at, IsPlaced, ArePlaced}
+use Rattle.herm_journal.specs.PartTypes.{PartTypes, each, all_of, part_types_at, is_kind_at, IsPlaced, ArePlaced}
 use Rattle.herm_forms.proofs.evaluated.CopiedValues.{nothing-below}
 
 -- the property says that the kind is one of the type

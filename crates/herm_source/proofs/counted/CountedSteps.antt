@@ -1,21 +1,21 @@
 -- The source machine keeps counts of inports and callmessages.
-use Rattle.std.proofs.Common.{◌≡◌, ℕ, zero, suc, ◌+◌, List, [], ◌∷◌, Bool, true, false, cond, Option, Some, None, option_map, slice_get, refl, sym, ap, subst, ◌∙◌, arith, inl, inr, length}
-use Rattle.std.specs.Prelude.{option_and_then, map, ⊤}
-use Rattle.herm_model.specs.Lists.{IsIn, total, list_of}
+use Rattle.std.proofs.Common.{◌≡◌, ℕ, zero, suc, ◌+◌, List, [], ◌∷◌, Bool, true, false, cond, Option, Some, None, option_map, slice_get, refl, sym, ap, subst, ◌∙◌, arith, inl, inr}
+use Rattle.std.specs.Prelude.{option_and_then, map}
+use Rattle.herm_model.specs.Lists.{IsIn, list_of}
 use Rattle.herm_model.specs.Paths.{Path}
-use Rattle.herm_model.specs.Outcomes.{Outcome, ok}
+use Rattle.herm_model.specs.Outcomes.{ok}
 use Rattle.herm_model.specs.Expressions.{Atom}
 use Rattle.herm_model.specs.Calls.{parameters_of, raises_of, shape_at, returned_places, kept_for}
-use Rattle.herm_model.specs.Statements.{Process, Arm, Form, New, Send, Receive, Select, Call, Return, ReturnBy, Create, Assign, Move, Discard, Unite, Dissolve, Reveal, Case, Wrap, Unwrap, Insert, Remove, Get, For, Connect, If, While, Raise, Leave}
+use Rattle.herm_model.specs.Statements.{Process, Arm, Form, New, Send, Receive, Select, Call, Return, ReturnBy, Create}
 use Rattle.herm_model.specs.Nodes.{Target, node, end, end_by, Node, process_nodes}
-use Rattle.herm_model.specs.Values.{Name, Kind, kind_of, a_callmessage, an_inport, Cell, cell, Parts, cell_at}
+use Rattle.herm_model.specs.Values.{Name, Kind, kind_of, a_callmessage, an_inport, Cell, cell, cell_at}
 use Rattle.herm_model.specs.TypedStatements.{IsTypedForm}
 use Rattle.herm_model.specs.TypedPrograms.{IsTypedProgram}
 use Rattle.herm_model.proofs.FactTests.{got-IsIn}
 use Rattle.herm_model.proofs.Options.{some-injective, none-not_some, chain-some, map-some}
 use Rattle.herm_journal.specs.Actions.{values, raised, gone, new_port, new_process, to_put, to_take, to_close, to_answer, to_hear, make_port, make_process, put, take, close, answer, hear}
 use Rattle.herm_journal.specs.Messages.{CellReply, CellWant, CellAction}
-use Rattle.herm_forms.specs.Bodies.{counted_step, counted_action, Body, Result, goes, stays, stuck, cleared, drop, taking, if_there}
+use Rattle.herm_forms.specs.Bodies.{counted_step, counted_action, Body, goes, stays, cleared, drop, if_there}
 use Rattle.herm_forms.specs.Exchanges
 use Rattle.herm_forms.specs.Exchanges.{Composed, work_wants}
 use Rattle.herm_forms.specs.Edges.{Code, arrive, beyond_declared}
@@ -23,20 +23,20 @@ use Rattle.herm_forms.specs.Callings.{Calling, calling_form, call_type}
 use Rattle.herm_forms.specs.Acts.{is_action, wants, settle, composed, arguments_at, is_out, leads_to}
 use Rattle.herm_forms.specs.Weights.{made}
 use Rattle.herm_forms.proofs.Copies.{CopiesKinds, more-copies}
-use Rattle.herm_forms.proofs.Loads.{load, load_kept, load_coming, load_going}
+use Rattle.herm_forms.proofs.Loads.{load, load_kept}
 use Rattle.herm_forms.proofs.Weights.{Spares}
 use Rattle.herm_forms.proofs.Begun.{begun, over, port_load, call_load, back_load}
 use Rattle.herm_forms.proofs.KeptForms.{recount-composed}
 use Rattle.herm_forms.proofs.Counting.{recount_composed}
 use Rattle.herm_forms.proofs.PlainCopies.{IsPlainKind, typed-copies}
-use Rattle.herm_forms.proofs.CountedCalls.{call-kind, return-ends, Answered, drop-call, arrive-call}
+use Rattle.herm_forms.proofs.CountedCalls.{call-kind, return-ends, drop-call, arrive-call}
 use Rattle.herm_system.specs.Machines.{OpenCall}
 use Rattle.herm_system.specs.Statuses.{how_many}
 use Rattle.herm_system.specs.Kinds.{kinds_by, kinds_of}
 use Rattle.herm_system.specs.Along.{Answers}
-use Rattle.herm_runs.specs.Counting.{KeepsCounts, IsOfWaiting, kinds_coming, kinds_going, kinds_made, kinds_ended}
+use Rattle.herm_runs.specs.Counting.{IsOfWaiting, kinds_coming, kinds_going, kinds_made, kinds_ended}
 use Rattle.herm_source.specs.Modules.{Program, Modules}
-use Rattle.herm_source.specs.States.{State, own_name, begin, Next, an_item, a_reply, a_statement, nothing, node_at, item_or, call_or_statement, next_of, wanted_next, wanted, local_step, answered, settle_next, behind}
+use Rattle.herm_source.specs.States.{State, own_name, begin, Next, an_item, a_reply, a_statement, nothing, node_at, item_or, call_or_statement, next_of, wanted_next, wanted, settle_next, behind}
 use Rattle.herm_source.specs.Headline.{AreAccepted, AreCodesOf}
 use Rattle.herm_source.specs.Looking.{open_call}
 use Rattle.herm_source.specs.Local.{calling}

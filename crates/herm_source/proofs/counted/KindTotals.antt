@@ -1,13 +1,13 @@
 -- How many cells of certain kinds there are is what they weigh by their kinds.
-use Rattle.std.proofs.Common.{◌≡◌, ℕ, zero, suc, ◌+◌, List, [], ◌∷◌, ◌++◌, flat_map, Bool, true, false, cond, Option, Some, None, refl, sym, ap, ◌∙◌, arith, length, true≢false}
+use Rattle.std.proofs.Common.{◌≡◌, ℕ, zero, suc, ◌+◌, List, [], ◌∷◌, ◌++◌, flat_map, Bool, true, false, cond, Some, None, refl, sym, ap, ◌∙◌, arith, length, true≢false}
 use Rattle.std.specs.Prelude.{filter, IsTrue, IsFalse}
-use Rattle.herm_model.specs.Lists.{total, range, list_of}
+use Rattle.herm_model.specs.Lists.{total, list_of}
 use Rattle.herm_model.specs.Values.{Name, Kind, Cell, cell, Parts, no_parts, gap, part}
 use Rattle.herm_model.specs.Finalising.{waits}
 use Rattle.herm_model.proofs.Lists.{total-append}
 use Rattle.herm_journal.specs.Actions.{values, raised, gone, new_port, new_process, to_put, to_take, to_close, to_answer, to_hear, make_port, make_process, put, take, close, answer, hear}
 use Rattle.herm_journal.specs.Messages.{CellReply, CellWant, CellAction, cells_in}
-use Rattle.herm_forms.specs.Bodies.{Loop, Body}
+use Rattle.herm_forms.specs.Bodies.{Loop}
 use Rattle.herm_forms.specs.Weights.{made}
 use Rattle.herm_forms.specs.Edges.{Code}
 use Rattle.herm_forms.proofs.Loads.{load, load_in, load_all, load_reply, load_coming, load_going, load_loops, load_kept}

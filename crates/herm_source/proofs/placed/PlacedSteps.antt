@@ -1,18 +1,17 @@
 -- Local steps of typed programs keep a property of cells with the types of their places.
-use Rattle.std.proofs.Common.{◌≡◌, ◌⊎◌, inl, inr, ◌<◌, ℕ, zero, suc, List, [], ◌∷◌, ◌++◌, map, flat_map, Bool, true, false, cond, nat_eq, Option, Some, None, option_map, slice_get, refl, sym, ap, subst, ◌∙◌, arith}
+use Rattle.std.proofs.Common.{◌≡◌, ◌⊎◌, inl, inr, ◌<◌, ℕ, zero, suc, List, [], ◌∷◌, ◌++◌, map, flat_map, Bool, true, false, cond, nat_eq, Option, Some, None, slice_get, refl, sym, ap, subst, ◌∙◌, arith}
 use Rattle.std.proofs.lemmas.Bool.{eq-eqb, eqb-true}
-use Rattle.std.specs.Prelude.{find, option_and_then, IsTrue, ⊤}
+use Rattle.std.specs.Prelude.{find, option_and_then, IsTrue}
 use Rattle.herm_model.specs.Lists.{IsIn, list_of}
 use Rattle.herm_model.specs.Paths.{Path}
 use Rattle.herm_model.specs.Types.{TypeTable, type_at}
 use Rattle.herm_model.specs.Calls.{led_to}
 use Rattle.herm_model.specs.Statements.{Process, For}
-use Rattle.herm_model.specs.Nodes.{Target, Node, process_nodes}
+use Rattle.herm_model.specs.Nodes.{Target, Node}
 use Rattle.herm_model.specs.Values.{Name, Kind, a_callmessage, an_inport, an_outport}
 use Rattle.herm_model.specs.FlowLaws.{Rise}
 use Rattle.herm_model.specs.Typed.{Fits, many}
 use Rattle.herm_model.specs.TypedStatements.{IsTypedForm}
-use Rattle.herm_model.specs.TypedPrograms.{IsTypedProgram}
 use Rattle.herm_model.proofs.Lists.{not_true, in-map, in-append_left, in-append_right, in-append_cases}
 use Rattle.herm_model.proofs.NodeNumbers.{process_numbers-Rise}
 use Rattle.herm_model.proofs.Options.{some-injective, none-not_some, map-some}
@@ -22,21 +21,19 @@ use Rattle.herm_forms.specs.Edges.{Code, arrive}
 use Rattle.herm_forms.specs.Acts.{is_action, act, leads_to}
 use Rattle.herm_forms.proofs.placed.PlacedForms.{AllowsLocal, BodyIs, LoopsAre, RowsAre, arrive-is, act-is}
 use Rattle.herm_forms.proofs.placed.PlacedForms
-use Rattle.herm_system.specs.Machines.{Held}
 use Rattle.herm_system.specs.Kinds.{typed_in, typed_held}
-use Rattle.herm_source.specs.Modules.{Program, Modules}
-use Rattle.herm_source.specs.States.{State, own_name, Next, an_item, a_reply, a_statement, nothing, next_of, behind, step_next, local_step}
+use Rattle.herm_source.specs.Modules.{Program}
+use Rattle.herm_source.specs.States.{State, own_name, Next, an_item, a_reply, a_statement, nothing, next_of, behind, step_next}
 use Rattle.herm_source.specs.Local.{IsLocallySound, row_of, row_type}
-use Rattle.herm_source.specs.Headline.{AreAccepted, AreCodesOf}
+use Rattle.herm_source.specs.Headline.{AreCodesOf}
 use Rattle.herm_source.specs.Looking.{values_held}
-use Rattle.herm_source.specs.Instance.{source, code_at, IsSoundIn}
-use Rattle.herm_source.specs.Sharing.{AcceptedShareTypes}
+use Rattle.herm_source.specs.Instance.{code_at}
 use Rattle.herm_source.specs.PlaceLaws.{IsOfNumbers, LocalStepsKeepPlaces, StandsAt, LocalStepsKeepStanding}
 use Rattle.herm_source.proofs.Numbers.{local-stays}
 use Rattle.herm_source.proofs.instance.SourceLaws.{local-code, code-stays}
 use Rattle.herm_source.proofs.instance.SourceLooks.{accepted-share-types}
 use Rattle.herm_source.proofs.instance.HeldValues.{typed-values}
-use Rattle.herm_source.proofs.counted.CountedSteps.{AreTypedNodes, typed-at, node-there, stands}
+use Rattle.herm_source.proofs.counted.CountedSteps.{typed-at, node-there, stands}
 use Rattle.herm_source.proofs.placed.TypedPlaces.{With, are-typed, variables-placed, rows-placed}
 
 -- a node is found by its number

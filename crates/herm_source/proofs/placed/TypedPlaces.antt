@@ -1,5 +1,5 @@
 -- Typed values of which each cell at a place with a type has a property, listed and as parts.
-use Rattle.std.proofs.Common.{◌≡◌, inl, inr, ℕ, List, [], ◌∷◌, ◌++◌, map, Bool, true, false, Option, Some, None, refl, sym, ap, subst, ◌∙◌}
+use Rattle.std.proofs.Common.{◌≡◌, inl, inr, ℕ, List, [], ◌∷◌, ◌++◌, map, Bool, true, false, Option, Some, None, refl, sym, subst}
 use Rattle.std.specs.Prelude.{slice_get, IsTrue, ⊤}
 use Rattle.herm_model.specs.Lists.{IsIn, with_some, list_of}
 use Rattle.herm_model.specs.Types.{TypeTable, Shape, boolean, integer, text, polymorph, names, fields, cases, rows, inport, outport, callmessage, Mode, by_in, by_inout, by_out, Parameter}
