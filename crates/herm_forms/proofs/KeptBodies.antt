@@ -230,7 +230,7 @@ module _ {N : Type 0} (name : Name → N) (Is Stay : Body N → Type 0) (keeps-i
       (keeps-it.calls (suc took.0.body.calls) (record took.0.body { serial = suc took.0.body.serial }) (keeps-it.serial (suc took.0.body.serial) took.0.body
       (is-take_all moved (drop lost (record b { serial = b.serial + count_in inputs })) took.0 (is-drop lost (record b { serial = b.serial + count_in inputs }) (keeps-it.serial (b.serial + count_in inputs) b e)) took.1)))
 
-  is-composed : (c : Code) (o : Path) (arguments : List Atom) (b : Body N) (k : Composed N) → Is b → composed name c o arguments b ≡ Some k → Is k.body
+  pub is-composed : (c : Code) (o : Path) (arguments : List Atom) (b : Body N) (k : Composed N) → Is b → composed name c o arguments b ≡ Some k → Is k.body
   is-composed c o arguments b k e is =
       let inputs = chain-some _ (inputs_of (call_parameters c.types c.variables o) arguments b.variables) k is in
       is-compose (map (λ p. p.mode) (call_parameters c.types c.variables o)) inputs.0 (flat_map (λ p. beyond_full c p b) (arguments_at c is_inout o arguments)) (arguments_at c is_inout o arguments) b k e inputs.2

@@ -1,5 +1,5 @@
--- Edges, what a statement does and what an answer leaves keep the ledger's equation.
-use Rattle.std.proofs.Common.{◌≡◌, ℕ, ◌+◌, List, [], ◌∷◌, Bool, true, false, cond, Option, Some, None, refl, ap, sym, ◌∙◌, arith}
+-- Edges, what a statement does and what an answer leaves keep the equation of names and kinds; so edges keep the ledger's.
+use Rattle.std.proofs.Common.{◌≡◌, ℕ, ◌+◌, List, [], ◌∷◌, Bool, true, false, cond, Option, Some, None, refl, ap, sym, subst, ◌∙◌, arith}
 use Rattle.std.specs.Prelude.{filter, flat_map, map, option_map, option_and_then, ⊤}
 use Rattle.herm_model.specs.Paths.{Path}
 use Rattle.herm_model.specs.Types.{type_at, Parameter}
@@ -9,99 +9,102 @@ use Rattle.herm_model.specs.Calls.{shape_at, call_parameters}
 use Rattle.herm_model.specs.StatementTable.{set_by_call}
 use Rattle.herm_model.specs.Nodes.{Target}
 use Rattle.herm_model.specs.Finalising.{excess}
-use Rattle.herm_model.specs.Values.{Cell, Parts, has_value, cell_at}
+use Rattle.herm_model.specs.Values.{Kind, kind_of, Cell, Parts, has_value, cell_at}
 use Rattle.herm_model.proofs.Options.{some-injective, chain-some, map-some}
 use Rattle.herm_forms.specs.Evaluate.{evaluate, key_values}
-use Rattle.herm_journal.specs.Actions.{values, raised, to_put, to_take, to_answer}
-use Rattle.herm_forms.specs.Bodies.{Name, Loop, Body, let_go_parts, drop, Taken, take_all}
+use Rattle.herm_journal.specs.Actions.{values, raised, new_process, to_put, to_take, to_answer}
+use Rattle.herm_forms.specs.Bodies.{Name, Loop, Body, Result, let_go_parts, drop, Taken, take_all}
 use Rattle.herm_forms.specs.Forms
 use Rattle.herm_forms.specs.Exchanges
 use Rattle.herm_journal.specs.Messages.{CellReply, CellWant, CellAction}
 use Rattle.herm_forms.specs.Exchanges.{Composed, compose}
 use Rattle.herm_forms.specs.Edges.{Code, arrive, keeps, keeps_loop, let_go_loops, leave_loops, beyond_full, beyond_declared}
 use Rattle.herm_forms.specs.Acts.{key_at, act, arguments_at, is_inout, is_out, inputs_of, composed, kept_at, left_at, given_back, given_at, given_by, wants, settle, settle_reply}
-use Rattle.herm_journal.specs.Weights.{weigh, weigh_in, weigh_all, weigh_reply, come_in}
-use Rattle.herm_forms.specs.Weights.{weigh_loops, kept, made, gone_out}
+use Rattle.herm_forms.specs.Weights.{kept, made}
+use Rattle.herm_forms.proofs.Loads.{load, load_in, load_all, load_reply, load_loops, load_coming, load_going, none, names-kept}
+use Rattle.herm_forms.proofs.Begun.{call_load, back_load, source_load, begun, over}
+use Rattle.herm_forms.proofs.Copies.{CopiesKinds}
+use Rattle.herm_forms.proofs.Weights.{SparesPlain, Spares}
 use Rattle.herm_forms.specs.Kept.{EdgesKeep}
 use Rattle.herm_forms.proofs.Balance.{Balanced, AllBalanced, balanced-let_go_parts, balanced-drop, balanced-if_there, balanced-take_all}
 use Rattle.herm_forms.proofs.KeptLocal.{balanced-with_value, kept-assign, kept-move, kept-new_value, kept-discard, kept-unite, kept-dissolve, kept-reveal, kept-choose, kept-wrap, kept-unwrap, kept-insert, kept-remove, kept-get, kept-visit, kept-connect, kept-tested}
 use Rattle.herm_forms.proofs.KeptActions.{kept-new_inport, kept-send, kept-receive, kept-select, kept-hear_call, kept-create, balanced-compose, kept-call, kept-return}
 use Rattle.herm_forms.proofs.Counting.{recount, recount_taken, recount_composed, recount-drop, recount-take_all, recount-compose}
 
-module _ {N : Type 0} (w : N → ℕ) (name : Name → N) (m k : ℕ) where
+module _ {N : Type 0} (w : N → ℕ) (extra : Kind → ℕ) (name : Name → N) (spares : SparesPlain extra) (m k : ℕ) where
   -- the rows of the loops that are left
   abbrev weigh_left : (ℕ → Bool) → List (Loop N) → ℕ
   weigh_left stay [] = 0
-  weigh_left stay (l ∷ loops) = cond (stay l.statement) 0 (weigh_in w l.rows) + weigh_left stay loops
+  weigh_left stay (l ∷ loops) = cond (stay l.statement) 0 (load_in w extra l.rows) + weigh_left stay loops
 
-  left_or_kept : (b : Bool) (l : Loop N) (loops : List (Loop N)) → weigh_loops w (cond b (l ∷ loops) loops) + cond b 0 (weigh_in w l.rows) ≡ weigh_in w l.rows + weigh_loops w loops
+  left_or_kept : (b : Bool) (l : Loop N) (loops : List (Loop N)) → load_loops w extra (cond b (l ∷ loops) loops) + cond b 0 (load_in w extra l.rows) ≡ load_in w extra l.rows + load_loops w extra loops
   left_or_kept true l loops = omega arith
   left_or_kept false l loops = omega arith
 
-  weigh-left : (stay : ℕ → Bool) (loops : List (Loop N)) → weigh_loops w (filter (λ l. stay l.statement) loops) + weigh_left stay loops ≡ weigh_loops w loops
+  weigh-left : (stay : ℕ → Bool) (loops : List (Loop N)) → load_loops w extra (filter (λ l. stay l.statement) loops) + weigh_left stay loops ≡ load_loops w extra loops
   weigh-left stay [] = refl
   weigh-left stay (l ∷ loops) = omega (arith, left_or_kept (stay l.statement) l (filter (λ l. stay l.statement) loops), weigh-left stay loops)
 
-  let_one_go : (h : ℕ) (b : Bool) (l : Loop N) (body : Body N) → Balanced w name m k (h + cond b 0 (weigh_in w l.rows)) body → Balanced w name m k h (cond b body (let_go_parts l.rows body))
+  let_one_go : (h : ℕ) (b : Bool) (l : Loop N) (body : Body N) → Balanced w extra name m k (h + cond b 0 (load_in w extra l.rows)) body → Balanced w extra name m k h (cond b body (let_go_parts l.rows body))
   let_one_go h true l body e = omega arith
-  let_one_go h false l body e = balanced-let_go_parts w name m k h l.rows body e
+  let_one_go h false l body e = balanced-let_go_parts w extra name spares m k h l.rows body e
 
-  balanced-let_go_loops : (h : ℕ) (stay : ℕ → Bool) (loops : List (Loop N)) (b : Body N) → Balanced w name m k (h + weigh_left stay loops) b → Balanced w name m k h (let_go_loops stay loops b)
+  balanced-let_go_loops : (h : ℕ) (stay : ℕ → Bool) (loops : List (Loop N)) (b : Body N) → Balanced w extra name m k (h + weigh_left stay loops) b → Balanced w extra name m k h (let_go_loops stay loops b)
   balanced-let_go_loops h stay [] b e = omega arith
   balanced-let_go_loops h stay (l ∷ loops) b e =
       balanced-let_go_loops h stay loops (cond (stay l.statement) b (let_go_parts l.rows b)) (let_one_go (h + weigh_left stay loops) (stay l.statement) l b (omega arith))
 
-  balanced-leave_loops : (h : ℕ) (stay : ℕ → Bool) (b : Body N) → Balanced w name m k h b → Balanced w name m k h (leave_loops stay b)
+  balanced-leave_loops : (h : ℕ) (stay : ℕ → Bool) (b : Body N) → Balanced w extra name m k h b → Balanced w extra name m k h (leave_loops stay b)
   balanced-leave_loops h stay b e =
       balanced-let_go_loops h stay b.loops (record b { loops = filter (λ l. stay l.statement) b.loops }) (omega (arith, weigh-left stay b.loops))
 
-  pub balanced-arrive : (h : ℕ) (c : Code) (t : Target) (b : Body N) → Balanced w name m k h b → Balanced w name m k h (arrive c t b)
+  pub balanced-arrive : (h : ℕ) (c : Code) (t : Target) (b : Body N) → Balanced w extra name m k h b → Balanced w extra name m k h (arrive c t b)
   balanced-arrive h c t b e =
       let lost = excess c.types c.variables (has_value b.variables) (keeps c t) in
-      balanced-leave_loops h (keeps_loop c t) (drop lost b) (balanced-drop w name m k h lost b e)
+      balanced-leave_loops h (keeps_loop c t) (drop lost b) (balanced-drop w extra name spares m k h lost b e)
 
   -- what a local step does
-  pub kept-act : (c : Code) (s : ℕ) (form : Form) (b : Body N) → Balanced w name m k 0 b → AllBalanced w name m k 0 (act name c s form b)
-  kept-act c s (Assign x e) b h = balanced-with_value w name m k 0 (Forms.assign name x) (evaluate b.variables e) b h (λ v. kept-assign w name m k x v b h)
-  kept-act c s (Move y x) b h = kept-move w name m k (beyond_full c y b) y x b h
-  kept-act c s (New x) b h = kept-new_value w name m k (shape_at c.types c.variables x) x b h
-  kept-act c s (Discard x) b h = kept-discard w name m k x b h
-  kept-act c s (Unite v i y) b h = kept-unite w name m k i (beyond_full c y b) y v b h
-  kept-act c s (Dissolve v i y) b h = kept-dissolve w name m k i v y b h
-  kept-act c s (Reveal v i) b h = kept-reveal w name m k i v b h
-  kept-act c s (Case v is) b h = kept-choose w name m k v b h
-  kept-act c s (Wrap y p) b h = balanced-if_there w name m k 0 (λ t. Forms.wrap name t (beyond_full c y b) y p b) (type_at c.types c.variables y) (λ t there. kept-wrap w name m k t (beyond_full c y b) y p b h)
-  kept-act c s (Unwrap p t y) b h = kept-unwrap w name m k t p y b h
-  kept-act c s (Insert r t) b h = kept-insert w name m k (key_at c t) (beyond_full c r b) r t b h
-  kept-act c s (Remove r t keys) b h = balanced-if_there w name m k 0 (λ v. Forms.remove (key_at c t) v r t b) (key_values b.variables keys) (λ v there. kept-remove w name m k (key_at c t) v r t b h)
-  kept-act c s (Get r t keys) b h = balanced-if_there w name m k 0 (λ v. Forms.get name (key_at c t) v r t b) (key_values b.variables keys) (λ v there. kept-get w name m k (key_at c t) v r t b h)
-  kept-act c s (For r t) b h = kept-visit w name m k s r t b h
-  kept-act c s (Connect o i) b h = kept-connect w name m k o i b h
-  kept-act c s (If e) b h = balanced-with_value w name m k 0 Forms.tested (evaluate b.variables e) b h (λ v. kept-tested w name m k v b h)
-  kept-act c s (While e) b h = balanced-with_value w name m k 0 Forms.tested (evaluate b.variables e) b h (λ v. kept-tested w name m k v b h)
-  kept-act c s (Raise e) b h = h
-  kept-act c s Leave b h = h
-  kept-act c s _ b h = tt
+  pub kept-act : (c : Code) (s : ℕ) (form : Form) (b : Body N) → CopiesKinds (Spares extra) c form b.variables → Balanced w extra name m k 0 b → AllBalanced w extra name m k 0 (act name c s form b)
+  kept-act c s (Assign x e) b kinds h = balanced-with_value w extra name spares m k 0 (Forms.assign name x) (evaluate b.variables e) b h (λ v is. kept-assign w extra name spares m k x v b (kinds v is) h)
+  kept-act c s (Move y x) b kinds h = kept-move w extra name spares m k (beyond_full c y b) y x b h
+  kept-act c s (New x) b kinds h = kept-new_value w extra name spares m k (shape_at c.types c.variables x) x b h
+  kept-act c s (Discard x) b kinds h = kept-discard w extra name spares m k x b h
+  kept-act c s (Unite v i y) b kinds h = kept-unite w extra name spares m k i (beyond_full c y b) y v b h
+  kept-act c s (Dissolve v i y) b kinds h = kept-dissolve w extra name spares m k i v y b h
+  kept-act c s (Reveal v i) b kinds h = kept-reveal w extra name spares m k i v b h
+  kept-act c s (Case v is) b kinds h = kept-choose w extra name spares m k v b h
+  kept-act c s (Wrap y p) b kinds h = balanced-if_there w extra name spares m k 0 (λ t. Forms.wrap name t (beyond_full c y b) y p b) (type_at c.types c.variables y) (λ t there. kept-wrap w extra name spares m k t (beyond_full c y b) y p b h)
+  kept-act c s (Unwrap p t y) b kinds h = kept-unwrap w extra name spares m k t p y b h
+  kept-act c s (Insert r t) b kinds h = kept-insert w extra name spares m k (key_at c t) (beyond_full c r b) r t b h
+  kept-act c s (Remove r t keys) b kinds h = balanced-if_there w extra name spares m k 0 (λ v. Forms.remove (key_at c t) v r t b) (key_values b.variables keys) (λ v there. kept-remove w extra name spares m k (key_at c t) v r t b h)
+  kept-act c s (Get r t keys) b kinds h = balanced-if_there w extra name spares m k 0 (λ v. Forms.get name (key_at c t) v r t b) (key_values b.variables keys) (λ v there. kept-get w extra name spares m k (key_at c t) v r t b kinds h)
+  kept-act c s (For r t) b kinds h = kept-visit w extra name spares m k s r t b kinds h
+  kept-act c s (Connect o i) b kinds h = kept-connect w extra name spares m k o i b h
+  kept-act c s (If e) b kinds h = balanced-with_value w extra name spares m k 0 Forms.tested (evaluate b.variables e) b h (λ v is. kept-tested w extra name spares m k v b h)
+  kept-act c s (While e) b kinds h = balanced-with_value w extra name spares m k 0 Forms.tested (evaluate b.variables e) b h (λ v is. kept-tested w extra name spares m k v b h)
+  kept-act c s (Raise e) b kinds h = h
+  kept-act c s Leave b kinds h = h
+  kept-act c s _ b kinds h = tt
 
 -- what is wanted, taken apart
-module _ {N : Type 0} (w : N → ℕ) (name : Name → N) (m k steps actions : ℕ) where
+module _ {N : Type 0} (w : N → ℕ) (extra : Kind → ℕ) (name : Name → N) (spares : SparesPlain extra) (m k steps actions : ℕ) where
   settle-send : (c : Code) (x o : Path) (want : CellWant N) (action : CellAction N) (b : Body N) → Exchanges.send_wants (beyond_declared c o x b) x o b ≡ Some want
-      → Balanced w name m k (come_in w action) b → AllBalanced w name m k (gone_out w name b want action) (Exchanges.send (beyond_declared c o x b) x action (recount steps actions b))
+      → Balanced w extra name m k (load_coming w extra action) b → AllBalanced w extra name m k (load_going w extra name b want action) (Exchanges.send (beyond_declared c o x b) x action (recount steps actions b))
   settle-send c x o want action b is e =
       let lost = beyond_declared c o x b in
       let r = chain-some (λ port. option_map (to_put port) (cell_at x (drop lost b).variables)) (Exchanges.outport_at o b) want is in
       let q = map-some (to_put r.0) (cell_at x (drop lost b).variables) want r.2 in
       let there : cell_at x (drop lost (recount steps actions b)).variables ≡ Some q.0 = ap (λ (b : Body N). cell_at x b.variables) (recount-drop steps actions lost b) ∙ q.1 in
-      rw (sym q.2) (kept-send w name m k lost x q.0 action (recount steps actions b) there e)
+      rw (sym q.2) (kept-send w extra name spares m k lost x q.0 action (recount steps actions b) there e)
 
   made-composed : (c : Code) (o : Path) (arguments : List Atom) (h : ℕ) (b : Body N) (x : Composed N) → composed name c o arguments b ≡ Some x
-      → Balanced w name m k h b → Balanced w name m k (h + weigh w x.message) x.body
-  made-composed c o arguments h b x is e =
+      → CopiesKinds (Spares extra) c (Call o arguments) b.variables → Balanced w extra name m k (h + extra (kind_of x.message)) b → Balanced w extra name m k (h + load w extra x.message) x.body
+  made-composed c o arguments h b x is kinds e =
       let modes = map (λ (p : Parameter). p.mode) (call_parameters c.types c.variables o) in
       let moved = arguments_at c is_inout o arguments in
       let lost = flat_map (λ (p : Path). beyond_full c p b) moved in
       let r = chain-some (λ inputs. compose name modes inputs lost moved b) (inputs_of (call_parameters c.types c.variables o) arguments b.variables) x is in
-      balanced-compose w name m k h modes r.0 lost moved b x r.2 e
+      balanced-compose w extra name spares m k h modes r.0 lost moved b x r.2 (kinds r.0 r.1) e
 
   recounted : (c : Code) (o : Path) (arguments : List Atom) (b : Body N) (inputs : Option (Parts ⊤))
       → (let modes = map (λ (p : Parameter). p.mode) (call_parameters c.types c.variables o) in
@@ -117,52 +120,64 @@ module _ {N : Type 0} (w : N → ℕ) (name : Name → N) (m k steps actions : �
   pub recount-composed : (c : Code) (o : Path) (arguments : List Atom) (b : Body N) → composed name c o arguments (recount steps actions b) ≡ option_map (recount_composed steps actions) (composed name c o arguments b)
   recount-composed c o arguments b = recounted c o arguments b (inputs_of (call_parameters c.types c.variables o) arguments b.variables)
 
+  recount-load : (o : Option (Composed N)) → call_load extra (option_map (recount_composed steps actions) o) ≡ call_load extra o
+  recount-load None = refl
+  recount-load (Some x) = refl
+
+  same-load : (c : Code) (o : Path) (arguments : List Atom) (b : Body N) (x : Composed N) → composed name c o arguments (recount steps actions b) ≡ Some x → call_load extra (composed name c o arguments b) ≡ extra (kind_of x.message)
+  same-load c o arguments b x is = sym (recount-load (composed name c o arguments b)) ∙ ap (call_load extra) (sym (recount-composed c o arguments b) ∙ is)
+
   settle-call : (c : Code) (o : Path) (arguments : List Atom) (want : CellWant N) (action : CellAction N) (b : Body N) → Exchanges.call_wants (composed name c o arguments b) o b ≡ Some want
-      → Balanced w name m k (come_in w action) b
-      → AllBalanced w name m k (gone_out w name b want action) (Exchanges.call (composed name c o arguments (recount steps actions b)) (arguments_at c is_out o arguments) action)
-  settle-call c o arguments want action b is e =
+      → CopiesKinds (Spares extra) c (Call o arguments) b.variables
+      → Balanced w extra name m k (load_coming w extra action + call_load extra (composed name c o arguments b)) b
+      → AllBalanced w extra name m k (load_going w extra name b want action + back_load extra action) (Exchanges.call (composed name c o arguments (recount steps actions b)) (arguments_at c is_out o arguments) action)
+  settle-call c o arguments want action b is kinds e =
       let r = chain-some (λ port. option_map (λ (x : Composed N). to_put port x.message) (composed name c o arguments b)) (Exchanges.outport_at o b) want is in
       let q = map-some (λ (x : Composed N). to_put r.0 x.message) (composed name c o arguments b) want r.2 in
-      rw (sym q.2) (kept-call w name m k (arguments_at c is_out o arguments) action b (composed name c o arguments (recount steps actions b)) q.0.message
-      (λ x is. made-composed c o arguments (come_in w action) (recount steps actions b) x is e)
+      rw (sym q.2) (kept-call w extra name spares m k (arguments_at c is_out o arguments) action b (composed name c o arguments (recount steps actions b)) q.0.message
+      (λ x is. made-composed c o arguments (load_coming w extra action) (recount steps actions b) x is kinds
+      (subst (λ o. Balanced w extra name m k (load_coming w extra action + o) b) (same-load c o arguments b x is) e))
       (ap (option_map (λ (x : Composed N). x.message)) (recount-composed c o arguments b ∙ ap (option_map (recount_composed steps actions)) q.1)))
 
-  settle-return : (c : Code) (given : List Path) (reply : List (Cell N) → CellReply N) → ((cs : List (Cell N)) → weigh_reply w (reply cs) ≡ weigh_all w cs)
+  settle-return : (c : Code) (given : List Path) (reply : List (Cell N) → CellReply N) → ((cs : List (Cell N)) → load_reply w extra (reply cs) ≡ load_all w extra cs)
       → (source : Path) (want : CellWant N) (action : CellAction N) (b : Body N) → Exchanges.return_wants reply (given_back c given b) source b ≡ Some want
-      → Balanced w name m k (come_in w action) b
-      → AllBalanced w name m k (gone_out w name b want action) (Exchanges.return (given_back c given (recount steps actions b)) source action)
+      → Balanced w extra name m k (load_coming w extra action) b
+      → AllBalanced w extra name m k (load_going w extra name b want action + source_load extra source (given_back c given b)) (Exchanges.return (given_back c given (recount steps actions b)) source action)
   settle-return c given reply weighs source want action b is e =
       let lost = flat_map (λ (p : Path). beyond_full c p b) given in
       let r = chain-some (λ (to : ℕ × ℕ). option_map (λ (t : Taken N). to_answer to.0 to.1 (reply t.cells)) (given_back c given b)) (option_and_then Exchanges.caller_of (cell_at source b.variables)) want is in
       let q = map-some (λ (t : Taken N). to_answer r.0.0 r.0.1 (reply t.cells)) (given_back c given b) want r.2 in
       let again : take_all given (drop lost (recount steps actions b)) ≡ Some (recount_taken steps actions q.0)
       = ap (take_all given) (recount-drop steps actions lost b) ∙ recount-take_all steps actions given (drop lost b) ∙ ap (option_map (recount_taken steps actions)) q.1 in
-      rw (sym q.2) (rw (weighs q.0.cells) (kept-return w name m k source action (given_back c given (recount steps actions b)) (recount_taken steps actions q.0) again
-      (balanced-take_all w name m k (come_in w action) given (drop lost (recount steps actions b)) (recount_taken steps actions q.0) again
-      (balanced-drop w name m k (come_in w action) lost (recount steps actions b) e))))
+      rw (sym q.2) (rw (weighs q.0.cells) (subst (λ o. AllBalanced w extra name m k (load_all w extra q.0.cells + source_load extra source o) (Exchanges.return (given_back c given (recount steps actions b)) source action)) (sym q.1) (kept-return w extra name spares m k source action (given_back c given (recount steps actions b)) (recount_taken steps actions q.0) again
+      (balanced-take_all w extra name spares m k (load_coming w extra action) given (drop lost (recount steps actions b)) (recount_taken steps actions q.0) again
+      (balanced-drop w extra name spares m k (load_coming w extra action) lost (recount steps actions b) e)))))
 
-  pub kept-settle : (c : Code) (form : Form) (want : CellWant N) (at : ℕ) (action : CellAction N) (b : Body N) → wants name c form b ≡ Some want
-      → Balanced w name m k (come_in w action) b → AllBalanced w name m k (gone_out w name b want action) (settle name c form at action (recount steps actions b))
-  kept-settle c (New x) want at action b is e = rw (sym (some-injective is)) (kept-new_inport w name m k x action (recount steps actions b) e)
-  kept-settle c (Send x o) want at action b is e = settle-send c x o want action b is e
-  kept-settle c (Receive x i) want at action b is e =
+  no-more : (a : ℕ) (r : Result N) → AllBalanced w extra name m k a r → AllBalanced w extra name m k (a + 0) r
+  no-more a r e = let z : a ≡ a + 0 = omega arith in subst (λ h. AllBalanced w extra name m k h r) z e
+
+  pub kept-settle : (c : Code) (form : Form) (want : CellWant N) (at : ℕ) (action : CellAction N) (b : Body N) → wants name c form b ≡ Some want → CopiesKinds (Spares extra) c form b.variables
+      → Balanced w extra name m k (load_coming w extra action + begun extra name c form b action) b → AllBalanced w extra name m k (load_going w extra name b want action + over extra c form b action) (settle name c form at action (recount steps actions b))
+  kept-settle c (New x) want at action b is kinds e = rw (sym (some-injective is)) (kept-new_inport w extra name spares m k x action (recount steps actions b) e)
+  kept-settle c (Send x o) want at action b is kinds e = no-more (load_going w extra name b want action) _ (settle-send c x o want action b is (omega arith))
+  kept-settle c (Receive x i) want at action b is kinds e =
       let r = map-some (λ port. to_take (port ∷ [])) (Exchanges.inport_at i b) want is in
-      rw (sym r.2) (kept-receive w name m k x action (recount steps actions b) e)
-  kept-settle c (Select arms) want at action b is e =
+      rw (sym r.2) (kept-receive w extra name spares m k x action (recount steps actions b) (omega arith))
+  kept-settle c (Select arms) want at action b is kinds e =
       let ports = map (λ (a : Arm). a.port) arms in
       let r = map-some to_take (Exchanges.ports_at ports b) want is in
-      rw (sym r.2) (kept-select w name m k (map (λ (a : Arm). a.target) arms) ports at action (recount steps actions b) e)
-  kept-settle c (Call o arguments) want at action b is e = settle-call c o arguments want action b is e
-  kept-settle c (Return x) want at action b is e = settle-return c (given_at c x) values (λ cs. refl) x want action b is e
-  kept-settle c (ReturnBy x ex) want at action b is e = settle-return c (given_by c x ex) (raised ex) (λ cs. refl) x want action b is e
-  kept-settle c (Create o process) want at action b is e = rw (sym (some-injective is)) (kept-create w name m k o action (recount steps actions b) process e)
-  kept-settle c _ want at action b is e = tt
+      rw (sym r.2) (kept-select w extra name spares m k (map (λ (a : Arm). a.target) arms) ports at action (recount steps actions b) (omega arith))
+  kept-settle c (Call o arguments) want at action b is kinds e = settle-call c o arguments want action b is kinds e
+  kept-settle c (Return x) want at action b is kinds e = settle-return c (given_at c x) values (λ cs. refl) x want action b is (omega arith)
+  kept-settle c (ReturnBy x ex) want at action b is kinds e = settle-return c (given_by c x ex) (raised ex) (λ cs. refl) x want action b is (omega arith)
+  kept-settle c (Create o process) want at action b is kinds e = rw (sym (some-injective is)) (no-more (load_going w extra name b (new_process process) action) _ (kept-create w extra name spares m k o action (recount steps actions b) process e))
+  kept-settle c _ want at action b is kinds e = tt
 
-  pub settle-reply : (c : Code) (form : Form) (call : ℕ) (action : CellAction N) (b : Body N) → Balanced w name m k (come_in w action) b
-      → AllBalanced w name m k 0 (settle_reply c form call action b)
+  pub settle-reply : (c : Code) (form : Form) (call : ℕ) (action : CellAction N) (b : Body N) → Balanced w extra name m k (load_coming w extra action) b
+      → AllBalanced w extra name m k 0 (settle_reply c form call action b)
   settle-reply c (Call o arguments) call action b e =
-      kept-hear_call w name m k (set_by_call c.types c.variables o arguments) (arguments_at c is_out o arguments) (kept_at c o arguments) (left_at c o arguments) call action b e
+      kept-hear_call w extra name spares m k (set_by_call c.types c.variables o arguments) (arguments_at c is_out o arguments) (kept_at c o arguments) (left_at c o arguments) call action b e
   settle-reply c _ call action b e = tt
 
 pub edges-keep : EdgesKeep
-edges-keep w name c t b = let e = balanced-arrive w name (made w name b) (kept w b) 0 c t b (omega arith) in omega arith
+edges-keep w name c t b = let e = balanced-arrive w (none w) name (λ k is. refl) (made w name b) (kept w b) 0 c t b (omega (arith, names-kept w b)) in omega (arith, names-kept w (arrive c t b))

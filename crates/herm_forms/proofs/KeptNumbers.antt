@@ -1,13 +1,16 @@
 -- Edges, what a statement does and what an answer leaves keep the process's number.
-use Rattle.std.proofs.Common.{◌≡◌, ℕ}
+use Rattle.std.proofs.Common.{◌≡◌, ℕ, List, Some}
+use Rattle.herm_model.specs.Paths.{Path}
+use Rattle.herm_model.specs.Expressions.{Atom}
 use Rattle.herm_model.specs.Statements.{Form}
 use Rattle.herm_model.specs.Nodes.{Target}
 use Rattle.herm_model.specs.Values.{Cell}
 use Rattle.herm_journal.specs.Messages.{CellAction}
 use Rattle.herm_forms.specs.Bodies.{Name, Body, Result}
 use Rattle.herm_forms.specs.Exchanges
+use Rattle.herm_forms.specs.Exchanges.{Composed}
 use Rattle.herm_forms.specs.Edges.{Code, arrive}
-use Rattle.herm_forms.specs.Acts.{act, settle, settle_reply}
+use Rattle.herm_forms.specs.Acts.{act, composed, settle, settle_reply}
 use Rattle.herm_forms.proofs.KeptBodies
 use Rattle.herm_forms.proofs.KeptBodies.{LetsGo, IsKept}
 
@@ -31,6 +34,10 @@ module _ {N : Type 0} (name : Name → N) (n : ℕ) where
   -- what an edge leaves
   pub is-arrive : (c : Code) (t : Target) (b : Body N) → Is b → Is (arrive c t b)
   is-arrive c t b e = KeptBodies.is-arrive name Is Is numbers (λ stay b e. e) c t b e
+
+  -- what a call composes
+  pub is-composed : (c : Code) (o : Path) (arguments : List Atom) (b : Body N) (k : Composed N) → Is b → composed name c o arguments b ≡ Some k → Is k.body
+  is-composed c o arguments b k e is = KeptBodies.is-composed name Is Is numbers c o arguments b k e is
 
   -- what each answer leaves
   pub all-work : (item : Cell N) (a : CellAction N) (b : Body N) → Is b → All (Exchanges.work_done item a b)

@@ -1,3 +1,6 @@
+pub mod Loads
+pub mod Copies
+pub mod Begun
 pub mod Weights
 pub mod Balance
 pub mod KeptLocal
@@ -6,6 +9,9 @@ pub mod Counting
 pub mod KeptForms
 pub mod KeptBodies
 pub mod KeptNumbers
+pub mod PlainCopies
+pub mod CountedCalls
+pub mod placed
 pub mod TypedReading
 pub mod Dropped
 pub mod Arrived

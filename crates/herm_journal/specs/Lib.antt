@@ -7,3 +7,4 @@ pub mod Messages
 pub mod Weights
 pub mod Renaming
 pub mod Kinds
+pub mod PartTypes

@@ -1,4 +1,5 @@
 pub mod OneProcess
+pub mod Counting
 pub mod DiaryLaws
 pub mod OrderLaws
 pub mod SuitsLaws

@@ -8,3 +8,5 @@ pub mod reached
 pub mod incoming
 pub mod instance
 pub mod sound
+pub mod counted
+pub mod placed

@@ -9,6 +9,8 @@ pub mod Kept
 pub mod Forgetting
 pub mod Arriving
 pub mod Laws
+pub mod CountLaws
+pub mod PlaceLaws
 pub mod Headline
 pub mod Checked
 pub mod process_laws
@@ -18,3 +20,4 @@ pub mod RunLaws
 pub mod Programs
 pub mod CheckedExamples
 pub mod Examples
+pub mod CountExamples

@@ -4,10 +4,12 @@
 
 pub mod arrival;
 pub mod checked_examples;
+pub mod counts;
 pub mod examples;
 pub mod forgetting;
 pub mod ledger;
 pub mod machine;
 pub mod needs;
+pub mod places;
 pub mod runs;
 pub mod sound_processes;

@@ -1,8 +1,9 @@
 -- The cells of a system by their kinds: those that are not finalised, and those that stand at places with types.
-use Rattle.std.specs.Prelude.{ℕ, List, [], ◌∷◌, ◌++◌, map, flat_map, Bool, false, ◌&&◌, nat_eq, Option, Some, None, slice_get, option_map}
+use Rattle.std.specs.Prelude.{ℕ, List, [], ◌∷◌, ◌++◌, flat_map, Bool, false, ◌&&◌, nat_eq, Option, slice_get, option_map}
 use Rattle.herm_model.specs.Lists.{list_of, numbered, some_of}
-use Rattle.herm_model.specs.Types.{TypeTable, Shape, fields, cases, rows, polymorph, callmessage}
-use Rattle.herm_model.specs.Values.{Name, Kind, a_variant, a_polymorph, a_callmessage, an_inport, Cell, cell, Parts, no_parts, gap, part}
+use Rattle.herm_model.specs.Types.{TypeTable}
+use Rattle.herm_model.specs.Values.{Name, Kind, a_callmessage, an_inport, Cell, cell, Parts, no_parts, gap, part}
+pub use Rattle.herm_journal.specs.PartTypes.{PartTypes, each, all_of, part_types, part_types_at}
 use Rattle.herm_journal.specs.Places.{Port, left_in, Replies}
 use Rattle.herm_journal.specs.Messages.{CellReply, cells_in, message_of_port, types_of_reply}
 use Rattle.herm_system.specs.Machines.{Held, OpenCall, Machine}
@@ -28,23 +29,6 @@ unfinalised machine s =
     kinds_of console_port ++ flat_map (kinds_by machine) s.processes
     ++ flat_map (λ (p : Port (Cell Name)). flat_map kinds_of (left_in p)) s.ports
     ++ flat_map (λ (rs : Replies (CellReply Name)). flat_map (λ r. flat_map kinds_of (cells_in r.1)) rs) s.replies
-
--- the types of a cell's parts: one for each place, or one for all
-pub data PartTypes : Type 0 where
-  each : List ℕ → PartTypes
-  all_of : ℕ → PartTypes
-
-abbrev pub part_types : Shape → Kind → PartTypes
-part_types (fields ts) k = each ts
-part_types (cases ts) (a_variant c) = each (list_of (λ t. t ∷ []) (slice_get ts c))
-part_types (rows row key) k = all_of row
-part_types polymorph (a_polymorph t) = each (t ∷ [])
-part_types (callmessage parameters raises) k = each (map (λ p. p.content) parameters)
-part_types s k = each []
-
-abbrev pub part_types_at : Option Shape → Kind → PartTypes
-part_types_at None k = each []
-part_types_at (Some s) k = part_types s k
 
 -- the kinds of a value's cells, each with the type of its place
 abbrev mutual

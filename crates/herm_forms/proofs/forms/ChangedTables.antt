@@ -23,7 +23,7 @@ module _ {N : Type 0} where
   changed [] g c = g c
   changed (k ∷ r) g c = change_readable (change_from (k ∷ r) g) c
 
-  from-changed : (j : ℕ) (r : Path) (g : Cell N → Cell N) (i : ℕ) (ps : Parts N) → change_from (j ∷ r) g i ps ≡ change_behind i j (changed r g) ps
+  pub from-changed : (j : ℕ) (r : Path) (g : Cell N → Cell N) (i : ℕ) (ps : Parts N) → change_from (j ∷ r) g i ps ≡ change_behind i j (changed r g) ps
   from-changed j [] g i ps = refl
   from-changed j (k ∷ r) g i ps = refl
 

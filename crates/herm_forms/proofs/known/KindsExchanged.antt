@@ -1,5 +1,5 @@
 -- What a process wants of a place is of the kinds that its cells are of, and what comes in keeps them.
-use Rattle.std.proofs.Common.{ℕ, suc, ◌+◌, List, [], ◌∷◌, Option, Some, None, option_map, option_and_then}
+use Rattle.std.proofs.Common.{◌≡◌, refl, ℕ, suc, ◌+◌, List, [], ◌∷◌, Option, Some, None, option_map, option_and_then}
 use Rattle.std.specs.Prelude.{⊤, nat_eq, flat_map, map}
 use Rattle.herm_model.specs.Paths.{Path}
 use Rattle.herm_model.specs.Types.{Mode, by_in, by_inout, by_out, Parameter}
@@ -22,6 +22,19 @@ use Rattle.herm_forms.specs.Acts.{wants, arguments_at, is_inout, is_out, input_o
 use Rattle.herm_journal.specs.Kinds.{HasKinds, HaveKinds, AllKinds, IfWant, AllPorts, ReplyKinds, ActionKinds}
 use Rattle.herm_forms.proofs.known.HeldKinds.{IfKinds, cell-kinds, read-kinds, copy-kinds_in}
 use Rattle.herm_forms.proofs.known.KindsKept.{AllowsPlain, IfParts, GivesKinds, BodyKinds, atom-kinds, All, went, stayed, never, is-all, is-end, is-cleared, is-drop, all-cond, all-there, all-putting, all-putting_all, all-taking, all-moving, all-making, IfInport, inport-kinds}
+
+-- an argument in front of more
+module _ (of : Kind → Type 0) where
+  map-inputs : (v : Cell ⊤) (o : Option (Parts ⊤)) → HasKinds of v → IfParts of o → IfParts of (option_map (part v) o)
+  map-inputs v None h k = tt
+  map-inputs v (Some ps) h k = (h, k)
+
+  pub inputs-from : (mode : Mode) (v : Evaluated) (more : Option (Parts ⊤)) → (mode ≡ by_in → GivesKinds of v) → IfParts of more → IfParts of (input_of mode v more)
+  inputs-from by_in (gives v) more h k = map-inputs v more (h refl) k
+  inputs-from by_in (raises e) more h k = tt
+  inputs-from by_in no_value more h k = tt
+  inputs-from by_inout v more h k = k
+  inputs-from by_out v more h k = k
 
 module _ {N : Type 0} (name : Name → N) (of : Kind → Type 0) (allows : AllowsPlain of) where
   -- what was taken out of paths, and a composed callmessage
@@ -69,21 +82,10 @@ module _ {N : Type 0} (name : Name → N) (of : Kind → Type 0) (allows : Allow
       compose-taken modes (copy_in (λ s. name (b.number, s)) b.serial inputs) (take_all moved (drop lost (record b { serial = b.serial + count_in inputs }))) (copy-kinds_in of (λ s. name (b.number, s)) b.serial inputs h)
       (take-all moved (drop lost (record b { serial = b.serial + count_in inputs })) (is-drop name of allows lost (record b { serial = b.serial + count_in inputs }) e))
 
-  map-inputs : (v : Cell ⊤) (o : Option (Parts ⊤)) → HasKinds of v → IfParts of o → IfParts of (option_map (part v) o)
-  map-inputs v None h k = tt
-  map-inputs v (Some ps) h k = (h, k)
-
-  input-kinds : (mode : Mode) (v : Evaluated) (more : Option (Parts ⊤)) → GivesKinds of v → IfParts of more → IfParts of (input_of mode v more)
-  input-kinds by_in (gives v) more h k = map-inputs v more h k
-  input-kinds by_in (raises e) more h k = tt
-  input-kinds by_in no_value more h k = tt
-  input-kinds by_inout v more h k = k
-  input-kinds by_out v more h k = k
-
   inputs-kinds : (parameters : List Parameter) (atoms : List Atom) (ps : Parts N) → HaveKinds of ps → IfParts of (inputs_of parameters atoms ps)
   inputs-kinds [] atoms ps h = tt
   inputs-kinds (p ∷ parameters) [] ps h = tt
-  inputs-kinds (p ∷ parameters) (a ∷ atoms) ps h = input-kinds p.mode (atom_value ps a) (inputs_of parameters atoms ps) (atom-kinds of allows ps a h) (inputs-kinds parameters atoms ps h)
+  inputs-kinds (p ∷ parameters) (a ∷ atoms) ps h = inputs-from of p.mode (atom_value ps a) (inputs_of parameters atoms ps) (λ is. atom-kinds of allows ps a h) (inputs-kinds parameters atoms ps h)
 
   composed-inputs : (f : Parts ⊤ → Option (Composed N)) (o : Option (Parts ⊤)) → IfParts of o → ((ps : Parts ⊤) → HaveKinds of ps → IfComposed (f ps)) → IfComposed (option_and_then f o)
   composed-inputs f None h on = tt

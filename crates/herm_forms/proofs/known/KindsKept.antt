@@ -1,5 +1,5 @@
 -- A process's cells are of kinds that local steps keep.
-use Rattle.std.proofs.Common.{ℕ, suc, ◌+◌, List, [], ◌∷◌, ◌++◌, Bool, true, false, cond, Option, Some, None}
+use Rattle.std.proofs.Common.{◌≡◌, refl, subst, ℕ, suc, ◌+◌, List, [], ◌∷◌, ◌++◌, Bool, true, false, cond, Option, Some, None}
 use Rattle.std.specs.Prelude.{length, ℤ, pos, nat_eq, nat_lt, nat_le, filter, not, ◌&&◌, ◌||◌, ◌+ℤ◌, ◌-ℤ◌, ◌*ℤ◌, neg_ℤ, int_lt, int_le, int_div, int_rem}
 use Rattle.herm_model.specs.Paths.{Path}
 use Rattle.herm_model.specs.Types.{Shape, fields, rows, type_at}
@@ -9,7 +9,7 @@ use Rattle.herm_model.specs.Expressions.{Operator, either, both, equal, unequal,
 use Rattle.herm_model.specs.Calls.{shape_at}
 use Rattle.herm_model.specs.Nodes.{Target}
 use Rattle.herm_model.specs.Finalising.{excess, pending, pending_in}
-use Rattle.herm_model.specs.Values.{has_place, Scalar, a_boolean, an_integer, a_text, Kind, a_scalar, a_record, a_variant, a_table, a_polymorph, a_callmessage, an_outport, an_inport, Cell, cell, Parts, no_parts, gap, part, part_at, parts_of, size, has_value, cell_at, read_at, put_at, copy_from, copy_in, count, count_in, polymorph_depth, Value}
+use Rattle.herm_model.specs.Values.{has_place, Scalar, a_boolean, an_integer, a_text, Kind, a_scalar, a_record, a_variant, a_table, a_polymorph, a_callmessage, an_outport, an_inport, Cell, cell, Parts, no_parts, gap, part, part_at, parts_of, size, has_value, cell_at, read_at, put_at, copy_from, copy_in, count, count_in, polymorph_depth, Value, forget}
 use Rattle.herm_model.specs.Tables.{has_key, key_of, place_of_key, without_part, same_integer, same_scalar}
 use Rattle.herm_model.specs.Texts.{signed_numeral}
 use Rattle.herm_model.specs.Typed.{greatest_rows, greatest_polymorph, is_integer, greatest_text}
@@ -41,74 +41,82 @@ abbrev pub LoopKinds : {N : Type 0} → (Kind → Type 0) → List (Loop N) → 
 LoopKinds of [] = Unit {0}
 LoopKinds of (l ∷ loops) = HaveKinds of l.rows × LoopKinds of loops
 
+-- the value that an expression gives has the property
+abbrev pub Gives : (Value → Type 0) → Evaluated → Type 0
+Gives Of (gives v) = Of v
+Gives Of (raises e) = Unit {0}
+Gives Of no_value = Unit {0}
+
 abbrev pub GivesKinds : (Kind → Type 0) → Evaluated → Type 0
-GivesKinds of (gives v) = HasKinds of v
-GivesKinds of (raises e) = Unit {0}
-GivesKinds of no_value = Unit {0}
+GivesKinds of = Gives (HasKinds of)
 
 -- a body's cells are of the kinds, and callmessages of its own are allowed
 abbrev pub BodyKinds : {N : Type 0} → (Kind → Type 0) → Body N → Type 0
 BodyKinds of b = HaveKinds of b.variables × LoopKinds of b.loops × AllKinds of b.work × ((call : ℕ) → of (a_callmessage b.number call))
 
+pub value-given : {N : Type 0} (Of : Value → Type 0) (o : Option (Cell N)) → ((d : Cell N) → o ≡ Some d → Of (forget d)) → Gives Of (value_there o)
+value-given Of None h = tt
+value-given Of (Some d) h = h d refl
+
 -- what expressions give
-module _ (of : Kind → Type 0) (allows : AllowsPlain of) where
-  gives-cond : (b : Bool) (x y : Evaluated) → GivesKinds of x → GivesKinds of y → GivesKinds of (cond b x y)
+module _ (Of : Value → Type 0) (scalars : (s : Scalar) → Of (Evaluate.scalar_value s)) where
+  gives-cond : (b : Bool) (x y : Evaluated) → Gives Of x → Gives Of y → Gives Of (cond b x y)
   gives-cond true x y h k = h
   gives-cond false x y h k = k
 
-  scalar-given : (s : Scalar) → GivesKinds of (gives_scalar s)
-  scalar-given s = (allows.scalars s, tt)
+  scalar-given : (s : Scalar) → Gives Of (gives_scalar s)
+  scalar-given s = scalars s
 
-  scalar-then : {N : Type 0} (f : Scalar → Evaluated) (c : Cell N) → ((s : Scalar) → GivesKinds of (f s)) → GivesKinds of (scalar_then f c)
+  scalar-then : {N : Type 0} (f : Scalar → Evaluated) (c : Cell N) → ((s : Scalar) → Gives Of (f s)) → Gives Of (scalar_then f c)
   scalar-then f (cell n (a_scalar s) ps) on = on s
   scalar-then f (cell n k ps) on = tt
 
-  one-then : (f : Scalar → Evaluated) (x : Evaluated) → ((s : Scalar) → GivesKinds of (f s)) → GivesKinds of (one_then f x)
+  one-then : (f : Scalar → Evaluated) (x : Evaluated) → ((s : Scalar) → Gives Of (f s)) → Gives Of (one_then f x)
   one-then f (gives v) on = scalar-then f v on
   one-then f (raises e) on = tt
   one-then f no_value on = tt
 
-  two-then : (f : Scalar → Scalar → Evaluated) (x y : Evaluated) → ((s t : Scalar) → GivesKinds of (f s t)) → GivesKinds of (two_then f x y)
+  two-then : (f : Scalar → Scalar → Evaluated) (x y : Evaluated) → ((s t : Scalar) → Gives Of (f s t)) → Gives Of (two_then f x y)
   two-then f (gives v) y on = scalar-then (λ s. one_then (f s) y) v (λ s. one-then (f s) y (on s))
   two-then f (raises e) y on = tt
   two-then f no_value y on = tt
 
-  boolean-then : (f : Bool → Evaluated) (s : Scalar) → ((b : Bool) → GivesKinds of (f b)) → GivesKinds of (boolean_then f s)
+  boolean-then : (f : Bool → Evaluated) (s : Scalar) → ((b : Bool) → Gives Of (f b)) → Gives Of (boolean_then f s)
   boolean-then f (a_boolean b) on = on b
   boolean-then f s on = tt
 
-  integer-then : (f : ℤ → Evaluated) (s : Scalar) → ((z : ℤ) → GivesKinds of (f z)) → GivesKinds of (integer_then f s)
+  integer-then : (f : ℤ → Evaluated) (s : Scalar) → ((z : ℤ) → Gives Of (f z)) → Gives Of (integer_then f s)
   integer-then f (an_integer z) on = on z
   integer-then f s on = tt
 
-  text-then : (f : List ℕ → Evaluated) (s : Scalar) → ((t : List ℕ) → GivesKinds of (f t)) → GivesKinds of (text_then f s)
+  text-then : (f : List ℕ → Evaluated) (s : Scalar) → ((t : List ℕ) → Gives Of (f t)) → Gives Of (text_then f s)
   text-then f (a_text t) on = on t
   text-then f s on = tt
 
-  within-bits : (z : ℤ) → GivesKinds of (within_bits z)
+  within-bits : (z : ℤ) → Gives Of (within_bits z)
   within-bits z = gives-cond (is_integer z) (gives_scalar (an_integer z)) (raises overflow) (scalar-given (an_integer z)) tt
 
-  within-length : (t : List ℕ) → GivesKinds of (within_length t)
+  within-length : (t : List ℕ) → Gives Of (within_length t)
   within-length t = gives-cond (nat_le (length t) greatest_text) (gives_scalar (a_text t)) (raises depletion) (scalar-given (a_text t)) tt
 
-  by-divisor : (f : ℤ → ℤ → ℤ) (y z : ℤ) → GivesKinds of (by_divisor f y z)
+  by-divisor : (f : ℤ → ℤ → ℤ) (y z : ℤ) → Gives Of (by_divisor f y z)
   by-divisor f y z = gives-cond (same_integer z (pos 0)) (raises overflow) (within_bits (f y z)) tt (within-bits (f y z))
 
-  on-compared : (f : ℤ → ℤ → Bool) (g : List ℕ → List ℕ → Bool) (s t : Scalar) → GivesKinds of (compared f g s t)
+  on-compared : (f : ℤ → ℤ → Bool) (g : List ℕ → List ℕ → Bool) (s t : Scalar) → Gives Of (compared f g s t)
   on-compared f g (an_integer y) t = integer-then (λ z. gives_boolean (f y z)) t (λ z. scalar-given (a_boolean (f y z)))
   on-compared f g (a_text u) t = text-then (λ v. gives_boolean (g u v)) t (λ v. scalar-given (a_boolean (g u v)))
   on-compared f g s t = tt
 
-  booleans-given : (f : Bool → Bool → Bool) (s t : Scalar) → GivesKinds of (on_booleans f s t)
+  booleans-given : (f : Bool → Bool → Bool) (s t : Scalar) → Gives Of (on_booleans f s t)
   booleans-given f s t = boolean-then (λ a. boolean_then (λ b. gives_boolean (f a b)) t) s (λ a. boolean-then (λ b. gives_boolean (f a b)) t (λ b. scalar-given (a_boolean (f a b))))
 
-  integers-given : (f : ℤ → ℤ → Evaluated) (s t : Scalar) → ((y z : ℤ) → GivesKinds of (f y z)) → GivesKinds of (on_integers f s t)
+  integers-given : (f : ℤ → ℤ → Evaluated) (s t : Scalar) → ((y z : ℤ) → Gives Of (f y z)) → Gives Of (on_integers f s t)
   integers-given f s t on = integer-then (λ y. integer_then (f y) t) s (λ y. integer-then (f y) t (on y))
 
-  texts-given : (f : List ℕ → List ℕ → Evaluated) (s t : Scalar) → ((u v : List ℕ) → GivesKinds of (f u v)) → GivesKinds of (on_texts f s t)
+  texts-given : (f : List ℕ → List ℕ → Evaluated) (s t : Scalar) → ((u v : List ℕ) → Gives Of (f u v)) → Gives Of (on_texts f s t)
   texts-given f s t on = text-then (λ u. text_then (f u) t) s (λ u. text-then (f u) t (on u))
 
-  operated : (o : Operator) (s t : Scalar) → GivesKinds of (operate o s t)
+  operated : (o : Operator) (s t : Scalar) → Gives Of (operate o s t)
   operated either s t = booleans-given ◌||◌ s t
   operated both s t = booleans-given ◌&&◌ s t
   operated equal s t = scalar-given (a_boolean (same_scalar s t))
@@ -124,28 +132,45 @@ module _ (of : Kind → Type 0) (allows : AllowsPlain of) where
   operated modulo s t = integers-given (by_divisor int_rem) s t (by-divisor int_rem)
   operated concatenated s t = texts-given (λ u v. within_length (u ++ v)) s t (λ u v. within-length (u ++ v))
 
-  value-kinds : {N : Type 0} (o : Option (Cell N)) → IfKinds of o → GivesKinds of (value_there o)
-  value-kinds None h = tt
-  value-kinds (Some c) h = renamed-kinds of (λ n. tt) c h
-
-  rows-kinds : {N : Type 0} (o : Option (Cell N)) → GivesKinds of (rows_there o)
+  rows-kinds : {N : Type 0} (o : Option (Cell N)) → Gives Of (rows_there o)
   rows-kinds None = tt
   rows-kinds (Some (cell n a_table ps)) = scalar-given _
   rows-kinds (Some (cell n k ps)) = tt
 
+  -- what an expression gives that copies only such cells
+  pub evaluate-from : {N : Type 0} (ps : Parts N) (e : Expression) → ((p : Path) → e ≡ copy p → (d : Cell N) → read_at p ps ≡ Some d → Of (forget d)) → Gives Of (evaluate ps e)
+  evaluate-from ps (literal l) h = scalar-given _
+  evaluate-from ps (copy p) h = value-given Of (read_at p ps) (h p refl)
+  evaluate-from ps (negated e) h = one-then _ (evaluate ps e) (λ s. integer-then _ s (λ z. within-bits (neg_ℤ z)))
+  evaluate-from ps (inverted e) h = one-then _ (evaluate ps e) (λ s. boolean-then _ s (λ b. scalar-given (a_boolean (not b))))
+  evaluate-from ps (operation o x y) h = two-then (operate o) (evaluate ps x) (evaluate ps y) (operated o)
+  evaluate-from ps (Expression.size_of p) h = rows-kinds (read_at p ps)
+  evaluate-from ps (decimal e) h = one-then _ (evaluate ps e) (λ s. integer-then _ s (λ z. scalar-given (a_text (signed_numeral z))))
+  evaluate-from ps (length_of e) h = one-then _ (evaluate ps e) (λ s. text-then _ s (λ t. scalar-given (an_integer (pos (length t)))))
+
+  pub atom-from : {N : Type 0} (ps : Parts N) (a : Atom) → ((p : Path) → a ≡ path p → (d : Cell N) → read_at p ps ≡ Some d → Of (forget d)) → Gives Of (atom_value ps a)
+  atom-from ps (Atom.literal l) h = scalar-given _
+  atom-from ps (path p) h = value-given Of (read_at p ps) (h p refl)
+
+-- of kinds
+module _ (of : Kind → Type 0) (allows : AllowsPlain of) where
+  scalar-kinds : (s : Scalar) → HasKinds of (Evaluate.scalar_value s)
+  scalar-kinds s = (allows.scalars s, tt)
+
+  copied-kinds : {N : Type 0} (o : Option (Cell N)) → IfKinds of o → (d : Cell N) → o ≡ Some d → HasKinds of (forget d)
+  copied-kinds o h d is = renamed-kinds of (λ n. tt) d (subst (IfKinds of) is h)
+
+  pub evaluate-kinds_from : {N : Type 0} (ps : Parts N) (e : Expression) → ((p : Path) → e ≡ copy p → IfKinds of (read_at p ps)) → GivesKinds of (evaluate ps e)
+  evaluate-kinds_from ps e h = evaluate-from (HasKinds of) scalar-kinds ps e (λ p is. copied-kinds (read_at p ps) (h p is))
+
   evaluate-kinds : {N : Type 0} (ps : Parts N) (e : Expression) → HaveKinds of ps → GivesKinds of (evaluate ps e)
-  evaluate-kinds ps (literal l) h = scalar-given _
-  evaluate-kinds ps (copy p) h = value-kinds (read_at p ps) (read-kinds of p ps h)
-  evaluate-kinds ps (negated e) h = one-then _ (evaluate ps e) (λ s. integer-then _ s (λ z. within-bits (neg_ℤ z)))
-  evaluate-kinds ps (inverted e) h = one-then _ (evaluate ps e) (λ s. boolean-then _ s (λ b. scalar-given (a_boolean (not b))))
-  evaluate-kinds ps (operation o x y) h = two-then (operate o) (evaluate ps x) (evaluate ps y) (operated o)
-  evaluate-kinds ps (Expression.size_of p) h = rows-kinds (read_at p ps)
-  evaluate-kinds ps (decimal e) h = one-then _ (evaluate ps e) (λ s. integer-then _ s (λ z. scalar-given (a_text (signed_numeral z))))
-  evaluate-kinds ps (length_of e) h = one-then _ (evaluate ps e) (λ s. text-then _ s (λ t. scalar-given (an_integer (pos (length t)))))
+  evaluate-kinds ps e h = evaluate-kinds_from ps e (λ p is. read-kinds of p ps h)
+
+  pub atom-kinds_from : {N : Type 0} (ps : Parts N) (a : Atom) → ((p : Path) → a ≡ path p → IfKinds of (read_at p ps)) → GivesKinds of (atom_value ps a)
+  atom-kinds_from ps a h = atom-from (HasKinds of) scalar-kinds ps a (λ p is. copied-kinds (read_at p ps) (h p is))
 
   pub atom-kinds : {N : Type 0} (ps : Parts N) (a : Atom) → HaveKinds of ps → GivesKinds of (atom_value ps a)
-  atom-kinds ps (Atom.literal l) h = scalar-given _
-  atom-kinds ps (path p) h = value-kinds (read_at p ps) (read-kinds of p ps h)
+  atom-kinds ps a h = atom-kinds_from ps a (λ p is. read-kinds of p ps h)
 
 module _ {N : Type 0} (name : Name → N) (of : Kind → Type 0) (allows : AllowsPlain of) where
   -- the result's body is of the kinds, if it has a body

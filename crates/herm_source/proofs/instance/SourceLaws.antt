@@ -25,14 +25,14 @@ use Rattle.herm_source.proofs.instance.HeldValues.{weigh-values, values-are, are
 
 -- a number and a module that stay
 module _ (modules : Modules) where
-  local-code : (x y : State Name) → option_and_then (λ c. local_step own_name c x) (code_at modules x) ≡ Some y → (c : Code) × (code_at modules x ≡ Some c) × (local_step own_name c x ≡ Some y)
+  pub local-code : (x y : State Name) → option_and_then (λ c. local_step own_name c x) (code_at modules x) ≡ Some y → (c : Code) × (code_at modules x ≡ Some c) × (local_step own_name c x ≡ Some y)
   local-code x y e = chain-some (λ c. local_step own_name c x) (code_at modules x) y e
 
-  answer-code : (x y : State Name) (at : ℕ) (a : CellAction Name) → option_and_then (λ c. answered own_name c x at a) (code_at modules x) ≡ Some y → (c : Code) × (code_at modules x ≡ Some c) × (answered own_name c x at a ≡ Some y)
+  pub answer-code : (x y : State Name) (at : ℕ) (a : CellAction Name) → option_and_then (λ c. answered own_name c x at a) (code_at modules x) ≡ Some y → (c : Code) × (code_at modules x ≡ Some c) × (answered own_name c x at a ≡ Some y)
   answer-code x y at a e = chain-some (λ c. answered own_name c x at a) (code_at modules x) y e
 
   -- the same module afterwards
-  code-stays : (x y : State Name) (c : Code) → code_at modules x ≡ Some c → y.code ≡ x.code → code_at modules y ≡ Some c
+  pub code-stays : (x y : State Name) (c : Code) → code_at modules x ≡ Some c → y.code ≡ x.code → code_at modules y ≡ Some c
   code-stays x y c is same = ap (slice_get modules.codes) same ∙ is
 
   pub source-keeps-numbers : KeepsNumbers (source modules)

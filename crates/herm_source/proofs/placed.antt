@@ -1,0 +1,3 @@
+-- What cells a process holds at places with types.
+pub mod TypedPlaces
+pub mod PlacedSteps
