@@ -1,5 +1,6 @@
 pub mod Choices
 pub mod TokenFacts
+pub mod PhaseLaws
 pub mod GivesLaws
 pub mod StripLaws
 pub mod ReadingLaws

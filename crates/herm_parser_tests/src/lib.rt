@@ -2,8 +2,12 @@
 #![tactic(auto)]
 
 #[cfg(test)]
-mod expressions;
+mod brackets;
+#[cfg(test)]
+mod faults;
 #[cfg(test)]
 mod shape;
 #[cfg(test)]
 mod text;
+#[cfg(test)]
+mod trees;

@@ -298,8 +298,9 @@ fn put_module(alloc: Global, out: &mut String, module: &Module) -> Put {
         } => {
             out.push_str("P ")?;
             put_name(out, name)?;
-            put_fields(out, &[])?;
+            out.push('(')?;
             put_field(out, port)?;
+            out.push(')')?;
             put_fields(out, vars)?;
             put_block(alloc, out, body)
         }
