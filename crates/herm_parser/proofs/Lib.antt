@@ -6,4 +6,5 @@ pub mod Choosing
 pub mod SeenForms
 pub mod Bodies
 pub mod Turns
+pub mod Numbered
 pub mod Whole
