@@ -8,3 +8,4 @@ pub mod Bodies
 pub mod Turns
 pub mod Numbered
 pub mod Whole
+pub mod OneAnswer
