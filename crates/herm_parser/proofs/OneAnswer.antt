@@ -1,5 +1,5 @@
 -- The answers for one list of tokens exclude one another, and each has one place.
-use Rattle.std.proofs.Common.{◌≡◌, ◌≢◌, ℕ, suc, ◌+◌, ◌<◌, ◌≤◌, List, [], ◌∷◌, ◌++◌, map, length, refl, sym, ap, ◌∙◌, arith, append_assoc, length-append, ⊎_elim}
+use Rattle.std.proofs.Common.{◌≡◌, ℕ, ◌<◌, ◌≤◌, List, [], ◌∷◌, ◌++◌, map, length, refl, sym, ap, ◌∙◌, arith, append_assoc, length-append, ⊎_elim}
 use Rattle.std.proofs.lemmas.Bool.{cases_lt}
 use Rattle.herm_readers.specs.Brackets.{IsTooDeep, IsWithin}
 use Rattle.herm_readers.proofs.Nesting.{finds_within}
@@ -8,7 +8,7 @@ use Rattle.herm_syntax.specs.Symbols.{Symbol, side}
 use Rattle.herm_syntax.specs.Views.{module_of}
 use Rattle.herm_syntax.proofs.Numbers.{one_program}
 use Rattle.herm_parser.specs.Gives.{kinds}
-use Rattle.herm_parser.specs.Parsing.{most_brackets, place_of, IsParsed, IsNested, IsMisspelled, IsFault}
+use Rattle.herm_parser.specs.Parsing.{most_brackets, place_of, IsNested, IsMisspelled}
 use Rattle.herm_parser.specs.Laws.{HasOneParse, ParsedHasNoFault, HasOneFault}
 use Rattle.herm_parser.specs.declared.fault.ParseFault.TheVariants.{Syntax, Nesting, Memory}
 

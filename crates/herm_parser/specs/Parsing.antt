@@ -36,7 +36,7 @@ place_of tokens (suc left) = start_of (drop (length tokens - suc left) tokens)
 
 -- The modules are a program with these tokens: they spell the tokens' kinds, no bracket is open too many, each name stands at
 -- its token's place, and each statement has the next number of its process, begins at its first token and ends at its last.
--- So any two are equal, their numbers with them (Language reference, "One tree").
+-- Any two have the same trees and numbers (`HasOneParse`; Language reference, "One tree").
 pub record IsParsed (tokens : List Token) (modules : List Module) : Type 0 where
   pub within : IsWithinRoom most_brackets (kinds tokens)
   pub program : IsProgram modules
