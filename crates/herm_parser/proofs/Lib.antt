@@ -6,4 +6,6 @@ pub mod Choosing
 pub mod SeenForms
 pub mod Bodies
 pub mod Turns
+pub mod Numbered
 pub mod Whole
+pub mod OneAnswer

@@ -25,6 +25,7 @@ use Rattle.herm_parser.specs.Modules.{either_module, definitions_at, process_at,
 use Rattle.herm_parser.specs.Gives.{kinds}
 use Rattle.herm_parser.specs.Parsing.{most_brackets, place_of, IsParsed, IsNested, IsMisspelled}
 use Rattle.herm_parser.proofs.Loops.{Goes, goes_by}
+use Rattle.herm_parser.proofs.Numbered.{file_numbered}
 
 module _ {A B : Type 0} (h : A ⊎ B → Module) (f : Reader Symbol A) (g : Reader Symbol B) where
   left : (answer : Answer Symbol A) → onward (onward answer (λ a rest. Read (inl a) rest)) (λ x rest. Read (h x) rest) ≡ onward (onward (onward answer (λ a rest. Read (h (inl a)) rest)) (λ s rest. Read (inl s) rest)) (λ x rest. Read (either_module x) rest)
@@ -68,7 +69,7 @@ parsed tokens rest modules depth deep within read along =
     let found = file_is_found most_brackets (kinds tokens) (kinds rest) (map views.module_of modules) whole in
     record {
       within = within;
-      is_file = found.0;
+      program = record { fits = found.0; numbered = file_numbered modules tokens rest along };
       spelled = found.1;
       along = along ∙ ap (λ (t : List Token). Some t) (no_kinds rest found.2);
     }

@@ -9,3 +9,4 @@ pub mod AlongDefinitions
 pub mod Shapes
 pub mod Modules
 pub mod Parsing
+pub mod Laws

@@ -8,7 +8,7 @@ use Rattle.herm_syntax.specs.Trees as trees
 use Rattle.herm_syntax.specs.Spelling.{file}
 use Rattle.herm_syntax.specs.Fitting.{IsFile}
 use Rattle.herm_syntax.specs.Views.{module_of}
-use Rattle.herm_syntax.specs.Laws.{IsWithinRoom, BeginsFile}
+use Rattle.herm_syntax.specs.Laws.{IsWithinRoom, BeginsFile, IsProgram}
 use Rattle.herm_parser.specs.Along.{past_each}
 use Rattle.herm_parser.specs.AlongDefinitions.{past_module}
 use Rattle.herm_parser.specs.Gives.{kinds}
@@ -34,11 +34,12 @@ abbrev pub place_of : List Token → ℕ → ℕ
 place_of tokens zero = end_first (drop (length tokens - 1) tokens)
 place_of tokens (suc left) = start_of (drop (length tokens - suc left) tokens)
 
--- The modules are a file with these tokens: they spell the tokens' kinds, no bracket is open too many, each name stands at
+-- The modules are a program with these tokens: they spell the tokens' kinds, no bracket is open too many, each name stands at
 -- its token's place, and each statement has the next number of its process, begins at its first token and ends at its last.
+-- Any two have the same trees and numbers (`HasOneParse`; Language reference, "One tree").
 pub record IsParsed (tokens : List Token) (modules : List Module) : Type 0 where
   pub within : IsWithinRoom most_brackets (kinds tokens)
-  pub is_file : IsFile (map module_of modules)
+  pub program : IsProgram modules
   pub spelled : kinds tokens ≡ file (map module_of modules)
   pub along : past_each past_module modules tokens ≡ Some []
 

@@ -7,6 +7,7 @@ mod definitions;
 mod expressions;
 mod fault;
 mod forms;
+mod laws;
 mod modules;
 mod operators;
 mod parser;
@@ -16,4 +17,5 @@ mod stop;
 mod tokens;
 
 pub use fault::ParseFault;
+pub use laws::has_one_answer;
 pub use parser::parse;
