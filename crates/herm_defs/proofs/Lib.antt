@@ -1,8 +1,0 @@
-pub mod Finding
-pub mod Keeping
-pub mod Gathering
-pub mod Reaching
-pub mod Counting
-pub mod Relations
-pub mod Meeting
-pub mod Copying

@@ -1,7 +1,0 @@
-use Rattle.std.proofs.Common.{◌∙◌}
-use Rattle.herm_types.specs.Chosen.{lists}
-use Rattle.herm_defs.proofs.Copying.{copyable-exact}
-use Rattle.herm_defs.proofs.context.copyable_of.Goals as goal
-
-pub returns : goal.returns
-returns c = copyable-exact c.args.shapes.now c.as_slice.result.now c.in_ok-copyable.copyable.items (lists c.args.composed.now) (c.as_slice.ensures.value ∙ c.in_ok-may.ensures) c.requires.composed c.in_ok-copyable.ensures

@@ -1,2 +1,0 @@
--- How contracts see what is known where a statement stands.
-pub mod View
