@@ -45,7 +45,9 @@ impl Word {
     pub fn from_vec(bytes: Vec<u8>) -> Word
         ensures bytes { result ≡ bytes.items }
     {
-        Word { bytes: SmallVec::from_vec(bytes) }
+        Word {
+            bytes: SmallVec::from_vec(bytes),
+        }
     }
 
     pub fn bytes(&self) -> &[u8]
