@@ -82,7 +82,7 @@ module _ (name : Name → Name) (c : Code) (steps actions : ℕ) (b : Body Name)
   pub puts-same : (form : Form) → Puts form
   puts-same (Send x o) e = ap (λ (d : Body Name). option_and_then (λ port. option_map (to_put port) (cell_at x d.variables)) (outport_at o b)) (recount-drop steps actions (beyond_declared c o x b) b) ∙ e
   puts-same (Call o arguments) e =
-      ap (λ x. option_and_then (λ port. option_map (put-in port) x) (outport_at o b)) (recount-composed (λ _. 0) name 0 0 steps actions c o arguments b)
+      ap (λ x. option_and_then (λ port. option_map (put-in port) x) (outport_at o b)) (recount-composed (λ _. 0) (λ _. 0) name (λ k h. refl) 0 0 steps actions c o arguments b)
       ∙ called-same (composed name c o arguments b) (outport_at o b) ∙ e
   puts-same (New x) e = e
   puts-same (Create o process) e = e
