@@ -10,7 +10,7 @@ use Rattle.herm_model.specs.Statements as statements
 use Rattle.herm_model.specs.Statements.{Differ}
 use Rattle.herm_model.specs.WellFormedTables.{IsType}
 use Rattle.herm_model.specs.TypedStatements.{AreApart}
-use Rattle.herm_model.specs.TableTests.{are_different}
+use Rattle.herm_model.specs.tests.TableTests.{are_different}
 use Rattle.herm_model.proofs.Lists.{not_true, and-both, or-either, or-left, or-right, every-in, in-map_from, slice_get-map}
 use Rattle.herm_model.proofs.Options.{none-not_some, map-some}
 use Rattle.herm_model.proofs.FactTests.{got-IsIn}

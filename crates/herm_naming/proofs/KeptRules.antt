@@ -12,7 +12,7 @@ use Rattle.herm_model.specs.Statements as model
 use Rattle.herm_model.specs.Statements.{Differ, IsWellFormed, IsWellFormedBlock, AreWellFormed, AreWellFormedHandlers, count_blocks}
 use Rattle.herm_model.specs.TypedStatements.{AreApart, port_type, IsTypedForm}
 use Rattle.herm_model.specs.TypedPrograms.{handled, HasArms, HasHandlers, HasDifferentHandlers, HandlesKnown, LeavesLoop}
-use Rattle.herm_model.specs.TableTests.{are_different}
+use Rattle.herm_model.specs.tests.TableTests.{are_different}
 use Rattle.herm_model.specs.WellFormedTables.{IsType}
 use Rattle.herm_model.proofs.Lists.{not_true, and-both, every-in, in-map, in-append_left, in-append_right, length-map}
 use Rattle.herm_model.proofs.Deciding.{below-decides}

@@ -5,7 +5,7 @@ use Rattle.herm_model.specs.Paths.{Path}
 use Rattle.herm_model.specs.Types.{Parameter, TypeTable, Shape, boolean, integer, text, names, fields, cases, rows, callmessage, named_types, part_type, part_of, type_below, type_at, greatest_depth, IsCopyable, is_copyable_within}
 use Rattle.herm_model.specs.Expressions.{Literal, tag, Expression, literal, copy, negated, inverted, operation, size_of, decimal, length_of, Operator, either, both, equal, unequal, less, at_most, greater, at_least, plus, minus, times, divided, modulo, concatenated, paths_read}
 use Rattle.herm_model.specs.TypedExpressions.{is_boolean_shape, is_integer_shape, is_text_shape, takes, shape_given, HasShape, IsLiteralOf, IsPathOf, IsTyped}
-use Rattle.herm_model.specs.TypingTests.{number_of_shape}
+use Rattle.herm_model.specs.tests.TypingTests.{number_of_shape}
 use Rattle.herm_model.specs.WellFormedTables.{IsType, IsWellFormedTable}
 use Rattle.herm_model.proofs.Lists.{not_true, and-both, or-either, in-append_left, in-append_right}
 use Rattle.herm_model.proofs.Options.{none-not_some, map-some}

@@ -5,7 +5,7 @@ use Rattle.herm_model.specs.Lists.{every, some_of}
 use Rattle.herm_model.specs.Types.{Parameter, Shape, inport, all_parts, variable_paths}
 use Rattle.herm_model.specs.Calls.{call_parameters, is_returned}
 use Rattle.herm_model.specs.Statements.{numbers_of_block, Process}
-use Rattle.herm_model.specs.TableTests.{are_different}
+use Rattle.herm_model.specs.tests.TableTests.{are_different}
 use Rattle.herm_model.specs.TypedPrograms.{greatest_statements, greatest_variable_paths}
 use Rattle.herm_alphabet.specs.Letters.{keyword_of}
 use Rattle.herm_syntax.specs.Trees.{Letters, Path, Atom, Constant, Place, Transfer, Move, Unite, Dissolve, Wrap, Statement, TwoPaths, Unwrap, Call, Case, For, Select, If, While, Try, Statements, NoStatement, Further, Arms, NoArm, Arm, PortArms, NoPortArm, PortArm, Otherwise, NoElse, Else, Field}

@@ -7,7 +7,7 @@ use Rattle.herm_model.specs.Types.{Mode, by_in, by_inout, by_out, Parameter, Rai
 use Rattle.herm_model.specs.Typed.{is_integer, is_text}
 use Rattle.herm_model.specs.Expressions.{Literal, tag, Expression, literal, copy, negated, inverted, operation, size_of, decimal, length_of, Atom, path}
 use Rattle.herm_model.specs.TypedExpressions.{is_boolean_shape, is_integer_shape, is_text_shape, takes, shape_given, passes_out}
-use Rattle.herm_model.specs.TypingTests.{number_of_shape}
+use Rattle.herm_model.specs.tests.TypingTests.{number_of_shape}
 use Rattle.herm_model.specs.TypedStatements.{can_be_new}
 use Rattle.herm_model.specs.TypedPrograms.{is_some_block, is_some_handler}
 use Rattle.herm_model.specs.Statements.{Form, Assign, Move, New, Discard, Unite, Dissolve, Reveal, Case, Wrap, Unwrap, Insert, Remove, Get, For, Connect, Send, Receive, Select, Call, Return, ReturnBy, Create, If, While, Raise, Leave, Arm, Statement, simple, choosing, repeating, leaving, trying}
