@@ -79,3 +79,7 @@ AreFirstFaults number (bytes ∷ files) faults =
 -- Each file has trees: the first phase has no fault.
 abbrev pub HaveTrees : List (List ℕ) → Type 0
 HaveTrees files = AreFirstFaults 0 files []
+
+-- A file that has trees has no fault.
+abbrev pub TreesOrFault : Type 0
+TreesOrFault = (bytes : List ℕ) (fault : FileFault) → HasTrees bytes → HasFileFault bytes fault → ⊥

@@ -20,7 +20,7 @@ ghost use Rattle.herm_lexer.specs.Spelling.{HasTokens};
 ghost use Rattle.herm_compile.specs.Form.{IsOfForm, AreOfForm, IsFormBy, IsProgram, OneReading};
 ghost use Rattle.herm_compile.specs.Straight.{process_of, gaps};
 ghost use Rattle.herm_compile.specs.Seen.{seen};
-ghost use Rattle.herm_compile.specs.FirstPhase.{HasTrees, HaveTrees};
+ghost use Rattle.herm_compile.specs.FirstPhase.{HasTrees, HaveTrees, TreesOrFault};
 ghost use Rattle.herm_compile.specs.Refused.{IsRightly, IsLater, IfRefused, not_built, reported, starts};
 
 use check::gaps_of;
@@ -59,6 +59,11 @@ pub fn compile(alloc: Global, files: &[(Word, Vec<u8>)]) -> Result<Compiled, Com
 /// A file has one reading at most: its bytes are those of one list of names and lines.
 pub fn one_reading()
     ensures { OneReading }
+{}
+
+/// A file that has trees has no fault of the first phase.
+pub fn trees_or_fault()
+    ensures { TreesOrFault }
 {}
 
 /// Compiles files that all have trees.

@@ -9,14 +9,12 @@ use std::test::Fail;
 fn have_faults(rt: &impl Abort, alloc: Global, rows: &[&str]) -> Result<(), Fail> {
     for row in rows {
         let mut source = String::new(alloc);
-        let mut at = 0;
         let mut mark = 0;
         for byte in row.as_bytes() {
             if *byte == b'@' {
-                mark = at;
+                mark = source.len();
             } else {
                 source.push(*byte as char)?;
-                at += 1_u32;
             }
         }
         let expected = format!(in alloc; "F4 {mark}")?;

@@ -87,6 +87,11 @@ fn put_other(alloc: Global, out: &mut String, form: &StmtForm) -> Result<bool, A
     Ok(true)
 }
 
+fn put_head(out: &mut String, word: &str, name: &Name) -> Put {
+    out.push_str(word)?;
+    put_name(out, name)
+}
+
 #[cycle(shapes)]
 fn put_statement(alloc: Global, out: &mut String, s: &Stmt) -> Put {
     put_number(alloc, out, s.no.0)?;
@@ -97,7 +102,11 @@ fn put_statement(alloc: Global, out: &mut String, s: &Stmt) -> Put {
     match &s.form {
         StmtForm::Case(v, arms) => {
             put_paths(out, "Case", &[v])?;
-            put_arms(alloc, out, " when ", arms)
+            for (name, body) in arms {
+                put_head(out, " when ", name)?;
+                put_block(alloc, out, body)?;
+            }
+            Ok(())
         }
         StmtForm::For(r, t, body) => {
             put_paths(out, "For", &[r, t])?;
@@ -131,20 +140,14 @@ fn put_statement(alloc: Global, out: &mut String, s: &Stmt) -> Put {
         StmtForm::Try(body, handlers) => {
             out.push_str("Try")?;
             put_block(alloc, out, body)?;
-            put_arms(alloc, out, " on ", handlers)
+            for (name, body) in handlers {
+                put_head(out, " on ", name)?;
+                put_block(alloc, out, body)?;
+            }
+            Ok(())
         }
         _ => out.push('?'),
     }
-}
-
-#[cycle(shapes)]
-fn put_arms(alloc: Global, out: &mut String, word: &str, arms: &[(Name, Vec<Stmt>)]) -> Put {
-    for (name, body) in arms {
-        out.push_str(word)?;
-        put_name(out, name)?;
-        put_block(alloc, out, body)?;
-    }
-    Ok(())
 }
 
 #[cycle(shapes)]
