@@ -1,6 +1,5 @@
 pub mod Choices
 pub mod TokenFacts
-pub mod PhaseLaws
 pub mod GivesLaws
 pub mod StripLaws
 pub mod ReadingLaws

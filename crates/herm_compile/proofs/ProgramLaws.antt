@@ -1,5 +1,5 @@
 -- One list of tokens is one program, and a reader that stops is before no program.
-use Rattle.std.proofs.Common.{◌≡◌, arith, ℕ, ◌≤◌, true, false, eqb, List, [], ◌∷◌, ◌++◌, length, None, inl, inr, refl, sym, ap, subst, ◌∙◌, append_assoc, append-nil}
+use Rattle.std.proofs.Common.{◌≡◌, arith, ℕ, ◌≤◌, true, false, eqb, List, [], ◌∷◌, ◌++◌, length, None, refl, sym, ap, subst, ◌∙◌, append_assoc, append-nil}
 use Rattle.std.specs.List.{flat_map, AllByRecursion}
 use Rattle.std.proofs.lemmas.List.{append_cancel_left}
 use Rattle.std.proofs.lemmas.Bool.{eqb-true, eq-eqb}
@@ -7,11 +7,7 @@ use Rattle.std.specs.Prelude.{map}
 use Rattle.herm_model.specs.Types.{predefined}
 use Rattle.herm_model.specs.Refusals.{IsMissing, IsAccepted}
 use Rattle.herm_compile.specs.Straight.{process_of, gaps, refusal_of, IsStep}
-use Rattle.herm_compile.specs.Seen.{Seen, seen}
-use Rattle.herm_compile.specs.FirstPhase.{HaveTrees}
-use Rattle.herm_compile.specs.Refused.{reported, starts, not_built, AreNotBuilt, IsLacking, IfRefused, IsRightly, IsLater}
-use Rattle.herm_compile.specs.declared.fault.CompileFault.{CompileFault}
-use Rattle.herm_compile.specs.declared.fault.CompileFault.TheVariants.{Refused, Memory}
+use Rattle.herm_compile.specs.Refused.{Seen, seen, reported, starts, not_built, IsNotBuilt, IsLacking}
 use Rattle.herm_compile.specs.declared.check.Gap.{Gap}
 use Rattle.herm_compile.specs.declared.fault.Fault.{Fault}
 use Rattle.herm_compile.proofs.StraightLaws.{gaps_are_missing, steps_of_read}
@@ -171,26 +167,8 @@ pub form_written : (bytes : List ℕ) (tokens : List Token) (names : List (List 
 form_written bytes tokens names lines h f = ap (λ (x : List Token). kinds x) (one_token_list bytes tokens f.tokens h f.read) ∙ f.written
 
 -- where no program has the tokens, the file is of none
-pub is_not_built : (bytes : List ℕ) (tokens : List Token) (faults : List Fault) → HasTokens bytes tokens → ((names : List (List ℕ)) (lines : List Line) → IsProgram names lines → kinds tokens ≡ program_tokens names lines → ⊥) → map seen faults ≡ not_built ∷ [] → AreNotBuilt (bytes ∷ []) faults
-is_not_built bytes tokens faults h none one = record { none = λ names lines f. none names lines f.program (form_written bytes tokens names lines h f); one = one }
-
-pub not_built_later : (bytes : List ℕ) (tokens : List Token) (fault : CompileFault) → HasTokens bytes tokens → ((names : List (List ℕ)) (lines : List Line) → IsProgram names lines → kinds tokens ≡ program_tokens names lines → ⊥) →
-    IfRefused fault (λ faults. map seen faults ≡ not_built ∷ []) → IsLater bytes fault
-not_built_later bytes tokens (Refused faults) h none one = inl (is_not_built bytes tokens faults.items h none one)
-not_built_later bytes tokens Memory h none one = tt
-
--- several files are of no program, and neither are none
-pub no_file_later : (fault : CompileFault) → IfRefused fault (λ faults. map seen faults ≡ not_built ∷ []) → IsRightly [] fault
-no_file_later (Refused faults) one = inr (refl, inl (record { none = λ names lines f. f; one = one }))
-no_file_later Memory one = tt
-
-pub more_files_later : (bytes more : List ℕ) (files : List (List ℕ)) (fault : CompileFault) → HaveTrees (bytes ∷ more ∷ files) → IfRefused fault (λ faults. map seen faults ≡ not_built ∷ []) → IsRightly (bytes ∷ more ∷ files) fault
-more_files_later bytes more files (Refused faults) trees one = inr (trees, inl (record { none = λ names lines f. f; one = one }))
-more_files_later bytes more files Memory trees one = tt
-
-pub one_file_later : (bytes : List ℕ) (fault : CompileFault) → HaveTrees (bytes ∷ []) → IsLater bytes fault → IsRightly (bytes ∷ []) fault
-one_file_later bytes (Refused faults) trees later = inr (trees, later)
-one_file_later bytes Memory trees later = tt
+pub is_not_built : (bytes : List ℕ) (tokens : List Token) (faults : List Fault) → HasTokens bytes tokens → ((names : List (List ℕ)) (lines : List Line) → IsProgram names lines → kinds tokens ≡ program_tokens names lines → ⊥) → map seen faults ≡ not_built ∷ [] → IsNotBuilt bytes faults
+is_not_built bytes tokens faults h none one = record { tokens = tokens; read = h; none = λ names lines f. none names lines f.program (form_written bytes tokens names lines h f); one = one }
 
 -- ---- the judgement
 

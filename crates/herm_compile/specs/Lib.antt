@@ -3,7 +3,4 @@ pub mod Gives
 pub mod Form
 pub mod Reading
 pub mod Straight
-pub mod Seen
-pub mod Places
-pub mod FirstPhase
 pub mod Refused

@@ -6,54 +6,45 @@ mod compiled;
 mod fault;
 mod form;
 mod names;
-mod phase;
 mod phrase;
 mod places;
 mod program;
 mod refusal;
 mod stop;
+mod unread;
 
 ghost use Rattle.std.specs.Prelude.{◌≡◌, ◌⊎◌, [], ◌∷◌, map, length, IfOk, IfErr};
 ghost use Rattle.herm_model.specs.Types.{predefined};
 ghost use Rattle.herm_model.specs.Refusals.{IsAccepted};
-ghost use Rattle.herm_lexer.specs.Spelling.{HasTokens};
-ghost use Rattle.herm_compile.specs.Form.{IsOfForm, AreOfForm, IsFormBy, IsProgram, OneReading};
+ghost use Rattle.herm_compile.specs.Form.{IsOfForm, IsFormBy, IsProgram, OneReading, first_of};
 ghost use Rattle.herm_compile.specs.Straight.{process_of, gaps};
-ghost use Rattle.herm_compile.specs.Seen.{seen};
-ghost use Rattle.herm_compile.specs.FirstPhase.{HasTrees, HaveTrees, TreesOrFault};
-ghost use Rattle.herm_compile.specs.Refused.{IsRightly, IsLater, IfRefused, not_built, reported, starts};
+ghost use Rattle.herm_compile.specs.Refused.{IsRightly, IsLacking, seen, not_built, reported, starts};
+ghost use Rattle.herm_lexer.specs.Spelling.{HasTokens};
+ghost use Rattle.herm_lexer.specs.Faults.{HasFault};
+ghost use Rattle.herm_lexer.specs.declared.fault.LexFault.TheVariants.{Memory};
 
 use check::gaps_of;
 pub use compiled::{Compiled, Line};
 pub use fault::{CompileFault, Fact, Fault, Hop, MissingFact, Outcome, Path};
 use herm_base::Word;
 use herm_lexer::{LexFault, Token, lex};
-use phase::first_faults;
 use places::starts_of;
 use program::program_of;
 use refusal::faults_of;
 use std::alloc::{AllocError, Global};
 use stop::Stop;
+use unread::refuse_unread;
 
-/// Compiles files. First each is read, in their order: where files have no trees, they are refused with the one fault of each,
-/// and nothing else is said. Of files that all have trees, a single one is compiled where it is of a straight-line program in
-/// which no fact is missing; it is refused with a fault for each missing fact where it is of one. All others are refused with
-/// the one fault `not built`.
+/// Compiles the one file. It is compiled where it is of a straight-line program in which no fact is missing; else it is
+/// refused: with the one fault of its bytes or tokens where they have one, with the one fault `not built` where its tokens
+/// are of no program, and with a fault for each missing fact where they are of one.
 pub fn compile(alloc: Global, files: &[(Word, Vec<u8>)]) -> Result<Compiled, CompileFault>
-    ensures read { IfOk result (λ c. HaveTrees (map (λ file. file.1.items) files.now)) }
-    ensures form { IfOk result (λ c. AreOfForm (map (λ file. file.1.items) files.now) c.names.items c.lines.items) }
+    requires one { length files.now ≡ 1 }
+    ensures form { IfOk result (λ c. IsOfForm (first_of (map (λ file. file.1.items) files.now)) c.names.items c.lines.items) }
     ensures accepted { IfOk result (λ c. IsAccepted predefined (process_of (length c.names.items) c.lines.items)) }
-    ensures refused { IfErr result (λ e. IsRightly (map (λ file. file.1.items) files.now) e) }
+    ensures refused { IfErr result (λ e. IsRightly (first_of (map (λ file. file.1.items) files.now)) e) }
 {
-    match first_faults(alloc, files) {
-        Ok(faults) => {
-            if faults.as_slice().is_empty() {
-                return compile_read(alloc, files);
-            }
-            Err(CompileFault::Refused(faults))
-        }
-        Err(_) => Err(CompileFault::Memory),
-    }
+    compile_file(alloc, files[0].1.as_slice())
 }
 
 /// A file has one reading at most: its bytes are those of one list of names and lines.
@@ -61,49 +52,26 @@ pub fn one_reading()
     ensures { OneReading }
 {}
 
-/// A file that has trees has no fault of the first phase.
-pub fn trees_or_fault()
-    ensures { TreesOrFault }
-{}
-
-/// Compiles files that all have trees.
-fn compile_read(alloc: Global, files: &[(Word, Vec<u8>)]) -> Result<Compiled, CompileFault>
-    requires { HaveTrees (map (λ file. file.1.items) files.now) }
-    ensures form { IfOk result (λ c. AreOfForm (map (λ file. file.1.items) files.now) c.names.items c.lines.items) }
-    ensures accepted { IfOk result (λ c. IsAccepted predefined (process_of (length c.names.items) c.lines.items)) }
-    ensures refused { IfErr result (λ e. IsRightly (map (λ file. file.1.items) files.now) e) }
-{
-    match files {
-        [file] => compile_file(alloc, file.1.as_slice()),
-        [] => Err(refuse_not_built(alloc)),
-        [_, _, ..] => Err(refuse_not_built(alloc)),
-    }
-}
-
-/// Refuses files of no program.
-fn refuse_not_built(alloc: Global) -> CompileFault
-    ensures { IfRefused result (λ faults. map seen faults ≡ not_built ∷ []) }
-{
-    match not_built(alloc) {
-        Ok(faults) => CompileFault::Refused(faults),
-        Err(_) => CompileFault::Memory,
-    }
-}
-
-/// Compiles a file that has trees, from its tokens. What has trees has no fault of its bytes.
 fn compile_file(alloc: Global, bytes: &[u8]) -> Result<Compiled, CompileFault>
-    requires { HasTrees bytes.now }
     ensures form { IfOk result (λ c. IsOfForm bytes.now c.names.items c.lines.items) }
     ensures accepted { IfOk result (λ c. IsAccepted predefined (process_of (length c.names.items) c.lines.items)) }
-    ensures refused { IfErr result (λ e. IsLater bytes.now e) }
+    ensures refused { IfErr result (λ e. IsRightly bytes.now e) }
 {
     match lex(alloc, bytes) {
         Ok(tokens) => compile_tokens(alloc, bytes, tokens.as_slice()),
-        Err(LexFault::Memory) => Err(CompileFault::Memory),
-        Err(LexFault::Byte(_)) => unreachable!(),
-        Err(LexFault::Token(_)) => unreachable!(),
-        Err(LexFault::TooLong(_)) => unreachable!(),
+        Err(fault) => Err(refusal_of(alloc, bytes, fault)),
     }
+}
+
+/// The refusal of a file whose bytes have this fault.
+fn refusal_of(alloc: Global, bytes: &[u8], fault: LexFault) -> CompileFault
+    requires { (fault ≡ Memory) ⊎ HasFault bytes.now fault }
+    ensures { IsRightly bytes.now result }
+{
+    if matches!(fault, LexFault::Memory) {
+        return CompileFault::Memory;
+    }
+    refuse_unread(alloc, bytes, fault)
 }
 
 /// The program that the tokens are of, where no fact is missing in it.
@@ -111,11 +79,14 @@ fn compile_tokens(alloc: Global, bytes: &[u8], tokens: &[Token]) -> Result<Compi
     requires { HasTokens bytes.now tokens.now }
     ensures form { IfOk result (λ c. IsOfForm bytes.now c.names.items c.lines.items) }
     ensures accepted { IfOk result (λ c. IsAccepted predefined (process_of (length c.names.items) c.lines.items)) }
-    ensures refused { IfErr result (λ e. IsLater bytes.now e) }
+    ensures refused { IfErr result (λ e. IsRightly bytes.now e) }
 {
     match program_of(alloc, tokens) {
         Ok(program) => judge(alloc, bytes, program, tokens),
-        Err(Stop::NotBuilt) => Err(refuse_not_built(alloc)),
+        Err(Stop::NotBuilt) => match not_built(alloc) {
+            Ok(faults) => Err(CompileFault::Refused(faults)),
+            Err(_) => Err(CompileFault::Memory),
+        },
         Err(Stop::Memory) => Err(CompileFault::Memory),
     }
 }
@@ -130,7 +101,7 @@ fn judge(
     requires { IsFormBy tokens.now bytes.now program.names.items program.lines.items }
     ensures form { IfOk result (λ c. IsOfForm bytes.now c.names.items c.lines.items) }
     ensures accepted { IfOk result (λ c. IsAccepted predefined (process_of (length c.names.items) c.lines.items)) }
-    ensures refused { IfErr result (λ e. IsLater bytes.now e) }
+    ensures refused { IfErr result (λ e. IsRightly bytes.now e) }
 {
     match lacking(alloc, bytes, &program, tokens) {
         Ok(faults) => {
@@ -163,7 +134,7 @@ fn lacking(
     Ok(faults)
 }
 
-/// The one fault of files of no program.
+/// The one fault of a file whose tokens are of no program.
 fn not_built(alloc: Global) -> Result<Vec<Fault>, AllocError>
     ensures { IfOk result (λ faults. map seen faults.items ≡ not_built ∷ []) }
 {

@@ -8,8 +8,7 @@ use Rattle.herm_compile.specs.declared.compiled.Line.{Line}
 use Rattle.herm_compile.specs.declared.fault.Fault.{Fault}
 use Rattle.herm_compile.specs.Form.{IsOfForm}
 use Rattle.herm_compile.specs.Straight.{process_of}
-use Rattle.herm_compile.specs.FirstPhase.{HaveTrees}
-use Rattle.herm_compile.specs.Refused.{AreRefused}
+use Rattle.herm_compile.specs.Refused.{IsUnread, IsNotBuilt, IsLacking}
 use Rattle.herm_model.specs.Types.{predefined}
 use Rattle.herm_model.specs.Refusals.{IsAccepted}
 use Rattle.herm_world.specs.Lines.{sent}
@@ -25,18 +24,18 @@ abbrev pub IsReportOf : ℕ → List Line → ℕ → List ℕ → Option Report
 IsReportOf count lines status text None = ⊥
 IsReportOf count lines status text (Some report) = IsReported count lines [] (report_as report status text)
 
--- The bytes have trees and are an accepted program, whose run is reported, with the status and the text: the status is 0, and
--- the text has a line for each string that is sent.
+-- The bytes are an accepted program, whose run is reported, with the status and the text: the status is 0, and the text has a
+-- line for each string that is sent.
 abbrev pub IsDone : List ℕ → ℕ → List ℕ → Option Report → Type 0
 IsDone bytes status text report =
-    (status ≡ 0) × HaveTrees (bytes ∷ []) × (names : List (List ℕ)) × (lines : List Line) × IsOfForm bytes names lines
+    (status ≡ 0) × (names : List (List ℕ)) × (lines : List Line) × IsOfForm bytes names lines
     × IsAccepted predefined (process_of (length names) lines) × (text ≡ console_text (sent (length names) lines))
     × IsReportOf (length names) lines status text report
 
--- the bytes are refused: they have a fault, or have trees and are of no program that is built, or facts are missing in it; a line for each fault
+-- the bytes are refused: they have a fault, or their tokens are of no program that is built, or facts are missing in it; a line for each fault
 abbrev pub IsRefusal : List ℕ → List ℕ → ℕ → List ℕ → Option Report → Type 0
 IsRefusal name bytes status text report =
-    (status ≡ 1) × (faults : List Fault) × AreRefused (bytes ∷ []) faults × (text ≡ refusals_text name faults)
+    (status ≡ 1) × (faults : List Fault) × (IsUnread bytes faults ⊎ IsNotBuilt bytes faults ⊎ IsLacking bytes faults) × (text ≡ refusals_text name faults)
     × (report ≡ None)
 
 -- no file has the name

@@ -1,5 +1,5 @@
 use Rattle.herm_compile.proofs.TokenFacts.{fault_within}
-use Rattle.herm_compile.proofs.phase.file_fault.Goals as goal
+use Rattle.herm_compile.proofs.unread.lex_fault.Goals as goal
 
 pub place_at-place-requires-clause-short : goal.place_at-place-requires-clause-short
 place_at-place-requires-clause-short c = rw c.fault_offset.ensures (fault_within _ _ c.requires).1
