@@ -8,7 +8,7 @@ use denote.Enum.Bare.{same_true, true_same}
 use Rattle.std.proofs.Common.{rules}
 use Rattle.herm_alphabet.specs.contracts.keyword.Keyword.{the_type as the_keyword}
 use Rattle.herm_alphabet.specs.contracts.sign.Mark.{the_type as the_mark}
-use Rattle.herm_alphabet.specs.Letters.{letters, keywords, keyword_of, found_among, starting_with, same_keyword, same_mark}
+use Rattle.herm_alphabet.specs.KeywordLetters.{letters, keywords, keyword_of, found_among, starting_with, same_keyword, same_mark}
 use Rattle.herm_alphabet.specs.declared.sign.Mark.{Mark}
 use Rattle.herm_alphabet.specs.declared.keyword.Keyword.{Keyword}
 use Rattle.herm_alphabet.specs.declared.keyword.Keyword.TheVariants.{KwAnd}

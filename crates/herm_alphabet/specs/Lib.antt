@@ -1,2 +1,3 @@
 -- Keywords and signs, and how they are written.
-pub mod Letters
+pub mod Tokens
+pub mod KeywordLetters

@@ -1,6 +1,6 @@
 //! Keywords and their letters.
 ghost use Rattle.std.specs.Prelude.{◌≡◌, ◌≢◌, IfSome, IfNone};
-ghost use Rattle.herm_alphabet.specs.Letters.{letters, keyword_of, found_among, starting_with};
+ghost use Rattle.herm_alphabet.specs.KeywordLetters.{letters, keyword_of, found_among, starting_with};
 
 /// The keywords, which are names that are reserved.
 #[derive(Clone, Copy, Debug, PartialEq, Eq)]
@@ -151,7 +151,7 @@ impl Keyword {
 }
 
 // The keywords that begin with this letter.
-#[tactic(auto, unfolding(crate::specs::Letters::starting_with))]
+#[tactic(auto, unfolding(crate::specs::KeywordLetters::starting_with))]
 fn starting_with(first: u8) -> &'static [Keyword]
     ensures { result.now ≡ starting_with first }
 {

@@ -1,6 +1,6 @@
 //! Signs and their characters.
 ghost use Rattle.std.specs.Prelude.{◌≡◌};
-ghost use Rattle.herm_alphabet.specs.Letters.{characters};
+ghost use Rattle.herm_alphabet.specs.KeywordLetters.{characters};
 
 /// The signs.
 #[derive(Clone, Copy, Debug, PartialEq, Eq)]

@@ -58,7 +58,7 @@ checked_step count lines at line held new done l i a k e c =
     ∙ ap (λ (x : List Line). (done ++ gap_list at (unheld line held)) ++ gaps_from (suc at) x (drop (suc at) lines)) (sym t) in
     rw add-one (record { len = e ∙ k.len; right = rw t (held_step held new (take at lines) line e k.right c); found = f })
 
-pub drop_end : (lines : List Line) (at : ℕ) → length lines ≤ at → drop at lines ≡ []
+pub drop_end : {X : Type 0} (lines : List X) (at : ℕ) → length lines ≤ at → drop at lines ≡ []
 drop_end [] zero l = refl
 drop_end [] (suc at) l = refl
 drop_end (line ∷ lines) zero l = absurd (omega arith)

@@ -1,5 +1,4 @@
 -- What a function that stops says of the plain reader.
-use Rattle.herm_compile.specs.Form.{first_of}
 use Rattle.std.specs.Prelude.{map}
 use Rattle.std.proofs.Common.{ap, refl, arith, ℕ, List, [], ◌∷◌, length, get_or, ◌≡◌, Option, None, Result, Err}
 use Rattle.herm_compile.specs.declared.stop.Stop.{Stop}
@@ -23,8 +22,3 @@ came_err {X} {Y} r d f e s n = ap (λ (g : Stop). stops {X = Y} g) (came r d f e
 
 pub stops_same : {X : Type 0} (d e : Stop) → d ≡ e → stops {X = X} d ≡ stops e
 stops_same {X} d e i = ap (λ (g : Stop). stops {X = X} g) i
-
--- the one element of a list is the first
-pub first_is : {X : Type 0} (xs : List X) (g : X → List ℕ) (x : X) → length xs ≡ 1 → g (get_or xs 0 x) ≡ first_of (map g xs)
-first_is [] g x l = absurd (omega arith)
-first_is (y ∷ xs) g x l = refl

@@ -1,5 +1,10 @@
+pub mod Leads
+pub mod NamedPlaces
+pub mod OneAnswerLaws
 pub mod Choices
 pub mod TokenFacts
+pub mod PhaseLaws
+pub mod SpotLaws
 pub mod GivesLaws
 pub mod StripLaws
 pub mod ReadingLaws

@@ -7,9 +7,10 @@ use Rattle.std.proofs.lemmas.List.{reverse-append, length-reverse, length-take}
 use Rattle.herm_compile.specs.Front.{front}
 use Rattle.herm_compile.specs.Form.{declaration, line_tokens}
 use Rattle.herm_compile.specs.Reading.{up_to_lines}
-use Rattle.herm_compile.specs.Refused.{start_of, line_starts, starts, is_newline, no_newline, newlines, IsPlace, place_behind}
+use Rattle.herm_compile.specs.Places.{is_newline, no_newline, newlines, IsPlace, place_behind}
+use Rattle.herm_compile.specs.Refused.{start_of, line_starts, starts}
 use Rattle.herm_compile.proofs.CheckLaws.{drop_end}
-use Rattle.herm_compile.proofs.TokenFacts.{StandsWithin, tokens_within}
+use Rattle.herm_compile.proofs.TokenFacts.{StandsWithin, tokens_within, all_drop}
 use Rattle.herm_compile.specs.declared.places.Place.{Place}
 use Rattle.herm_lexer.specs.Spelling.{HasTokens}
 use Rattle.herm_alphabet.specs.declared.token.Token.{Token}
@@ -32,17 +33,12 @@ starts_step names lines at line rest done all l i e =
 
 -- ---- places of lines within the file
 
-all_drop : {A : Type 0} (P : A → Type 0) (n : ℕ) (xs : List A) → AllByRecursion P xs → AllByRecursion P (drop n xs)
-all_drop P zero xs a = a
-all_drop P (suc n) [] a = tt
-all_drop P (suc n) (x ∷ xs) a = all_drop P n xs a.1
-
 abbrev pub IsUpTo : ℕ → ℕ → Type 0
 IsUpTo size start = start ≤ size
 
 start_within : (size : ℕ) (tokens : List Token) → AllByRecursion (StandsWithin size) tokens → start_of tokens ≤ size
 start_within size [] a = omega arith
-start_within size (t ∷ ts) a = a.0
+start_within size (t ∷ ts) a = a.0.starts
 
 line_starts_within : (size : ℕ) (names : List (List ℕ)) (lines : List Line) (tokens : List Token) → AllByRecursion (StandsWithin size) tokens → AllByRecursion (IsUpTo size) (line_starts names lines tokens)
 line_starts_within size names [] tokens a = tt

@@ -1,5 +1,5 @@
 -- One list of tokens is one program, and a reader that stops is before no program.
-use Rattle.std.proofs.Common.{◌≡◌, arith, ℕ, ◌≤◌, true, false, eqb, List, [], ◌∷◌, ◌++◌, length, None, refl, sym, ap, subst, ◌∙◌, append_assoc, append-nil}
+use Rattle.std.proofs.Common.{◌≡◌, arith, ℕ, ◌≤◌, true, false, eqb, List, [], ◌∷◌, ◌++◌, length, None, inl, inr, refl, sym, ap, subst, ◌∙◌, append_assoc, append-nil}
 use Rattle.std.specs.List.{flat_map, AllByRecursion}
 use Rattle.std.proofs.lemmas.List.{append_cancel_left}
 use Rattle.std.proofs.lemmas.Bool.{eqb-true, eq-eqb}
@@ -7,7 +7,12 @@ use Rattle.std.specs.Prelude.{map}
 use Rattle.herm_model.specs.Types.{predefined}
 use Rattle.herm_model.specs.Refusals.{IsMissing, IsAccepted}
 use Rattle.herm_compile.specs.Straight.{process_of, gaps, refusal_of, IsStep}
-use Rattle.herm_compile.specs.Refused.{Seen, seen, reported, starts, not_built, IsNotBuilt, IsLacking}
+use Rattle.herm_compile.specs.Seen.{Seen, seen}
+use Rattle.herm_meaning.specs.Names.{NamedTable}
+use Rattle.herm_compile.specs.SecondPhase.{HaveTypes}
+use Rattle.herm_compile.specs.Refused.{reported, starts, not_built, AreNotBuilt, AreMissingFacts, IfRefused, IsExactRefusal, IsLater, AreLater}
+use Rattle.herm_compile.specs.declared.fault.CompileFault.{CompileFault}
+use Rattle.herm_compile.specs.declared.fault.CompileFault.TheVariants.{Refused, Memory}
 use Rattle.herm_compile.specs.declared.check.Gap.{Gap}
 use Rattle.herm_compile.specs.declared.fault.Fault.{Fault}
 use Rattle.herm_compile.proofs.StraightLaws.{gaps_are_missing, steps_of_read}
@@ -167,8 +172,27 @@ pub form_written : (bytes : List ℕ) (tokens : List Token) (names : List (List 
 form_written bytes tokens names lines h f = ap (λ (x : List Token). kinds x) (one_token_list bytes tokens f.tokens h f.read) ∙ f.written
 
 -- where no program has the tokens, the file is of none
-pub is_not_built : (bytes : List ℕ) (tokens : List Token) (faults : List Fault) → HasTokens bytes tokens → ((names : List (List ℕ)) (lines : List Line) → IsProgram names lines → kinds tokens ≡ program_tokens names lines → ⊥) → map seen faults ≡ not_built ∷ [] → IsNotBuilt bytes faults
-is_not_built bytes tokens faults h none one = record { tokens = tokens; read = h; none = λ names lines f. none names lines f.program (form_written bytes tokens names lines h f); one = one }
+pub is_not_built : (bytes : List ℕ) (tokens : List Token) (faults : List Fault) → HasTokens bytes tokens → ((names : List (List ℕ)) (lines : List Line) → IsProgram names lines → kinds tokens ≡ program_tokens names lines → ⊥) → map seen faults ≡ not_built ∷ [] → AreNotBuilt (bytes ∷ []) faults
+is_not_built bytes tokens faults h none one = record { none = λ names lines f. none names lines f.program (form_written bytes tokens names lines h f); one = one }
+
+pub not_built_later : (bytes : List ℕ) (tokens : List Token) (fault : CompileFault) → HasTokens bytes tokens → ((names : List (List ℕ)) (lines : List Line) → IsProgram names lines → kinds tokens ≡ program_tokens names lines → ⊥) →
+    IfRefused fault (λ faults. map seen faults ≡ not_built ∷ []) → IsLater bytes fault
+not_built_later bytes tokens (Refused faults) h none one = inl (is_not_built bytes tokens faults.items h none one)
+not_built_later bytes tokens Memory h none one = tt
+
+-- several files are of no program, and neither are none
+pub no_file_later : (fault : CompileFault) → IfRefused fault (λ faults. map seen faults ≡ not_built ∷ []) → IfRefused fault (λ faults. AreLater [] faults)
+no_file_later (Refused faults) one = inl (record { none = λ names lines f. f; one = one })
+no_file_later Memory one = tt
+
+pub more_files_later : (bytes more : List ℕ) (files : List (List ℕ)) (fault : CompileFault) → IfRefused fault (λ faults. map seen faults ≡ not_built ∷ []) → IfRefused fault (λ faults. AreLater (bytes ∷ more ∷ files) faults)
+more_files_later bytes more files (Refused faults) one = inl (record { none = λ names lines f. f; one = one })
+more_files_later bytes more files Memory one = tt
+
+-- what is rightly said of files that mean types
+pub later_refused : (files : List (List ℕ)) (types : NamedTable) (fault : CompileFault) → HaveTypes files types → IfRefused fault (λ faults. AreLater files faults) → IsExactRefusal files fault
+later_refused files types (Refused faults) have later = inr (inr (types, have, later))
+later_refused files types Memory have later = tt
 
 -- ---- the judgement
 
@@ -194,7 +218,7 @@ accepted bytes names lines places faults p l e =
     let z = none_lacking (reported bytes names places) (gaps lines) faults (eqb-true (length faults) 0 l) e in
     subst (λ (gs : List Gap). IsMissing predefined (process_of (length names) lines) (map refusal_of gs)) z (program_missing names lines p)
 
-pub is_lacking : (bytes : List ℕ) (names : List (List ℕ)) (lines : List Line) (tokens : List Token) (faults : List Fault) → IsFormBy tokens bytes names lines → eqb (length faults) 0 ≡ false → map seen faults ≡ map (reported bytes names (starts names lines tokens)) (gaps lines) → IsLacking bytes faults
+pub is_lacking : (bytes : List ℕ) (names : List (List ℕ)) (lines : List Line) (tokens : List Token) (faults : List Fault) → IsFormBy tokens bytes names lines → eqb (length faults) 0 ≡ false → map seen faults ≡ map (reported bytes names (starts names lines tokens)) (gaps lines) → AreMissingFacts bytes faults
 is_lacking bytes names lines tokens faults f l e = record {
   names = names;
   lines = lines;

@@ -7,7 +7,7 @@ use Rattle.std.proofs.lemmas.List.{map-append}
 use Rattle.std.proofs.lemmas.Grind.{flat_map-append}
 use Rattle.std.proofs.lemmas.List.Quantifiers.{position-Some}
 use Rattle.std.proofs.lemmas.Slice.Eq.{bytes_eq-Decides}
-use Rattle.herm_alphabet.specs.Letters.{letters, characters}
+use Rattle.herm_alphabet.specs.KeywordLetters.{letters, characters}
 use Rattle.herm_lexer.specs.Spelling.{HasTokens}
 use Rattle.herm_alphabet.specs.declared.token.Token.{Token}
 use Rattle.herm_alphabet.specs.declared.token.TokenKind.{TokenKind}

@@ -6,9 +6,12 @@ use Rattle.std.proofs.Math.Seq.{take-suc}
 use Rattle.std.proofs.lemmas.List.{map-append}
 use Rattle.std.proofs.lemmas.Grind.{flat_map-append}
 use Rattle.herm_model.specs.Outcomes.{ok}
-use Rattle.herm_model.specs.Control as control
+use Rattle.herm_model.specs.ControlPaths as control
 use Rattle.herm_compile.specs.Straight.{ok_hops}
-use Rattle.herm_compile.specs.Refused.{hop_text, seen_hop, Seen, seen, reported, fault_at, IsPlace}
+use Rattle.herm_compile.specs.Seen.{Seen, seen, seen_hop}
+use Rattle.herm_compile.specs.Places.{IsPlace}
+use Rattle.herm_compile.specs.Refused.{reported, fault_at}
+use Rattle.herm_compile.specs.RefusalWords.{hop_text}
 use Rattle.herm_compile.specs.declared.check.Gap.{Gap}
 use Rattle.herm_compile.specs.declared.fault.Hop.{Hop}
 use Rattle.herm_compile.specs.declared.fault.Fault.{Fault}

@@ -6,8 +6,9 @@ use Rattle.std.proofs.lemmas.Bool.{eqb-true, eqb-false, eq-eqb, ne_eqb}
 use Rattle.herm_model.specs.Paths.{Path, Fact, init}
 use Rattle.herm_model.specs.Types.{predefined}
 use Rattle.herm_model.specs.Outcomes.{Outcome, ok, is_true, is_false, turn, done, component, arm, raised, normal_outcomes, same_outcome}
-use Rattle.herm_model.specs.Nodes.{Target, node, end, end_by, Node, Surroundings, nodes_in, start_of_block, entry_of}
-use Rattle.herm_model.specs.Control.{Edge, Point, Flow, point, flow_of, Hop, held_behind, held_at_start, edge_at, Standing, walk, Holds, LacksBy}
+use Rattle.herm_model.specs.Nodes.{Node, Surroundings, nodes_in, start_of_block, entry_of}
+use Rattle.herm_model.specs.Targets.{Target, node, end, end_by}
+use Rattle.herm_model.specs.ControlPaths.{Edge, Point, Flow, point, flow_of, Hop, held_after_edge, held_at_start, edge_at, Standing, walk, Holds, LacksBy}
 use Rattle.herm_model.specs.Refusals.{Demand, demands_at, demands, AreRefusals, none, missing, holds, IsMissing}
 use Rattle.herm_model.specs.Lists.{numbered}
 use Rattle.herm_compile.specs.Reading.{IsNumbered, IsRead}
@@ -156,7 +157,7 @@ at_start lines = at_from (straight lines) [] 0 lines refl refl
 
 -- what is held behind a line, and behind lines
 abbrev pub hold : Fact → Line → Bool → Bool
-hold f line b = held_behind (onward line end) f b
+hold f line b = held_after_edge (onward line end) f b
 
 abbrev pub carry : Fact → Bool → List Line → Bool
 carry f b [] = b
@@ -258,11 +259,11 @@ from_end flow f (hop ∷ hops) t there b held (inr i) e = let g = rw i at e in c
 node_is : (i j : ℕ) → node i ≡ node j → i ≡ j
 node_is i j e = cc
 
-walk_on : (flow : Flow) (f : Fact) (hop : Hop) (hops : List Hop) (at : ℕ) (line : Line) (lines : List Line) (there : ℕ) (b held : Bool) → ((c : Bool) → walk flow f hops (next_of (suc at) lines) c ≡ a_standing (node there) held → Walked f (suc at) lines hops there c held) → (d : Edge) → Hops at line (next_of (suc at) lines) hop d → walk flow f hops d.target (held_behind d f b) ≡ a_standing (node there) held → Walked f at (line ∷ lines) (hop ∷ hops) there b held
+walk_on : (flow : Flow) (f : Fact) (hop : Hop) (hops : List Hop) (at : ℕ) (line : Line) (lines : List Line) (there : ℕ) (b held : Bool) → ((c : Bool) → walk flow f hops (next_of (suc at) lines) c ≡ a_standing (node there) held → Walked f (suc at) lines hops there c held) → (d : Edge) → Hops at line (next_of (suc at) lines) hop d → walk flow f hops d.target (held_after_edge d f b) ≡ a_standing (node there) held → Walked f at (line ∷ lines) (hop ∷ hops) there b held
 walk_on flow f hop hops at line lines there b held onward_is _ (goes h) w =
     let r = onward_is (hold f line b) w in
     record { over = line ∷ r.over; behind = r.behind; parts = ap (λ (l : List Line). line ∷ l) r.parts; place = omega (arith, r.place); hops_are = same_cons hop _ hops _ h r.hops_are; held_is = r.held_is }
-walk_on flow f hop hops at line lines there b held onward_is d (stops _ t) w = absurd (from_end flow f hops d.target there (held_behind d f b) held (inr t) w)
+walk_on flow f hop hops at line lines there b held onward_is d (stops _ t) w = absurd (from_end flow f hops d.target there (held_after_edge d f b) held (inr t) w)
 
 pub walk_lines : (flow : Flow) (f : Fact) (hops : List Hop) (at : ℕ) (lines : List Line) (there : ℕ) (b held : Bool) → At flow at lines → walk flow f hops (next_of at lines) b ≡ Some (record { here = node there; held = held }) → Walked f at lines hops there b held
 walk_lines flow f hops at [] there b held a e = absurd (from_end flow f hops end there b held (inl refl) e)
@@ -270,13 +271,13 @@ walk_lines flow f [] at (line ∷ lines) there b held a e =
     let s = standing_is (node at) (node there) b held e in
     record { over = []; behind = line ∷ lines; parts = refl; place = omega (arith, node_is at there s.0); hops_are = refl; held_is = sym s.1 }
 walk_lines flow f (hop ∷ hops) at (line ∷ lines) there b held a e =
-    let g : option_and_then (λ (d : Edge). walk flow f hops d.target (held_behind d f b)) (edge_at hop (Some (point_of at line (next_of (suc at) lines)))) ≡ a_standing (node there) held = rw a.0 at e in
-    option_and_then_some (λ (d : Edge). walk flow f hops d.target (held_behind d f b)) (edge_at hop (Some (point_of at line (next_of (suc at) lines)))) (record { here = node there; held = held }) g
+    let g : option_and_then (λ (d : Edge). walk flow f hops d.target (held_after_edge d f b)) (edge_at hop (Some (point_of at line (next_of (suc at) lines)))) ≡ a_standing (node there) held = rw a.0 at e in
+    option_and_then_some (λ (d : Edge). walk flow f hops d.target (held_after_edge d f b)) (edge_at hop (Some (point_of at line (next_of (suc at) lines)))) (record { here = node there; held = held }) g
     (λ d i w. walk_on flow f hop hops at line lines there b held (λ c. walk_lines flow f hops (suc at) lines there c held a.1) d (hop_of_line at line (next_of (suc at) lines) hop d i) w)
 
 -- ---- the hops over lines are a path
 
-first_hop : (flow : Flow) (f : Fact) (line : Line) (next : Target) (hops : List Hop) (b : Bool) (s : Standing) → walk flow f hops next (hold f line b) ≡ Some s → option_and_then (λ (d : Edge). walk flow f hops d.target (held_behind d f b)) (find (λ (d : Edge). same_outcome d.outcome ok) (edges_of line next)) ≡ Some s
+first_hop : (flow : Flow) (f : Fact) (line : Line) (next : Target) (hops : List Hop) (b : Bool) (s : Standing) → walk flow f hops next (hold f line b) ≡ Some s → option_and_then (λ (d : Edge). walk flow f hops d.target (held_after_edge d f b)) (find (λ (d : Edge). same_outcome d.outcome ok) (edges_of line next)) ≡ Some s
 first_hop flow f Receive next hops b s w = w
 first_hop flow f (Set n text) next hops b s w = w
 first_hop flow f (Send n) next hops b s w = w

@@ -95,10 +95,11 @@ pub record IsOfForm (bytes : List ℕ) (names : List (List ℕ)) (lines : List L
   pub written : kinds tokens ≡ program_tokens names lines
   pub program : IsProgram names lines
 
--- the bytes of the first file
-abbrev pub first_of : List (List ℕ) → List ℕ
-first_of [] = []
-first_of (bytes ∷ more) = bytes
+-- The files are of this program. One file has a program today.
+abbrev pub AreOfForm : List (List ℕ) → List (List ℕ) → List Line → Type 0
+AreOfForm [] names lines = ⊥
+AreOfForm (bytes ∷ []) names lines = IsOfForm bytes names lines
+AreOfForm (bytes ∷ more ∷ files) names lines = ⊥
 
 -- the file is of the program by these tokens
 abbrev pub IsFormBy : List Token → List ℕ → List (List ℕ) → List Line → Type 0

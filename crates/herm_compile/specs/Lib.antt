@@ -3,4 +3,13 @@ pub mod Gives
 pub mod Form
 pub mod Reading
 pub mod Straight
+pub mod Seen
+pub mod Places
+pub mod FirstPhase
 pub mod Refused
+pub mod Added
+pub mod Spots
+pub mod SecondPhase
+pub mod Phases
+pub mod OneDefinition
+pub mod RefusalWords

@@ -2,7 +2,7 @@
 use Rattle.std.specs.Prelude.{◌≡◌, ◌<◌, ℕ, Bool, false, if◌then◌else◌, Option, Some, None, List, [], ◌∷◌, ◌++◌, map, codes, length}
 use Rattle.std.specs.List.{position, flat_map, AllByRecursion, IsDistinct}
 use Rattle.std.specs.Str.{bytes_eq}
-use Rattle.herm_alphabet.specs.Letters.{letters, characters}
+use Rattle.herm_alphabet.specs.KeywordLetters.{letters, characters}
 use Rattle.herm_alphabet.specs.declared.token.Token.{Token}
 use Rattle.herm_alphabet.specs.declared.token.TokenKind.{TokenKind}
 use Rattle.herm_alphabet.specs.declared.token.TokenKind.TheVariants.{Key, Ident, Int, Text, Sign}

@@ -1,5 +1,6 @@
 //! What the compiler gives: the names and lines of a program.
 use herm_base::Word;
+use herm_types::TypeTable;
 
 /// A line of a program. A variable is its place among the declared strings, from 0.
 #[derive(Drop)]
@@ -14,9 +15,17 @@ pub enum Line {
     Discard(u32),
 }
 
-/// A checked program: the names of its declared strings, and its lines.
+/// The names of a program's declared strings, and its lines.
+#[derive(Drop)]
+pub struct Lines {
+    pub names: Vec<Word>,
+    pub lines: Vec<Line>,
+}
+
+/// A checked program: its types, the names of its declared strings, and its lines.
 #[derive(Drop)]
 pub struct Compiled {
+    pub types: TypeTable,
     pub names: Vec<Word>,
     pub lines: Vec<Line>,
 }

@@ -3,48 +3,67 @@
 
 mod check;
 mod compiled;
+mod definitions;
 mod fault;
 mod form;
 mod names;
+mod phase;
 mod phrase;
 mod places;
 mod program;
 mod refusal;
+mod spots;
 mod stop;
-mod unread;
 
 ghost use Rattle.std.specs.Prelude.{◌≡◌, ◌⊎◌, [], ◌∷◌, map, length, IfOk, IfErr};
 ghost use Rattle.herm_model.specs.Types.{predefined};
 ghost use Rattle.herm_model.specs.Refusals.{IsAccepted};
-ghost use Rattle.herm_compile.specs.Form.{IsOfForm, IsFormBy, IsProgram, OneReading, first_of};
-ghost use Rattle.herm_compile.specs.Straight.{process_of, gaps};
-ghost use Rattle.herm_compile.specs.Refused.{IsRightly, IsLacking, seen, not_built, reported, starts};
 ghost use Rattle.herm_lexer.specs.Spelling.{HasTokens};
-ghost use Rattle.herm_lexer.specs.Faults.{HasFault};
-ghost use Rattle.herm_lexer.specs.declared.fault.LexFault.TheVariants.{Memory};
+ghost use Rattle.herm_compile.specs.Form.{IsOfForm, AreOfForm, IsFormBy, IsProgram, OneReading};
+ghost use Rattle.herm_compile.specs.Straight.{process_of, gaps};
+ghost use Rattle.herm_compile.specs.Seen.{seen};
+ghost use Rattle.herm_compile.specs.FirstPhase.{HasTrees, HaveModules, HaveTrees, TreesOrFault};
+ghost use Rattle.herm_compile.specs.SecondPhase.{HaveTypes};
+ghost use Rattle.herm_compile.specs.Phases.{IsDefined};
+ghost use Rattle.herm_compile.specs.OneDefinition.{HaveOneTable, AreOneList, TypesOrFaults};
+ghost use Rattle.herm_compile.specs.Refused.{IsExactRefusal, IsLater, AreLater, IfRefused, not_built, reported, starts};
 
 use check::gaps_of;
+use compiled::Lines;
 pub use compiled::{Compiled, Line};
+use definitions::types_of;
 pub use fault::{CompileFault, Fact, Fault, Hop, MissingFact, Outcome, Path};
 use herm_base::Word;
 use herm_lexer::{LexFault, Token, lex};
+use herm_types::TypeTable;
+use phase::{ReadFiles, read_files};
 use places::starts_of;
 use program::program_of;
 use refusal::faults_of;
 use std::alloc::{AllocError, Global};
 use stop::Stop;
-use unread::refuse_unread;
 
-/// Compiles the one file. It is compiled where it is of a straight-line program in which no fact is missing; else it is
-/// refused: with the one fault of its bytes or tokens where they have one, with the one fault `not built` where its tokens
-/// are of no program, and with a fault for each missing fact where they are of one.
+/// Compiles files, phase by phase; each phase judges the files only where the phases before it have no fault. First each file is read, in
+/// their order: of files that have no trees, the one fault of each is given. Then the definitions of all modules are read into
+/// the table of types, or refused with the faults at their names. Of files that mean types, a single one is compiled where it is of
+/// a straight-line program in which no fact is missing; it is refused with a fault for each missing fact where it is of one.
+/// All others are refused with the one fault `not built`.
 pub fn compile(alloc: Global, files: &[(Word, Vec<u8>)]) -> Result<Compiled, CompileFault>
-    requires one { length files.now ≡ 1 }
-    ensures form { IfOk result (λ c. IsOfForm (first_of (map (λ file. file.1.items) files.now)) c.names.items c.lines.items) }
+    ensures read { IfOk result (λ c. HaveTrees (map (λ file. file.1.items) files.now)) }
+    ensures types { IfOk result (λ c. HaveTypes (map (λ file. file.1.items) files.now) c.types) }
+    ensures form { IfOk result (λ c. AreOfForm (map (λ file. file.1.items) files.now) c.names.items c.lines.items) }
     ensures accepted { IfOk result (λ c. IsAccepted predefined (process_of (length c.names.items) c.lines.items)) }
-    ensures refused { IfErr result (λ e. IsRightly (first_of (map (λ file. file.1.items) files.now)) e) }
+    ensures refused { IfErr result (λ e. IsExactRefusal (map (λ file. file.1.items) files.now) e) }
 {
-    compile_file(alloc, files[0].1.as_slice())
+    match read_files(alloc, files) {
+        Ok(read) => {
+            if read.faults.as_slice().is_empty() {
+                return compile_read(alloc, files, &read);
+            }
+            Err(CompileFault::Refused(read.faults))
+        }
+        Err(_) => Err(CompileFault::Memory),
+    }
 }
 
 /// A file has one reading at most: its bytes are those of one list of names and lines.
@@ -52,41 +71,111 @@ pub fn one_reading()
     ensures { OneReading }
 {}
 
-fn compile_file(alloc: Global, bytes: &[u8]) -> Result<Compiled, CompileFault>
+/// A file that has trees has no fault of the first phase.
+pub fn trees_or_fault()
+    ensures { TreesOrFault }
+{}
+
+/// Files have one answer of the second phase: one table of types, or one list of faults.
+pub fn one_definition()
+    ensures types { HaveOneTable }
+    ensures faults { AreOneList }
+    ensures either { TypesOrFaults }
+{}
+
+/// Compiles files that all have trees.
+fn compile_read(
+    alloc: Global,
+    files: &[(Word, Vec<u8>)],
+    read: &ReadFiles,
+) -> Result<Compiled, CompileFault>
+    requires trees { HaveTrees (map (λ file. file.1.items) files.now) }
+    requires modules { HaveModules 0 (map (λ file. file.1.items) files.now) read.now.modules.items read.now.owners.items }
+    ensures types { IfOk result (λ c. HaveTypes (map (λ file. file.1.items) files.now) c.types) }
+    ensures form { IfOk result (λ c. AreOfForm (map (λ file. file.1.items) files.now) c.names.items c.lines.items) }
+    ensures accepted { IfOk result (λ c. IsAccepted predefined (process_of (length c.names.items) c.lines.items)) }
+    ensures refused { IfErr result (λ e. IsExactRefusal (map (λ file. file.1.items) files.now) e) }
+{
+    match types_of(alloc, files, read) {
+        Ok(Ok(types)) => compile_typed(alloc, files, types),
+        Ok(Err(faults)) => Err(CompileFault::Refused(faults)),
+        Err(_) => Err(CompileFault::Memory),
+    }
+}
+
+/// Compiles files that all have trees, and whose definitions mean these types.
+fn compile_typed(
+    alloc: Global,
+    files: &[(Word, Vec<u8>)],
+    types: TypeTable,
+) -> Result<Compiled, CompileFault>
+    requires trees { HaveTrees (map (λ file. file.1.items) files.now) }
+    requires types { HaveTypes (map (λ file. file.1.items) files.now) types }
+    ensures types { IfOk result (λ c. HaveTypes (map (λ file. file.1.items) files.now) c.types) }
+    ensures form { IfOk result (λ c. AreOfForm (map (λ file. file.1.items) files.now) c.names.items c.lines.items) }
+    ensures accepted { IfOk result (λ c. IsAccepted predefined (process_of (length c.names.items) c.lines.items)) }
+    ensures refused { IfErr result (λ e. IsExactRefusal (map (λ file. file.1.items) files.now) e) }
+{
+    match compile_lines(alloc, files) {
+        Ok(program) => Ok(Compiled {
+            types,
+            names: program.names,
+            lines: program.lines,
+        }),
+        Err(fault) => Err(fault),
+    }
+}
+
+/// Compiles a file that is of a straight-line program.
+fn compile_lines(alloc: Global, files: &[(Word, Vec<u8>)]) -> Result<Lines, CompileFault>
+    requires trees { HaveTrees (map (λ file. file.1.items) files.now) }
+    ensures form { IfOk result (λ c. AreOfForm (map (λ file. file.1.items) files.now) c.names.items c.lines.items) }
+    ensures accepted { IfOk result (λ c. IsAccepted predefined (process_of (length c.names.items) c.lines.items)) }
+    ensures refused { IfErr result (λ e. IfRefused e (λ faults. AreLater (map (λ file. file.1.items) files.now) faults)) }
+{
+    match files {
+        [file] => compile_file(alloc, file.1.as_slice()),
+        [] => Err(refuse_not_built(alloc)),
+        [_, _, ..] => Err(refuse_not_built(alloc)),
+    }
+}
+
+/// Refuses files of no program.
+fn refuse_not_built(alloc: Global) -> CompileFault
+    ensures { IfRefused result (λ faults. map seen faults ≡ not_built ∷ []) }
+{
+    match not_built(alloc) {
+        Ok(faults) => CompileFault::Refused(faults),
+        Err(_) => CompileFault::Memory,
+    }
+}
+
+/// Compiles a file that has trees, from its tokens. What has trees has no fault of its bytes.
+fn compile_file(alloc: Global, bytes: &[u8]) -> Result<Lines, CompileFault>
+    requires { HasTrees bytes.now }
     ensures form { IfOk result (λ c. IsOfForm bytes.now c.names.items c.lines.items) }
     ensures accepted { IfOk result (λ c. IsAccepted predefined (process_of (length c.names.items) c.lines.items)) }
-    ensures refused { IfErr result (λ e. IsRightly bytes.now e) }
+    ensures refused { IfErr result (λ e. IsLater bytes.now e) }
 {
     match lex(alloc, bytes) {
         Ok(tokens) => compile_tokens(alloc, bytes, tokens.as_slice()),
-        Err(fault) => Err(refusal_of(alloc, bytes, fault)),
+        Err(LexFault::Memory) => Err(CompileFault::Memory),
+        Err(LexFault::Byte(_)) => unreachable!(),
+        Err(LexFault::Token(_)) => unreachable!(),
+        Err(LexFault::TooLong(_)) => unreachable!(),
     }
-}
-
-/// The refusal of a file whose bytes have this fault.
-fn refusal_of(alloc: Global, bytes: &[u8], fault: LexFault) -> CompileFault
-    requires { (fault ≡ Memory) ⊎ HasFault bytes.now fault }
-    ensures { IsRightly bytes.now result }
-{
-    if matches!(fault, LexFault::Memory) {
-        return CompileFault::Memory;
-    }
-    refuse_unread(alloc, bytes, fault)
 }
 
 /// The program that the tokens are of, where no fact is missing in it.
-fn compile_tokens(alloc: Global, bytes: &[u8], tokens: &[Token]) -> Result<Compiled, CompileFault>
+fn compile_tokens(alloc: Global, bytes: &[u8], tokens: &[Token]) -> Result<Lines, CompileFault>
     requires { HasTokens bytes.now tokens.now }
     ensures form { IfOk result (λ c. IsOfForm bytes.now c.names.items c.lines.items) }
     ensures accepted { IfOk result (λ c. IsAccepted predefined (process_of (length c.names.items) c.lines.items)) }
-    ensures refused { IfErr result (λ e. IsRightly bytes.now e) }
+    ensures refused { IfErr result (λ e. IsLater bytes.now e) }
 {
     match program_of(alloc, tokens) {
         Ok(program) => judge(alloc, bytes, program, tokens),
-        Err(Stop::NotBuilt) => match not_built(alloc) {
-            Ok(faults) => Err(CompileFault::Refused(faults)),
-            Err(_) => Err(CompileFault::Memory),
-        },
+        Err(Stop::NotBuilt) => Err(refuse_not_built(alloc)),
         Err(Stop::Memory) => Err(CompileFault::Memory),
     }
 }
@@ -95,13 +184,13 @@ fn compile_tokens(alloc: Global, bytes: &[u8], tokens: &[Token]) -> Result<Compi
 fn judge(
     alloc: Global,
     bytes: &[u8],
-    program: Compiled,
+    program: Lines,
     tokens: &[Token],
-) -> Result<Compiled, CompileFault>
+) -> Result<Lines, CompileFault>
     requires { IsFormBy tokens.now bytes.now program.names.items program.lines.items }
     ensures form { IfOk result (λ c. IsOfForm bytes.now c.names.items c.lines.items) }
     ensures accepted { IfOk result (λ c. IsAccepted predefined (process_of (length c.names.items) c.lines.items)) }
-    ensures refused { IfErr result (λ e. IsRightly bytes.now e) }
+    ensures refused { IfErr result (λ e. IsLater bytes.now e) }
 {
     match lacking(alloc, bytes, &program, tokens) {
         Ok(faults) => {
@@ -118,7 +207,7 @@ fn judge(
 fn lacking(
     alloc: Global,
     bytes: &[u8],
-    program: &Compiled,
+    program: &Lines,
     tokens: &[Token],
 ) -> Result<Vec<Fault>, AllocError>
     requires read { HasTokens bytes.now tokens.now }
@@ -134,7 +223,7 @@ fn lacking(
     Ok(faults)
 }
 
-/// The one fault of a file whose tokens are of no program.
+/// The one fault of files of no program.
 fn not_built(alloc: Global) -> Result<Vec<Fault>, AllocError>
     ensures { IfOk result (λ faults. map seen faults.items ≡ not_built ∷ []) }
 {

@@ -1,7 +1,8 @@
 //! The places of lines in the file.
 ghost use Rattle.std.specs.Prelude.{◌≡◌, ◌<◌, ◌≤◌, ℕ, suc, List, length, drop, IfOk};
 ghost use Rattle.herm_compile.specs.Form.{line_tokens};
-ghost use Rattle.herm_compile.specs.Refused.{start_of, starts, IsPlace, place_behind};
+ghost use Rattle.herm_compile.specs.Places.{IsPlace, place_behind};
+ghost use Rattle.herm_compile.specs.Refused.{start_of, starts};
 
 use crate::compiled::Line;
 use herm_base::Word;

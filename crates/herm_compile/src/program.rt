@@ -7,7 +7,7 @@ ghost use Rattle.herm_compile.specs.declared.compiled.Line.{Line};
 ghost use Rattle.herm_alphabet.specs.declared.token.TokenKind.{TokenKind};
 ghost use Rattle.herm_compile.specs.declared.stop.Stop.TheVariants.{NotBuilt};
 
-use crate::compiled::{Compiled, Line};
+use crate::compiled::{Line, Lines};
 use crate::form::{CLOSE, HEAD, RECEIVING, SEMICOLON, lines_from, names_of};
 use crate::names::index_of;
 use crate::phrase::strip;
@@ -59,7 +59,7 @@ fn lines_in(alloc: Global, names: &IndexSet<Word>, tokens: &[Token]) -> Result<V
 }
 
 /// The program that the tokens spell.
-pub fn program_of(alloc: Global, tokens: &[Token]) -> Result<Compiled, Stop>
+pub fn program_of(alloc: Global, tokens: &[Token]) -> Result<Lines, Stop>
     ensures found { IfOk result (λ c. kinds tokens.now ≡ program_tokens c.names.items c.lines.items) }
     ensures few_names { IfOk result (λ c. length c.names.items ≤ 4000) }
     ensures few_lines { IfOk result (λ c. length c.lines.items ≤ 1024) }
@@ -70,5 +70,5 @@ pub fn program_of(alloc: Global, tokens: &[Token]) -> Result<Compiled, Stop>
 {
     let (names, index, rest) = names_in(alloc, tokens)?;
     let lines = lines_in(alloc, &index, rest)?;
-    Ok(Compiled { names, lines })
+    Ok(Lines { names, lines })
 }

@@ -4,7 +4,10 @@ ghost use Rattle.std.specs.List.{flat_map, AllByRecursion};
 ghost use Rattle.herm_model.specs.Outcomes.{ok};
 ghost use Rattle.herm_compile.specs.Form.{name_of};
 ghost use Rattle.herm_compile.specs.Straight.{IsSmall, ok_hops, refusal_of};
-ghost use Rattle.herm_compile.specs.Refused.{IsPlace, seen, seen_hop, seen_missing, hop_text, gap_words, reported, fault_at};
+ghost use Rattle.herm_compile.specs.Seen.{seen, seen_hop, seen_missing};
+ghost use Rattle.herm_compile.specs.Places.{IsPlace};
+ghost use Rattle.herm_compile.specs.Refused.{reported, fault_at};
+ghost use Rattle.herm_compile.specs.RefusalWords.{hop_text, gap_words};
 
 use crate::check::Gap;
 use crate::fault::{Fact, Fault, Hop, MissingFact, Outcome, Path};

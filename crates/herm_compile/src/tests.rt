@@ -4,11 +4,19 @@ use herm_base::Word;
 use std::alloc::{AllocError, Global};
 use std::test::Fail;
 
-/// What is said of a file: the lines of its refusal, or how many names and lines it has.
+/// What is said of a file.
 fn answer(alloc: Global, bytes: &[u8]) -> Result<String, AllocError> {
-    let name = Word::of(alloc, b"a.hm")?;
-    let files = [(name, bytes.to_vec(alloc)?)];
-    match compile(alloc, &files) {
+    answer_to(alloc, &[bytes])
+}
+
+/// What is said of files: the lines of their refusal, or how many names and lines the program has.
+fn answer_to(alloc: Global, contents: &[&[u8]]) -> Result<String, AllocError> {
+    let mut files = Vec::new(alloc);
+    for bytes in contents {
+        let file = (Word::of(alloc, b"a.hm")?, bytes.to_vec(alloc)?);
+        files.push(file)?;
+    }
+    match compile(alloc, files.as_slice()) {
         Ok(compiled) => {
             let names = compiled.names.len();
             let lines = compiled.lines.len();
@@ -90,13 +98,14 @@ fn refusals_have_their_places_and_paths(rt: HostRuntime) -> Result<(), Fail> {
         ("-- hello\n}", "1 1"),
         ("s := \"a\" -- \"\n;-- }\n}--", "1 2"),
         ("s := \"a\\t\";\n}", "0/4:6: F2 token|"),
-        ("s : = \"a\";\n}", "0/1:1: F12 not built|"),
+        ("s : = \"a\";\n}", "0/4:3: F4 syntax|"),
         ("t := \"a\";\n}", "0/1:1: F12 not built|"),
         ("receive m from start;\n}", "0/1:1: F12 not built|"),
-        ("} }", "0/1:1: F12 not built|"),
+        ("} }", "0/4:3: F4 syntax|"),
         ("send s to m.outport;\n}", "0/1:1: F12 not built|"),
         ("s := 7;\n}", "0/1:1: F12 not built|"),
-        ("", "0/1:1: F12 not built|"),
+        ("", "0/3:24: F4 syntax|"),
+        ("-- behind the last token", "0/3:24: F4 syntax|"),
     ];
     for (body, expected) in cases {
         let mut file = String::from_str(rt.alloc(), head)?;
@@ -128,6 +137,40 @@ fn names_that_are_taken_are_not_built(rt: HostRuntime) -> Result<(), Fail> {
 }
 
 #[test]
+fn definitions_are_refused_over_all_files(rt: HostRuntime) -> Result<(), Fail> {
+    let right: &[u8] = b"definitions d { type a = enum {x}; }";
+    let cases: [(&[u8], &[u8], &str); 6] = [
+        (right, b"", "0/1:1: F12 not built|"),
+        (right, right, "1/1:22: F7 twice|"),
+        (
+            b"definitions d { type r = record {k: a}; }",
+            right,
+            "0/1:1: F12 not built|",
+        ),
+        (
+            b"process p(s: a) { }",
+            b"definitions d { type r =\n record {k: b}; }",
+            "1/2:13: F6 unknown|",
+        ),
+        (
+            b"definitions d { type r = record {k: b}; }",
+            b"x",
+            "1/1:1: F4 syntax|",
+        ),
+        (
+            b"definitions d { type r = outport of integer; }",
+            b"definitions d { exception Busy; exception Busy; }",
+            "0/1:37: F11 bad state|1/1:43: F7 twice|",
+        ),
+    ];
+    for (first, second, expected) in cases {
+        let found = answer_to(rt.alloc(), &[first, second])?;
+        assert_eq!(rt; found.as_str(), expected);
+    }
+    Ok(())
+}
+
+#[test]
 fn a_fault_of_the_bytes_is_the_one_refusal(rt: HostRuntime) -> Result<(), Fail> {
     let cases: [(&[u8], &str); 9] = [
         (
@@ -140,12 +183,57 @@ fn a_fault_of_the_bytes_is_the_one_refusal(rt: HostRuntime) -> Result<(), Fail> 
         (b"process\n\t\"main", "0/2:2: F2 token|"),
         (b"12a \xff", "0/1:1: F2 token|"),
         (b"9223372036854775808", "0/1:1: F3 too long|"),
-        (b"9223372036854775807", "0/1:1: F12 not built|"),
+        (b"9223372036854775807", "0/1:1: F4 syntax|"),
         (b"", "0/1:1: F12 not built|"),
     ];
     for (bytes, expected) in cases {
         let found = answer(rt.alloc(), bytes)?;
         assert_eq!(rt; found.as_str(), expected);
+    }
+    Ok(())
+}
+
+#[test]
+fn each_file_has_its_one_fault_in_order(rt: HostRuntime) -> Result<(), Fail> {
+    let good: &[u8] =
+        b"process main(start: main_start) { var m: main_message; receive m from start; }";
+    let unread: &[u8] = b"process 12a";
+    let cut: &[u8] = b"process main(start: main_start) { send";
+    let built = "0/1:1: F12 not built|";
+    let cases: [(&[&[u8]], &str); 10] = [
+        (&[], built),
+        (&[good], "0 1"),
+        (&[good, good], built),
+        (&[b"", b"definitions d { }"], built),
+        (&[cut, unread], "0/1:39: F4 syntax|1/1:9: F2 token|"),
+        (&[unread, cut], "0/1:9: F2 token|1/1:39: F4 syntax|"),
+        (&[good, cut, b"definitions d { }"], "1/1:39: F4 syntax|"),
+        (&[cut, good, cut], "0/1:39: F4 syntax|2/1:39: F4 syntax|"),
+        (&[b"}", b"\n\xff"], "0/1:1: F4 syntax|1/2:1: F1 byte|"),
+        (&[good, b"-- a comment\nexception e;"], "1/2:1: F4 syntax|"),
+    ];
+    for (contents, expected) in cases {
+        let found = answer_to(rt.alloc(), contents)?;
+        assert_eq!(rt; found.as_str(), expected);
+    }
+    Ok(())
+}
+
+#[test]
+fn a_bracket_too_many_comes_first(rt: HostRuntime) -> Result<(), Fail> {
+    for (kind, count, expected) in [
+        ("while true {", 63, "0/1:774: F4 syntax|"),
+        ("while true {", 64, "0/64:12: F5 nesting|"),
+    ] {
+        let mut file = String::from_str(rt.alloc(), "process p(a: b) {")?;
+        for _ in 0..count {
+            file.push_str(kind)?;
+            if count == 64 {
+                file.push('\n')?;
+            }
+        }
+        let found = answer(rt.alloc(), file.as_bytes())?;
+        assert_eq!(rt; found.as_str(), expected, "{count}");
     }
     Ok(())
 }

@@ -122,6 +122,12 @@ pub told-chosen : {S : Type 0} (loads : S → Load → S → Type 0) (faults : S
 told-chosen loads faults contents before after words status text report due =
     told-at loads faults contents before after (named_file words) status text report due
 
+-- the same for words that name a file
+pub told-named : {S : Type 0} (loads : S → Load → S → Type 0) (faults : S → ℕ) (contents : Option (List File)) (before after : S) (words : List (List ℕ)) (name : List ℕ) (status : ℕ) (text : List ℕ) (report : Option Report) →
+    named_file words ≡ Some name → IsDueByLoads loads faults contents before after (name ∷ []) status text report →
+    IfSome contents (λ files. IsChosen words files (Rose (faults before) (faults after)) status text report)
+told-named loads faults contents before after words name status text report e due = told-chosen loads faults contents before after words status text report (rw e due)
+
 caused-at : {S : Type 0} (loads : S → Load → S → Type 0) (faults : S → ℕ) (contents : Option (List File)) (before after : S) (named : Option (List ℕ)) (status : ℕ) (text : List ℕ) (report : Option Report) →
     MatchOption (option_map (λ name. name ∷ []) named) (IsUsage status text report × (after ≡ before))
     (λ names. IsDueByLoads loads faults contents before after names status text report) →

@@ -8,7 +8,10 @@ use Rattle.herm_compile.specs.declared.compiled.Line.{Line}
 use Rattle.herm_compile.specs.declared.fault.Fault.{Fault}
 use Rattle.herm_compile.specs.Form.{IsOfForm}
 use Rattle.herm_compile.specs.Straight.{process_of}
-use Rattle.herm_compile.specs.Refused.{IsUnread, IsNotBuilt, IsLacking}
+use Rattle.herm_compile.specs.FirstPhase.{HaveTrees}
+use Rattle.herm_meaning.specs.Names.{NamedTable}
+use Rattle.herm_compile.specs.SecondPhase.{HaveTypes}
+use Rattle.herm_compile.specs.Refused.{AreRefused}
 use Rattle.herm_model.specs.Types.{predefined}
 use Rattle.herm_model.specs.Refusals.{IsAccepted}
 use Rattle.herm_world.specs.Lines.{sent}
@@ -17,25 +20,27 @@ use Rattle.herm_world.specs.ReportView.{report_as}
 use Rattle.herm_world.specs.declared.report.Report.{Report}
 use Rattle.herm_driver.specs.Words.{named_file, named_files}
 use Rattle.herm_driver.specs.Loads.{load_limit, AreLoaded, CountsFaults, AreTold}
-use Rattle.herm_driver.specs.Texts.{usage_text, read_fault_text, not_found_text, refusals_text, console_text}
+use Rattle.herm_driver.specs.Texts.{usage_text, read_fault_text, not_found_text, console_text}
+use Rattle.herm_driver.specs.RefusalLines.{refusals_text}
 
 -- the report, with the status and the text, is that of a run of these lines in the source machine
 abbrev pub IsReportOf : ℕ → List Line → ℕ → List ℕ → Option Report → Type 0
 IsReportOf count lines status text None = ⊥
 IsReportOf count lines status text (Some report) = IsReported count lines [] (report_as report status text)
 
--- The bytes are an accepted program, whose run is reported, with the status and the text: the status is 0, and the text has a
--- line for each string that is sent.
+-- The bytes have trees, their definitions have no fault, and they are an accepted program, whose run is reported, with the status
+-- and the text: the status is 0, and the text has a line for each string that is sent.
 abbrev pub IsDone : List ℕ → ℕ → List ℕ → Option Report → Type 0
 IsDone bytes status text report =
-    (status ≡ 0) × (names : List (List ℕ)) × (lines : List Line) × IsOfForm bytes names lines
+    (status ≡ 0) × HaveTrees (bytes ∷ []) × (types : NamedTable) × HaveTypes (bytes ∷ []) types × (names : List (List ℕ)) × (lines : List Line) × IsOfForm bytes names lines
     × IsAccepted predefined (process_of (length names) lines) × (text ≡ console_text (sent (length names) lines))
     × IsReportOf (length names) lines status text report
 
--- the bytes are refused: they have a fault, or their tokens are of no program that is built, or facts are missing in it; a line for each fault
+-- the bytes are refused: they have a fault, or their definitions have faults, or they are of no program that is built, or facts are
+-- missing in it; a line for each fault
 abbrev pub IsRefusal : List ℕ → List ℕ → ℕ → List ℕ → Option Report → Type 0
 IsRefusal name bytes status text report =
-    (status ≡ 1) × (faults : List Fault) × (IsUnread bytes faults ⊎ IsNotBuilt bytes faults ⊎ IsLacking bytes faults) × (text ≡ refusals_text name faults)
+    (status ≡ 1) × (faults : List Fault) × AreRefused (bytes ∷ []) faults × (text ≡ refusals_text name faults)
     × (report ≡ None)
 
 -- no file has the name
@@ -129,8 +134,8 @@ pub record IsAnswer (chooses : ℕ → List ℕ → Type 0) (count after_count :
   pub written : IsWritten count after_count before after status chosen text
 
 -- memory was wanting: nothing was written and nothing is reported
-abbrev pub IsUnanswered : ℕ → ℕ → Option (List ℕ) → Option (List ℕ) → ℕ → Option Report → Type 0
-IsUnanswered count after_count before after status report =
+abbrev pub IsUnwritten : ℕ → ℕ → Option (List ℕ) → Option (List ℕ) → ℕ → Option Report → Type 0
+IsUnwritten count after_count before after status report =
     (status ≡ 5) × (after ≡ before) × (after_count ≡ count) × (report ≡ None)
 
 -- What a call of the program does, for any shelf and any sink: memory was wanting, or the text that is due to the words, by what
@@ -138,7 +143,7 @@ IsUnanswered count after_count before after status report =
 abbrev pub IsAnswered : {S : Type 0} → (S → Load → S → Type 0) → (S → ℕ) → Option (List File) → S → S → List (List ℕ)
     → (count after_count : ℕ) → (written after_written : Option (List ℕ)) → ℕ → Option Report → Type 0
 IsAnswered loads faults contents before after words count after_count written after_written status report =
-    IsUnanswered count after_count written after_written status report
+    IsUnwritten count after_count written after_written status report
     ⊎ IsAnswer (λ chosen text. IsDueToWords loads faults contents before after words chosen text report) count after_count written after_written status
 
 -- the status that the program ends with is that of a call

@@ -2,3 +2,4 @@ pub mod Words
 pub mod Texts
 pub mod Loads
 pub mod Due
+pub mod RefusalLines

@@ -1,8 +1,7 @@
 -- The texts that the program writes. (Language reference, "Statuses and texts")
-use Rattle.std.specs.Prelude.{ℕ, List, [], ◌∷◌, ◌++◌, codes, decimal}
+use Rattle.std.specs.Prelude.{ℕ, List, [], ◌∷◌, ◌++◌, codes}
 use Rattle.std.specs.List.{flat_map}
-use Rattle.herm_system.specs.Statuses.{line}
-use Rattle.herm_compile.specs.declared.fault.Fault.{Fault}
+use Rattle.herm_system.specs.Lines.{line}
 
 abbrev pub newline : List ℕ
 newline = 10 ∷ []
@@ -19,16 +18,6 @@ read_fault_text name = file_text name (codes ": read fault\n")
 
 abbrev pub not_found_text : List ℕ → List ℕ
 not_found_text name = file_text name (codes ": not found\n")
-
--- a refusal's line: the file, the line, the column, the code and the words
-abbrev pub refusal_text : List ℕ → Fault → List ℕ
-refusal_text name fault =
-    (name ++ 58 ∷ decimal fault.line ++ 58 ∷ decimal fault.column)
-    ++ (codes ": F" ++ decimal fault.code ++ 32 ∷ fault.words ++ newline)
-
-abbrev pub refusals_text : List ℕ → List Fault → List ℕ
-refusals_text name [] = []
-refusals_text name (fault ∷ faults) = refusal_text name fault ++ refusals_text name faults
 
 -- the console's lines: each string, followed by a newline
 abbrev pub console_text : List (List ℕ) → List ℕ

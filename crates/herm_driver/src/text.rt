@@ -1,6 +1,7 @@
 //! The texts that the program writes.
 ghost use Rattle.std.specs.Prelude.{◌≡◌, ◌∷◌, ◌++◌, IfOk, OnOk, codes, map, string_bytes, decimal};
-ghost use Rattle.herm_driver.specs.Texts.{usage_text, file_text, refusal_text, refusals_text, console_text, newline};
+ghost use Rattle.herm_driver.specs.Texts.{usage_text, file_text, console_text, newline};
+ghost use Rattle.herm_driver.specs.RefusalLines.{refusal_text, refusals_text};
 ghost use Rattle.herm_world.specs.StringTexts.{unquoted};
 
 use herm_compile::Fault;

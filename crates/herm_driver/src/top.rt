@@ -2,7 +2,7 @@
 ghost use Rattle.std.specs.Prelude.{◌≡◌, ◌≢◌, ◌≤◌, ◌⊎◌, IfSome, None, MatchOption, map, string_bytes};
 ghost use Rattle.herm_edge.specs.Faults.{Rose};
 ghost use Rattle.herm_driver.specs.Loads.{FirstAreLoaded};
-ghost use Rattle.herm_driver.specs.Due.{IsAnswered, IsChosen, IsWritten, IsAnswer, IsUnanswered};
+ghost use Rattle.herm_driver.specs.Due.{IsAnswered, IsChosen, IsWritten, IsAnswer, IsUnwritten};
 ghost use Rattle.herm_driver.specs.Words.{named_file, named_files};
 ghost use Rattle.herm_driver.specs.Texts.{usage_text};
 
@@ -44,11 +44,11 @@ pub fn hermes<F: Shelf, S: Sink, G: Gate + Sync>(
     ensures answered { IsAnswered F.loads F.faults (F.contents shelf.old) shelf.old shelf.new (map string_bytes words.now)
         (S.faults sink.old) (S.faults sink.new) (S.written sink.old) (S.written sink.new) result.status result.report }
     ensures told { IfSome (F.contents shelf.old) (λ files.
-        IsUnanswered (S.faults sink.old) (S.faults sink.new) (S.written sink.old) (S.written sink.new) result.status result.report
+        IsUnwritten (S.faults sink.old) (S.faults sink.new) (S.written sink.old) (S.written sink.new) result.status result.report
         ⊎ IsAnswer (λ status text. IsChosen (map string_bytes words.now) files (Rose (F.faults shelf.old) (F.faults shelf.new)) status text result.report)
         (S.faults sink.old) (S.faults sink.new) (S.written sink.old) (S.written sink.new) result.status) }
     ensures usage { named_file (map string_bytes words.now) ≡ None →
-        (IsUnanswered (S.faults sink.old) (S.faults sink.new) (S.written sink.old) (S.written sink.new) result.status result.report
+        (IsUnwritten (S.faults sink.old) (S.faults sink.new) (S.written sink.old) (S.written sink.new) result.status result.report
         ⊎ IsWritten (S.faults sink.old) (S.faults sink.new) (S.written sink.old) (S.written sink.new)
         result.status 2 usage_text) }
     ensures usage_only { result.status ≡ 2 → named_file (map string_bytes words.now) ≡ None }

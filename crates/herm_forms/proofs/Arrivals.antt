@@ -4,14 +4,14 @@ use mathlib.Core.Bool.{false≢true}
 use Rattle.herm_model.specs.Types.{TypeTable}
 use Rattle.herm_model.specs.Facts.{IsClosed}
 use Rattle.herm_model.specs.Statements.{Process}
-use Rattle.herm_model.specs.Nodes.{Target, node, end, end_by}
-use Rattle.herm_model.specs.Control.{flow_of, held_behind, IsReached}
+use Rattle.herm_model.specs.Targets.{Target, node, end, end_by}
+use Rattle.herm_model.specs.ControlPaths.{flow_of, held_after_edge, IsReached}
 use Rattle.herm_model.specs.Refusals.{Labels, label_at, AreExact}
-use Rattle.herm_model.specs.FlowLaws.{goes_on}
+use Rattle.herm_model.specs.laws.FlowLaws.{goes_on}
 use Rattle.herm_model.proofs.DifferentOutcomes.{process-EdgesDiffer}
 use Rattle.herm_model.proofs.Reached.{reached-IsLedTo, reached-led}
-use Rattle.herm_forms.specs.Edges.{code_of}
-use Rattle.herm_forms.specs.Arrival.{EdgesArrive}
+use Rattle.herm_forms.specs.Modules.{module_of}
+use Rattle.herm_forms.specs.laws.EdgeLaws.{EdgesArrive}
 use Rattle.herm_forms.proofs.Arrived.{edges-exact}
 use Rattle.herm_forms.proofs.HeldLabels.{exact-flows, exact-closed}
 
@@ -25,6 +25,6 @@ pub edges-arrive : EdgesArrive
 edges-arrive types p labels formed exact deep i point e reached at member b sound =
     let differ = process-EdgesDiffer types p formed in
     let there = (reached-led (flow_of types p) differ e.target).1 (goes_on i point e (reached-IsLedTo (flow_of types p) (node i) reached) at member) in
-    edges-exact (code_of types p labels) e.target b (λ f. held_behind e f (labels i f)) deep sound
+    edges-exact (module_of types p labels) e.target b (λ f. held_after_edge e f (labels i f)) deep sound
     (λ f label. exact-flows (flow_of types p) labels exact differ i point e f at member reached e.target refl label)
     (closed-at types p labels exact e.target there)

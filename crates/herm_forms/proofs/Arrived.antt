@@ -5,13 +5,14 @@ use Rattle.std.proofs.lemmas.List.{append-nil}
 use Rattle.std.specs.Prelude.{is_some, slice_get, IsTrue, filter}
 use mathlib.Core.Bool.{true≢false, false≢true}
 use borrow.Author.Tests.{not-true}
-use Rattle.herm_model.specs.Lists.{IsIn, every, numbered}
+use Rattle.herm_model.specs.Lists.{IsIn, all_pass, numbered}
 use Rattle.herm_model.specs.Paths.{Path, Fact, init, case, parent, is_at_or_below}
-use Rattle.herm_model.specs.Types.{TypeTable, part_of, is_variant, is_within_depth, greatest_depth, enters_component, passes_component, held_parts, steps, variable_paths}
+use Rattle.herm_model.specs.Types.{TypeTable, part_of, is_variant, is_within_depth, greatest_depth, enters_component, passes_component, held_parts, part_paths, variable_paths}
 use Rattle.herm_model.specs.Facts.{facts_from, facts_to, prefixes, IsClosed}
-use Rattle.herm_model.specs.Nodes.{Target}
+use Rattle.herm_model.specs.Targets.{Target}
 use Rattle.herm_model.specs.Refusals.{label_at}
-use Rattle.herm_model.specs.Values.{Cell, cell, Parts, no_parts, gap, part, part_at, inside, opens, cell_at, has_value, read_at, set_part, set_at, change_part, change_inside, clear_at, HasExactly, is_component, tells}
+use Rattle.herm_model.specs.Values.{Cell, cell, Parts, no_parts, gap, part, part_at, inside, opens, cell_at, has_value, read_at, set_part, set_at, change_part, change_inside, clear_at}
+use Rattle.herm_model.specs.FactsOfValues.{HasExactly, is_component, satisfies}
 use Rattle.herm_model.specs.Typed.{partly, a_value, exactly, Fits, HasType, HaveTypes}
 use Rattle.herm_model.specs.Finalising.{is_left, excess_at, excess, clear_all}
 use Rattle.herm_model.proofs.Lists.{and-both, in-append_right, in-map, in-map_from, in-flat_map, in-flat_map_from, in-every, every-in}
@@ -19,9 +20,11 @@ use Rattle.herm_model.proofs.Excess.{excess-top, top-excess}
 use Rattle.herm_model.proofs.Steps.{steps-lead}
 use Rattle.herm_model.proofs.Beginnings.{begins-with}
 use Rattle.herm_model.proofs.Prefixes.{to-longer}
-use Rattle.herm_forms.specs.Bodies.{Name, Loop, Body, let_go_old, let_go_parts, cleared, drop_at, drop}
-use Rattle.herm_forms.specs.Edges.{Code, keeps, keeps_loop, let_go_loops, arrive}
-use Rattle.herm_forms.specs.Arrival.{AreDeep, EdgesAreExact}
+use Rattle.herm_forms.specs.Frames.{Name, Loop, Frame, finalise_old, finalise_parts, cleared, drop_at, drop}
+use Rattle.herm_forms.specs.EdgeFinalising.{keeps, arrive}
+use Rattle.herm_forms.specs.LeavingLoops.{keeps_loop, finalise_loops}
+use Rattle.herm_forms.specs.Modules.{Module}
+use Rattle.herm_forms.specs.laws.EdgeLaws.{AreDeep, EdgesAreExact}
 use Rattle.herm_forms.proofs.TypedReading.{opening, typed-read, read-listed}
 use Rattle.herm_forms.proofs.Dropped.{is_path_at, at_or_above, all_cleared-has, all_cleared-reads, proper_prefixes, topmost, top_of, from_topmost}
 
@@ -48,23 +51,23 @@ parent-begins q (i ∷ j ∷ p) (inr h) =
 
 -- the variables behind an edge
 module _ {N : Type 0} where
-  pub old-variables : (o : Option (Cell N)) (b : Body N) → (let_go_old o b).variables ≡ b.variables
+  pub old-variables : (o : Option (Cell N)) (b : Frame N) → (finalise_old o b).variables ≡ b.variables
   old-variables None b = refl
   old-variables (Some c) b = refl
 
-  pub drop-variables : (paths : List Path) (b : Body N) → (drop paths b).variables ≡ clear_all paths b.variables
+  pub drop-variables : (paths : List Path) (b : Frame N) → (drop paths b).variables ≡ clear_all paths b.variables
   drop-variables [] b = refl
   drop-variables (p ∷ paths) b = drop-variables paths (drop_at p b) ∙ ap (clear_all paths) (old-variables (cell_at p b.variables) (cleared p b))
 
-  cond-variables : (t : Bool) (ps : Parts N) (b : Body N) → (cond t b (let_go_parts ps b)).variables ≡ b.variables
+  cond-variables : (t : Bool) (ps : Parts N) (b : Frame N) → (cond t b (finalise_parts ps b)).variables ≡ b.variables
   cond-variables true ps b = refl
   cond-variables false ps b = refl
 
-  loops-variables : (stay : ℕ → Bool) (loops : List (Loop N)) (b : Body N) → (let_go_loops stay loops b).variables ≡ b.variables
+  loops-variables : (stay : ℕ → Bool) (loops : List (Loop N)) (b : Frame N) → (finalise_loops stay loops b).variables ≡ b.variables
   loops-variables stay [] b = refl
-  loops-variables stay (l ∷ loops) b = loops-variables stay loops (cond (stay l.statement) b (let_go_parts l.rows b)) ∙ cond-variables (stay l.statement) l.rows b
+  loops-variables stay (l ∷ loops) b = loops-variables stay loops (cond (stay l.statement) b (finalise_parts l.rows b)) ∙ cond-variables (stay l.statement) l.rows b
 
-  pub arrive-variables : (c : Code) (t : Target) (b : Body N) → (arrive c t b).variables ≡ clear_all (excess c.types c.variables (has_value b.variables) (keeps c t)) b.variables
+  pub arrive-variables : (c : Module) (t : Target) (b : Frame N) → (arrive c t b).variables ≡ clear_all (excess c.types c.variables (has_value b.variables) (keeps c t)) b.variables
   arrive-variables c t b =
       let lost = excess c.types c.variables (has_value b.variables) (keeps c t) in
       loops-variables (keeps_loop c t) (drop lost b).loops (record (drop lost b) { loops = filter (λ (l : Loop N). keeps_loop c t l.statement) (drop lost b).loops })
@@ -91,13 +94,13 @@ module _ (types : TypeTable) (variables : List ℕ) (deep : (t : ℕ) → IsIn t
   topmost-excess : (q : Path) → IsIn q (topmost here kept (variable_paths held_parts types variables)) → ((q : Path) → here q ≡ true → IsIn q (variable_paths held_parts types variables)) → IsIn q (excess types variables here kept)
   topmost-excess q h listed =
       let l = from_topmost here kept (variable_paths held_parts types variables) listed q h in
-      let v = in-flat_map_from (λ (v : ℕ × ℕ). map (v.0 ∷◌) (steps held_parts types v.1)) q (numbered 0 variables) l.2 in
-      let r = in-map_from (v.0.0 ∷◌) q (steps held_parts types v.0.1) v.2 in
+      let v = in-flat_map_from (λ (v : ℕ × ℕ). map (v.0 ∷◌) (part_paths held_parts types v.1)) q (numbered 0 variables) l.2 in
+      let r = in-map_from (v.0.0 ∷◌) q (part_paths held_parts types v.0.1) v.2 in
       in-flat_map (λ (v : ℕ × ℕ). excess_at types here kept (v.0 ∷ []) v.1) v.0 q (numbered 0 variables) v.1
       (top-excess (is_left here kept) types greatest_depth (v.0.0 ∷ []) v.0.1 r.0 q (deep v.0.1 (numbered-listed variables 0 v.0.0 v.0.1 v.1)) r.2
-      (steps-lead held_parts types greatest_depth v.0.1 r.0 r.1) l.0 (first v.0.0 r.0 (subst (λ p. every (λ q. not (is_left here kept q)) (proper_prefixes p) ≡ true) r.2 l.1)))
+      (steps-lead held_parts types greatest_depth v.0.1 r.0 r.1) l.0 (first v.0.0 r.0 (subst (λ p. all_pass (λ q. not (is_left here kept q)) (proper_prefixes p) ≡ true) r.2 l.1)))
     where
-      first : (v : ℕ) (p : List ℕ) → every (λ q. not (is_left here kept q)) (proper_prefixes (v ∷ p)) ≡ true → (r : List ℕ) (i : ℕ) (more : List ℕ) → p ≡ r ++ i ∷ more → is_left here kept (v ∷ r) ≡ false
+      first : (v : ℕ) (p : List ℕ) → all_pass (λ q. not (is_left here kept q)) (proper_prefixes (v ∷ p)) ≡ true → (r : List ℕ) (i : ℕ) (more : List ℕ) → p ≡ r ++ i ∷ more → is_left here kept (v ∷ r) ≡ false
       first v p none r i more e =
           not-true (is_left here kept (v ∷ r)) (every-in (λ q. not (is_left here kept q)) (v ∷ r) (proper_prefixes (v ∷ p)) none (subst (λ p. IsIn (v ∷ r) (proper_prefixes (v ∷ p))) (sym e) (begins-properly v r i more)))
 
@@ -106,7 +109,7 @@ some-there : {X : Type 0} (o : Option X) → is_some o ≡ true → (x : X) × (
 some-there None h = absurd (false≢true h)
 some-there (Some x) h = (x, refl)
 
-module _ {N : Type 0} (c : Code) (t : Target) (ps : Parts N) (has : Fact → Bool) (deep : AreDeep c) (typed : HaveTypes c.types c.variables ps) (exact : HasExactly ps (λ f. IsTrue (has f)))
+module _ {N : Type 0} (c : Module) (t : Target) (ps : Parts N) (has : Fact → Bool) (deep : AreDeep c) (typed : HaveTypes c.types c.variables ps) (exact : HasExactly ps (λ f. IsTrue (has f)))
     (less : (f : Fact) → IsTrue (label_at c.label t f) → IsTrue (has f)) (closed : IsClosed c.types c.variables (λ f. IsTrue (label_at c.label t f))) where
   abbrev here : Path → Bool
   here p = has_value ps p
@@ -138,7 +141,7 @@ module _ {N : Type 0} (c : Code) (t : Target) (ps : Parts N) (has : Fact → Boo
   path-if [] h = absurd (false≢true h)
   path-if (i ∷ q) h = refl
 
-  lost-paths : IsTrue (every is_path_at lost)
+  lost-paths : IsTrue (all_pass is_path_at lost)
   lost-paths = in-every is_path_at lost (λ q h. path-if q (lost-is q h).0)
 
   -- with a fact at a path, the value at each path above it is kept
@@ -173,7 +176,7 @@ module _ {N : Type 0} (c : Code) (t : Target) (ps : Parts N) (has : Fact → Boo
       absurd (true≢false (sym (kept-above (case p k) q p r.0 l.0 r.1 (λ g h. h) label) ∙ l.1))
 
   -- a value that stays is kept
-  stays-kept : (p : Path) → here p ≡ true → every (λ q. not (is_at_or_below q p)) lost ≡ true → (b : Bool) → keeps c t p ≡ b → b ≡ true
+  stays-kept : (p : Path) → here p ≡ true → all_pass (λ q. not (is_at_or_below q p)) lost ≡ true → (b : Bool) → keeps c t p ≡ b → b ≡ true
   stays-kept p h none true e = refl
   stays-kept p h none false e =
       let left : is_left here (keeps c t) p ≡ true = ap₂ (λ a b. a && not b) h e in
@@ -184,7 +187,7 @@ module _ {N : Type 0} (c : Code) (t : Target) (ps : Parts N) (has : Fact → Boo
   arrived-exact = record {
     values = λ p. (
       (λ h.
-          let both = and-both (here p) (every (λ q. not (is_at_or_below q p)) lost) (sym (all_cleared-has N lost p ps lost-paths) ∙ h) in
+          let both = and-both (here p) (all_pass (λ q. not (is_at_or_below q p)) lost) (sym (all_cleared-has N lost p ps lost-paths) ∙ h) in
           stays-kept p both.0 both.1 (keeps c t p) refl),
       (λ label.
           let there = (exact.values p).1 (less (init p) label) in

@@ -6,9 +6,9 @@ use Rattle.herm_model.specs.Statements.{Form, New, Call, Return, ReturnBy, Creat
 use Rattle.herm_model.specs.Values.{Name, Kind, an_inport, kind_of, Cell, cell_at}
 use Rattle.herm_journal.specs.Actions.{make_port, make_process, put, take, close, answer, hear}
 use Rattle.herm_journal.specs.Messages.{CellAction}
-use Rattle.herm_forms.specs.Bodies.{Body, Taken}
-use Rattle.herm_forms.specs.Exchanges.{Composed}
-use Rattle.herm_forms.specs.Edges.{Code}
+use Rattle.herm_forms.specs.Frames.{Frame, Taken}
+use Rattle.herm_forms.specs.Callmessages.{Composed}
+use Rattle.herm_forms.specs.Modules.{Module}
 use Rattle.herm_forms.specs.Acts.{composed, given_back, given_at, given_by}
 
 module _ {N : Type 0} (extra : Kind → ℕ) where
@@ -36,17 +36,17 @@ module _ {N : Type 0} (extra : Kind → ℕ) where
   -- of the callmessage that a return ends
   abbrev pub source_load : Path → Option (Taken N) → ℕ
   source_load source None = 0
-  source_load source (Some t) = kind_load (cell_at source t.body.variables)
+  source_load source (Some t) = kind_load (cell_at source t.frame.variables)
 
   -- by the form: what its answer makes besides copies
-  abbrev pub begun : (Name → N) → Code → Form → Body N → CellAction N → ℕ
+  abbrev pub begun : (Name → N) → Module → Form → Frame N → CellAction N → ℕ
   begun name c (New x) b action = port_load action
   begun name c (Create o process) b action = port_load action
   begun name c (Call o arguments) b action = call_load (composed name c o arguments b)
   begun name c form b action = 0
 
   -- and what it ends at once although it waits elsewhere
-  abbrev pub over : Code → Form → Body N → CellAction N → ℕ
+  abbrev pub over : Module → Form → Frame N → CellAction N → ℕ
   over c (Call o arguments) b action = back_load action
   over c (Return x) b action = source_load x (given_back c (given_at c x) b)
   over c (ReturnBy x ex) b action = source_load x (given_back c (given_by c x ex) b)
@@ -85,15 +85,15 @@ module _ {N : Type 0} (w : N → ℕ) where
 
   none-given : (source : Path) (o : Option (Taken N)) → source_load (none w) source o ≡ 0
   none-given source None = refl
-  none-given source (Some t) = none-there (cell_at source t.body.variables)
+  none-given source (Some t) = none-there (cell_at source t.frame.variables)
 
-  pub none-begun : (name : Name → N) (c : Code) (form : Form) (b : Body N) (action : CellAction N) → begun (none w) name c form b action ≡ 0
+  pub none-begun : (name : Name → N) (c : Module) (form : Form) (b : Frame N) (action : CellAction N) → begun (none w) name c form b action ≡ 0
   none-begun name c (New x) b action = none-ported action
   none-begun name c (Create o process) b action = none-ported action
   none-begun name c (Call o arguments) b action = none-called (composed name c o arguments b)
   none-begun name c form b action = refl
 
-  pub none-over : (c : Code) (form : Form) (b : Body N) (action : CellAction N) → over (none w) c form b action ≡ 0
+  pub none-over : (c : Module) (form : Form) (b : Frame N) (action : CellAction N) → over (none w) c form b action ≡ 0
   none-over c (Call o arguments) b action = none-back action
   none-over c (Return x) b action = none-given x (given_back c (given_at c x) b)
   none-over c (ReturnBy x ex) b action = none-given x (given_back c (given_by c x ex) b)

@@ -8,8 +8,9 @@ use Rattle.herm_model.specs.Facts.{full_facts}
 use Rattle.herm_model.specs.Expressions.{Atom}
 use Rattle.herm_model.specs.Calls.{call_parameters}
 use Rattle.herm_model.specs.StatementTable.{parameters_at}
-use Rattle.herm_model.specs.Nodes.{Target}
-use Rattle.herm_model.specs.Values.{Kind, kind_of, a_callmessage, Cell, cell, Parts, cell_at, set_at, clear_at, change_inside, count_in, copy_in, has_value}
+use Rattle.herm_model.specs.Targets.{Target}
+use Rattle.herm_model.specs.Values.{Kind, kind_of, a_callmessage, Cell, cell, Parts, cell_at, set_at, clear_at, change_inside, has_value}
+use Rattle.herm_model.specs.CellNames.{count_in, copy_in}
 use Rattle.herm_model.specs.Finalising.{clear_all, excess}
 use Rattle.herm_model.proofs.Lists.{in-map_from, in-flat_map_from}
 use Rattle.herm_model.proofs.Beginnings.{begins-with}
@@ -17,9 +18,12 @@ use Rattle.herm_model.proofs.Options.{some-injective, none-not_some, chain-some,
 use Rattle.herm_model.proofs.Places.{cell_at-set_above}
 use Rattle.herm_journal.specs.Actions.{to_answer}
 use Rattle.herm_journal.specs.Messages.{CellReply, CellWant}
-use Rattle.herm_forms.specs.Bodies.{Name, Loop, Body, let_go_parts, let_go_old, cleared, drop_at, drop, Taken, take_all}
-use Rattle.herm_forms.specs.Exchanges.{Composed, compose, assemble, with_message, caller_of, return_wants}
-use Rattle.herm_forms.specs.Edges.{Code, arrive, keeps, keeps_loop, let_go_loops, beyond_full}
+use Rattle.herm_forms.specs.Frames.{Name, Loop, Frame, finalise_parts, finalise_old, cleared, drop_at, drop, Taken, take_all}
+use Rattle.herm_forms.specs.Callmessages.{Composed, compose, assemble, with_message, caller_of, return_wants}
+use Rattle.herm_forms.specs.EdgeFinalising.{arrive, keeps}
+use Rattle.herm_forms.specs.LeavingLoops.{keeps_loop, finalise_loops}
+use Rattle.herm_forms.specs.Excess.{excess_over_full}
+use Rattle.herm_forms.specs.Modules.{Module}
 use Rattle.herm_forms.specs.Acts.{arguments_at, is_inout, inputs_of, composed, given_back}
 use Rattle.herm_forms.proofs.Arrived.{drop-variables}
 use Rattle.herm_forms.proofs.KeptNumbers.{is-composed}
@@ -29,20 +33,20 @@ use Rattle.herm_forms.proofs.forms.ExcessDropped.{beyond-below}
 
 -- a call's callmessage is of the caller and of its number
 module _ (name : Name → Name) where
-  message-kind : (b : Body Name) (o : Option (Parts Name)) (x : Composed Name) → option_map (with_message name b) o ≡ Some x → kind_of x.message ≡ a_callmessage x.body.number x.call
-  message-kind b o x is = let m = map-some (with_message name b) o x is in subst (λ (x : Composed Name). kind_of x.message ≡ a_callmessage x.body.number x.call) m.2 refl
+  message-kind : (b : Frame Name) (o : Option (Parts Name)) (x : Composed Name) → option_map (with_message name b) o ≡ Some x → kind_of x.message ≡ a_callmessage x.frame.number x.call
+  message-kind b o x is = let m = map-some (with_message name b) o x is in subst (λ (x : Composed Name). kind_of x.message ≡ a_callmessage x.frame.number x.call) m.2 refl
 
-  compose-kind : (modes : List Mode) (inputs : Parts ⊤) (lost moved : List Path) (b : Body Name) (x : Composed Name) → compose name modes inputs lost moved b ≡ Some x → kind_of x.message ≡ a_callmessage x.body.number x.call
+  compose-kind : (modes : List Mode) (inputs : Parts ⊤) (lost moved : List Path) (b : Frame Name) (x : Composed Name) → compose name modes inputs lost moved b ≡ Some x → kind_of x.message ≡ a_callmessage x.frame.number x.call
   compose-kind modes inputs lost moved b x is =
       let copies = copy_in (λ s. name (b.number, s)) b.serial inputs in
-      let t = chain-some (λ (taken : Taken Name). option_map (with_message name taken.body) (assemble modes copies taken.cells)) (take_all moved (drop lost (record b { serial = b.serial + count_in inputs }))) x is in
-      message-kind t.0.body (assemble modes copies t.0.cells) x t.2
+      let t = chain-some (λ (taken : Taken Name). option_map (with_message name taken.frame) (assemble modes copies taken.cells)) (take_all moved (drop lost (record b { serial = b.serial + count_in inputs }))) x is in
+      message-kind t.0.frame (assemble modes copies t.0.cells) x t.2
 
-  pub call-kind : (c : Code) (o : Path) (arguments : List Atom) (b : Body Name) (x : Composed Name) → composed name c o arguments b ≡ Some x → kind_of x.message ≡ a_callmessage b.number x.call
+  pub call-kind : (c : Module) (o : Path) (arguments : List Atom) (b : Frame Name) (x : Composed Name) → composed name c o arguments b ≡ Some x → kind_of x.message ≡ a_callmessage b.number x.call
   call-kind c o arguments b x is =
       let modes = map (λ (p : Parameter). p.mode) (call_parameters c.types c.variables o) in
       let moved = arguments_at c is_inout o arguments in
-      let lost = flat_map (λ (p : Path). beyond_full c p b) moved in
+      let lost = flat_map (λ (p : Path). excess_over_full c p b) moved in
       let r = chain-some (λ inputs. compose name modes inputs lost moved b) (inputs_of (call_parameters c.types c.variables o) arguments b.variables) x is in
       compose-kind modes r.0 lost moved b x r.2 ∙ ap (λ n. a_callmessage n x.call) (is-composed name b.number c o arguments b x refl is)
 
@@ -72,19 +76,19 @@ module _ (i : ℕ) (q : Path) where
       let b = begins-with x p at in
       (below.0, below.1 ++ b.0, b.1 ∙ ap (◌++ b.0) below.2 ∙ append_assoc (i ∷ q) (below.0 ∷ below.1) b.0)
 
-  lost-below : (c : Code) (b : Body Name) (places : List ℕ) (p : Path) → IsIn p (flat_map (λ p. beyond_full c p b) (map (λ n. (i ∷ q) ++ n ∷ []) places)) → IsBelow (i ∷ q) p
+  lost-below : (c : Module) (b : Frame Name) (places : List ℕ) (p : Path) → IsIn p (flat_map (λ p. excess_over_full c p b) (map (λ n. (i ∷ q) ++ n ∷ []) places)) → IsBelow (i ∷ q) p
   lost-below c b places p h =
-      let x = in-flat_map_from (λ p. beyond_full c p b) p (map (λ n. (i ∷ q) ++ n ∷ []) places) h in
+      let x = in-flat_map_from (λ p. excess_over_full c p b) p (map (λ n. (i ∷ q) ++ n ∷ []) places) h in
       under-below x.0 p (given-below places x.0 x.1) (beyond-below c.types (type_at c.types c.variables x.0) (list_of (λ t. full_facts c.types t (0 ∷ [])) (type_at c.types c.variables x.0)) x.0 b p x.2)
 
   -- so the callmessage that a return ends is there as it was
-  module _ (extra : Kind → ℕ) (c : Code) (places : List ℕ) (b : Body Name) where
+  module _ (extra : Kind → ℕ) (c : Module) (places : List ℕ) (b : Frame Name) where
     abbrev given : List Path
     given = map (λ n. (i ∷ q) ++ n ∷ []) places
 
-    source-kind : (t : Taken Name) → given_back c given b ≡ Some t → option_map kind_of (cell_at (i ∷ q) t.body.variables) ≡ option_map kind_of (cell_at (i ∷ q) b.variables)
+    pub source-kind : (t : Taken Name) → given_back c given b ≡ Some t → option_map kind_of (cell_at (i ∷ q) t.frame.variables) ≡ option_map kind_of (cell_at (i ∷ q) b.variables)
     source-kind t is =
-        let lost = flat_map (λ (p : Path). beyond_full c p b) given in
+        let lost = flat_map (λ (p : Path). excess_over_full c p b) given in
         let are = taken-variables given (drop lost b) t is ∙ ap (clear_all given) (drop-variables lost b) in
         ap (λ (ps : Parts Name). option_map kind_of (cell_at (i ∷ q) ps)) are
         ∙ kind-cleared_all given (clear_all lost b.variables) (given-below places) ∙ kind-cleared_all lost b.variables (lost-below c b places)
@@ -106,7 +110,7 @@ pub record Answered (extra : Kind → ℕ) (m : Path) (taken : Option (Taken Nam
   pub is : want ≡ to_answer caller call reply
   pub ends : source_load extra m taken ≡ extra (a_callmessage caller call)
 
-pub return-ends : (extra : Kind → ℕ) (c : Code) (m : Path) (places : List ℕ) (reply : List (Cell Name) → CellReply Name) (b : Body Name) (want : CellWant Name)
+pub return-ends : (extra : Kind → ℕ) (c : Module) (m : Path) (places : List ℕ) (reply : List (Cell Name) → CellReply Name) (b : Frame Name) (want : CellWant Name)
     → return_wants reply (given_back c (parameters_at c.types c.variables m places) b) m b ≡ Some want → Answered extra m (given_back c (parameters_at c.types c.variables m places) b) want
 return-ends extra c [] places reply b want is = none-not_some is
 return-ends extra c (i ∷ q) places reply b want is =
@@ -119,27 +123,27 @@ return-ends extra c (i ∷ q) places reply b want is =
       reply = reply t.0.cells;
       is = sym t.2;
       ends = ap (source_load extra (i ∷ q)) t.1
-          ∙ load-kind extra (cell_at (i ∷ q) t.0.body.variables) (a_callmessage to.0.0 to.0.1) (source-kind i q extra c places b t.0 t.1 ∙ caller-kind (cell_at (i ∷ q) b.variables) to.0 to.1);
+          ∙ load-kind extra (cell_at (i ∷ q) t.0.frame.variables) (a_callmessage to.0.0 to.0.1) (source-kind i q extra c places b t.0 t.1 ∙ caller-kind (cell_at (i ∷ q) b.variables) to.0 to.1);
     }
 
 -- drops and edges leave the number of the open call
-old-call : (o : Option (Cell Name)) (b : Body Name) → (let_go_old o b).call ≡ b.call
+old-call : (o : Option (Cell Name)) (b : Frame Name) → (finalise_old o b).call ≡ b.call
 old-call None b = refl
 old-call (Some d) b = refl
 
-pub drop-call : (paths : List Path) (b : Body Name) → (drop paths b).call ≡ b.call
+pub drop-call : (paths : List Path) (b : Frame Name) → (drop paths b).call ≡ b.call
 drop-call [] b = refl
 drop-call (p ∷ paths) b = drop-call paths (drop_at p b) ∙ old-call (cell_at p b.variables) (cleared p b)
 
-one-call : (t : Bool) (l : Loop Name) (b : Body Name) → (cond t b (let_go_parts l.rows b)).call ≡ b.call
+one-call : (t : Bool) (l : Loop Name) (b : Frame Name) → (cond t b (finalise_parts l.rows b)).call ≡ b.call
 one-call true l b = refl
 one-call false l b = refl
 
-loops-call : (stay : ℕ → Bool) (loops : List (Loop Name)) (b : Body Name) → (let_go_loops stay loops b).call ≡ b.call
+loops-call : (stay : ℕ → Bool) (loops : List (Loop Name)) (b : Frame Name) → (finalise_loops stay loops b).call ≡ b.call
 loops-call stay [] b = refl
-loops-call stay (l ∷ loops) b = loops-call stay loops (cond (stay l.statement) b (let_go_parts l.rows b)) ∙ one-call (stay l.statement) l b
+loops-call stay (l ∷ loops) b = loops-call stay loops (cond (stay l.statement) b (finalise_parts l.rows b)) ∙ one-call (stay l.statement) l b
 
-pub arrive-call : (c : Code) (t : Target) (b : Body Name) → (arrive c t b).call ≡ b.call
+pub arrive-call : (c : Module) (t : Target) (b : Frame Name) → (arrive c t b).call ≡ b.call
 arrive-call c t b =
     let lost = excess c.types c.variables (has_value b.variables) (keeps c t) in
     let left = drop lost b in

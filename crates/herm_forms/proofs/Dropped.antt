@@ -4,9 +4,10 @@ use Rattle.std.proofs.Math.Bool.{and-true, and-false, and_assoc}
 use Rattle.std.specs.Prelude.{nat_eq, is_some, IsTrue, filter}
 use mathlib.Core.Bool.{true≢false, false≢true}
 use borrow.Author.Tests.{not-true, eqb-true, eq-eqb}
-use Rattle.herm_model.specs.Lists.{IsIn, every}
+use Rattle.herm_model.specs.Lists.{IsIn, all_pass}
 use Rattle.herm_model.specs.Paths.{Path, is_at_or_below}
-use Rattle.herm_model.specs.Values.{a_scalar, a_record, a_variant, a_table, a_polymorph, a_callmessage, an_inport, an_outport, Cell, cell, Parts, no_parts, gap, part, part_at, inside, has_value, set_part, set_at, change_inside, clear_at, read_at, readable_of, is_component}
+use Rattle.herm_model.specs.Values.{a_scalar, a_record, a_variant, a_table, a_polymorph, a_callmessage, an_inport, an_outport, Cell, cell, Parts, no_parts, gap, part, part_at, inside, has_value, set_part, set_at, change_inside, clear_at, read_at, readable_of}
+use Rattle.herm_model.specs.FactsOfValues.{is_component}
 use Rattle.herm_model.specs.Finalising.{is_left, clear_all}
 use Rattle.herm_model.proofs.Lists.{and-both, in-map, in-map_from, in-filter, in-filter_from}
 use Rattle.herm_model.proofs.Options.{is_some-map}
@@ -68,13 +69,13 @@ module _ (N : Type 0) where
   cleared-has [] i (k ∷ r) ps = by-step i [] k r ps (same-end i r ps) (nat_eq i k) refl
   cleared-has (j ∷ q) i (k ∷ r) ps = by-step i (j ∷ q) k r ps (same-on i j q r ps (cleared-has q j)) (nat_eq i k) refl
 
-  pub all_cleared-has : (lost : List Path) (p : Path) (ps : Parts N) → IsTrue (every is_path_at lost) → has_value (clear_all lost ps) p ≡ has_value ps p && every (λ q. not (is_at_or_below q p)) lost
+  pub all_cleared-has : (lost : List Path) (p : Path) (ps : Parts N) → IsTrue (all_pass is_path_at lost) → has_value (clear_all lost ps) p ≡ has_value ps p && all_pass (λ q. not (is_at_or_below q p)) lost
   all_cleared-has [] p ps h = sym (and-true (has_value ps p))
   all_cleared-has ([] ∷ lost) p ps h = absurd (false≢true h)
   all_cleared-has ((i ∷ q) ∷ lost) p ps h =
       all_cleared-has lost p (clear_at (i ∷ q) ps) h
-      ∙ ap (λ b. b && every (λ q. not (is_at_or_below q p)) lost) (cleared-has q i p ps)
-      ∙ and_assoc (has_value ps p) (not (is_at_or_below (i ∷ q) p)) (every (λ q. not (is_at_or_below q p)) lost)
+      ∙ ap (λ b. b && all_pass (λ q. not (is_at_or_below q p)) lost) (cleared-has q i p ps)
+      ∙ and_assoc (has_value ps p) (not (is_at_or_below (i ∷ q) p)) (all_pass (λ q. not (is_at_or_below q p)) lost)
 
   -- the kind of what is read elsewhere stays
   component-changed : (h : Parts N → Parts N) (o : Option (Cell N)) (c : ℕ) → is_component (option_map (change_inside h) o) c ≡ is_component o c
@@ -138,12 +139,12 @@ module _ (N : Type 0) where
   set-has [] i (k ∷ r) o ps h = has-step i [] k r o ps (λ e. absurd (true≢false e)) (nat_eq i k) refl h
   set-has (j ∷ q) i (k ∷ r) o ps h = has-step i (j ∷ q) k r o ps (has-on i j q r o ps (λ p qs. set-has q j p o qs)) (nat_eq i k) refl h
 
-  pub all_cleared-reads : (lost : List Path) (p : Path) (c : ℕ) (ps : Parts N) → IsTrue (every is_path_at lost) → IsTrue (every (λ q. not (is_at_or_below q p)) lost)
+  pub all_cleared-reads : (lost : List Path) (p : Path) (c : ℕ) (ps : Parts N) → IsTrue (all_pass is_path_at lost) → IsTrue (all_pass (λ q. not (is_at_or_below q p)) lost)
       → is_component (read_at p (clear_all lost ps)) c ≡ is_component (read_at p ps) c
   all_cleared-reads [] p c ps h e = refl
   all_cleared-reads ([] ∷ lost) p c ps h e = absurd (false≢true h)
   all_cleared-reads ((i ∷ q) ∷ lost) p c ps h e =
-      let both = and-both (not (is_at_or_below (i ∷ q) p)) (every (λ q. not (is_at_or_below q p)) lost) e in
+      let both = and-both (not (is_at_or_below (i ∷ q) p)) (all_pass (λ q. not (is_at_or_below q p)) lost) e in
       all_cleared-reads lost p c (clear_at (i ∷ q) ps) h both.1 ∙ set-reads q i p c None ps (not-true (is_at_or_below (i ∷ q) p) both.0)
 
 -- the beginnings of a path that are not the path itself, shortest first
@@ -154,7 +155,7 @@ proper_prefixes (i ∷ j ∷ p) = (i ∷ []) ∷ map (i ∷◌) (proper_prefixes
 
 -- of listed paths the topmost at which something is left
 abbrev pub topmost : (here kept : Path → Bool) → List Path → List Path
-topmost here kept paths = filter (λ p. is_left here kept p && every (λ q. not (is_left here kept q)) (proper_prefixes p)) paths
+topmost here kept paths = filter (λ p. is_left here kept p && all_pass (λ q. not (is_left here kept q)) (proper_prefixes p)) paths
 
 longer-above : (i j k l : ℕ) (q p : Path) → i ≡ j → (k ∷ q ≡ l ∷ p) ⊎ IsIn (k ∷ q) (proper_prefixes (l ∷ p)) → (i ∷ k ∷ q ≡ j ∷ l ∷ p) ⊎ IsIn (i ∷ k ∷ q) (proper_prefixes (j ∷ l ∷ p))
 longer-above i j k l q p e (inl s) = inl (ap₂ ◌∷◌ e s)
@@ -179,24 +180,24 @@ prefix-shorter q (i ∷ j ∷ p) (inr h) =
     let r = prefix-shorter x.0 (j ∷ p) x.1 in
     subst (λ q. (length q < length (i ∷ j ∷ p)) × (is_at_or_below q (i ∷ j ∷ p) ≡ true) × IsTrue (is_path_at q)) (sym x.2) (omega arith, ap₂ ◌&&◌ (eq-eqb i i refl) r.1, refl)
 
-some_if : (test : Path → Bool) (q : Path) (qs : List Path) → ((every (λ q. not (test q)) qs ≡ true) ⊎ ((x : Path) × IsIn x qs × (test x ≡ true))) → (b : Bool) → test q ≡ b
-    → (not b && every (λ q. not (test q)) qs ≡ true) ⊎ ((x : Path) × IsIn x (q ∷ qs) × (test x ≡ true))
+some_if : (test : Path → Bool) (q : Path) (qs : List Path) → ((all_pass (λ q. not (test q)) qs ≡ true) ⊎ ((x : Path) × IsIn x qs × (test x ≡ true))) → (b : Bool) → test q ≡ b
+    → (not b && all_pass (λ q. not (test q)) qs ≡ true) ⊎ ((x : Path) × IsIn x (q ∷ qs) × (test x ≡ true))
 some_if test q qs rest true e = inr (q, inl refl, e)
 some_if test q qs (inl none) false e = inl none
 some_if test q qs (inr x) false e = inr (x.0, inr x.1, x.2)
 
-some_or_none : (test : Path → Bool) (qs : List Path) → (every (λ q. not (test q)) qs ≡ true) ⊎ ((x : Path) × IsIn x qs × (test x ≡ true))
+some_or_none : (test : Path → Bool) (qs : List Path) → (all_pass (λ q. not (test q)) qs ≡ true) ⊎ ((x : Path) × IsIn x qs × (test x ≡ true))
 some_or_none test [] = inl refl
 some_or_none test (q ∷ qs) = some_if test q qs (some_or_none test qs) (test q) refl
 
 -- of paths at which something is left, one above is listed among the topmost
 module _ (here kept : Path → Bool) (paths : List Path) (listed : (q : Path) → here q ≡ true → IsIn q paths) where
   top_from : (n : ℕ) (p : Path) → length p ≤ n → is_left here kept p ≡ true
-      → ((every (λ q. not (is_left here kept q)) (proper_prefixes p) ≡ true) ⊎ ((x : Path) × IsIn x (proper_prefixes p) × (is_left here kept x ≡ true)))
+      → ((all_pass (λ q. not (is_left here kept q)) (proper_prefixes p) ≡ true) ⊎ ((x : Path) × IsIn x (proper_prefixes p) × (is_left here kept x ≡ true)))
       → ((q : Path) → length q < length p → is_left here kept q ≡ true → (t : Path) × IsIn t (topmost here kept paths) × (is_at_or_below t q ≡ true))
       → (t : Path) × IsIn t (topmost here kept paths) × (is_at_or_below t p ≡ true)
   top_from n p short h (inl none) on =
-      (p, in-filter (λ p. is_left here kept p && every (λ q. not (is_left here kept q)) (proper_prefixes p)) p paths (listed p (and-both (here p) (not (kept p)) h).0) (ap₂ ◌&&◌ h none), below-self p)
+      (p, in-filter (λ p. is_left here kept p && all_pass (λ q. not (is_left here kept q)) (proper_prefixes p)) p paths (listed p (and-both (here p) (not (kept p)) h).0) (ap₂ ◌&&◌ h none), below-self p)
   top_from n p short h (inr x) on =
       let s = prefix-shorter x.0 p x.1 in
       let t = on x.0 s.0 x.2 in (t.0, t.1, below-trans t.0 x.0 p t.2 s.1)
@@ -205,8 +206,8 @@ module _ (here kept : Path → Bool) (paths : List Path) (listed : (q : Path) �
   top_of zero p short h = top_from zero p short h (some_or_none (is_left here kept) (proper_prefixes p)) (λ q shorter left. absurd (omega arith))
   top_of (suc n) p short h = top_from (suc n) p short h (some_or_none (is_left here kept) (proper_prefixes p)) (λ q shorter left. top_of n q (omega arith) left)
 
-  pub from_topmost : (t : Path) → IsIn t (topmost here kept paths) → (is_left here kept t ≡ true) × (every (λ q. not (is_left here kept q)) (proper_prefixes t) ≡ true) × IsIn t paths
+  pub from_topmost : (t : Path) → IsIn t (topmost here kept paths) → (is_left here kept t ≡ true) × (all_pass (λ q. not (is_left here kept q)) (proper_prefixes t) ≡ true) × IsIn t paths
   from_topmost t h =
-      let r = in-filter_from (λ p. is_left here kept p && every (λ q. not (is_left here kept q)) (proper_prefixes p)) t paths h in
-      let both = and-both (is_left here kept t) (every (λ q. not (is_left here kept q)) (proper_prefixes t)) r.1 in
+      let r = in-filter_from (λ p. is_left here kept p && all_pass (λ q. not (is_left here kept q)) (proper_prefixes p)) t paths h in
+      let both = and-both (is_left here kept t) (all_pass (λ q. not (is_left here kept q)) (proper_prefixes t)) r.1 in
       (both.0, both.1, r.0)

@@ -5,10 +5,10 @@ use Rattle.herm_model.specs.Lists.{total}
 use Rattle.herm_model.specs.Values.{Name, Kind, Cell, cell, Parts, no_parts, gap, part}
 use Rattle.herm_journal.specs.Actions.{values, raised, gone, new_port, new_process, to_put, to_take, to_close, to_answer, to_hear, make_port, make_process, put, take, close, answer, hear}
 use Rattle.herm_journal.specs.Messages.{CellReply, CellWant, CellAction}
-use Rattle.herm_journal.specs.Weights.{weigh, weigh_in, weigh_all, weigh_reply, come_in}
-use Rattle.herm_forms.specs.Bodies.{Loop, Body}
-use Rattle.herm_forms.specs.Exchanges.{born}
-use Rattle.herm_forms.specs.Weights.{weigh_loops, kept, gone_out}
+use Rattle.herm_journal.specs.Weights.{weigh, weigh_in, weigh_all, weigh_reply, weight_received}
+use Rattle.herm_forms.specs.Frames.{Loop, Frame}
+use Rattle.herm_forms.specs.Exchanges.{process_inport}
+use Rattle.herm_forms.specs.Weights.{weigh_loops, weight_accounted, weight_sent}
 
 module _ {N : Type 0} (w : N → ℕ) (x : Kind → ℕ) where
   abbrev mutual
@@ -40,20 +40,20 @@ module _ {N : Type 0} (w : N → ℕ) (x : Kind → ℕ) where
   load_coming (hear call r) = load_reply r
   load_coming action = 0
 
-  abbrev pub load_going : (Name → N) → Body N → CellWant N → CellAction N → ℕ
+  abbrev pub load_going : (Name → N) → Frame N → CellWant N → CellAction N → ℕ
   load_going name b (to_put port m) action = load m
   load_going name b (to_answer caller call r) action = load_reply r
-  load_going name b (new_process code) (make_process code' (Some made)) = load (born name made.1 b)
+  load_going name b (new_process code) (make_process code' (Some made)) = load (process_inport name made.1 b)
   load_going name b want action = 0
 
   -- what a process holds, and what it has finalised too, by the names
   abbrev pub load_loops : List (Loop N) → ℕ
   load_loops loops = total (λ (l : Loop N). load_in l.rows) loops
 
-  abbrev pub load_held : Body N → ℕ
+  abbrev pub load_held : Frame N → ℕ
   load_held b = load_in b.variables + load_loops b.loops + load_all b.work
 
-  abbrev pub load_kept : Body N → ℕ
+  abbrev pub load_kept : Frame N → ℕ
   load_kept b = load_held b + total w b.finalised
 
 -- By names alone it is the weight of the ledger.
@@ -83,10 +83,10 @@ module _ {N : Type 0} (w : N → ℕ) where
   names-weigh_loops [] = refl
   names-weigh_loops (l ∷ loops) = omega (arith, names-weigh_in l.rows, names-weigh_loops loops)
 
-  pub names-kept : (b : Body N) → load_kept w none b ≡ kept w b
+  pub names-kept : (b : Frame N) → load_kept w none b ≡ weight_accounted w b
   names-kept b = omega (arith, names-weigh_in b.variables, names-weigh_loops b.loops, names-weigh_all b.work)
 
-  pub names-coming : (a : CellAction N) → load_coming w none a ≡ come_in w a
+  pub names-coming : (a : CellAction N) → load_coming w none a ≡ weight_received w a
   names-coming (put None m) = names-weigh m
   names-coming (put (Some k) m) = refl
   names-coming (take k m) = names-weigh m
@@ -96,10 +96,10 @@ module _ {N : Type 0} (w : N → ℕ) where
   names-coming (make_process code made) = refl
   names-coming (answer call r) = refl
 
-  pub names-going : (name : Name → N) (b : Body N) (want : CellWant N) (a : CellAction N) → load_going w none name b want a ≡ gone_out w name b want a
+  pub names-going : (name : Name → N) (b : Frame N) (want : CellWant N) (a : CellAction N) → load_going w none name b want a ≡ weight_sent w name b want a
   names-going name b (to_put port m) a = names-weigh m
   names-going name b (to_answer caller call r) a = names-weigh_reply r
-  names-going name b (new_process code) (make_process code' (Some made)) = names-weigh (born name made.1 b)
+  names-going name b (new_process code) (make_process code' (Some made)) = names-weigh (process_inport name made.1 b)
   names-going name b (new_process code) (make_process code' None) = refl
   names-going name b (new_process code) (make_port made) = refl
   names-going name b (new_process code) (put number m) = refl

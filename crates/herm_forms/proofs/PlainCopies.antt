@@ -1,9 +1,10 @@
 -- What typed forms copy are values of copyable types, of which no cell waits to be finalised.
 use Rattle.std.proofs.Common.{◌≡◌, ◌⊎◌, inl, inr, ℕ, List, [], ◌∷◌, map, Bool, true, false, Option, Some, None, refl, sym, subst, ◌∙◌}
 use Rattle.std.specs.Prelude.{slice_get, IsTrue, IsFalse, ⊤}
-use Rattle.herm_model.specs.Lists.{IsIn, with_some}
+use Rattle.herm_model.specs.Lists.{IsIn, map_or}
 use Rattle.herm_model.specs.Paths.{Path}
-use Rattle.herm_model.specs.Types.{TypeTable, Shape, boolean, integer, text, polymorph, names, fields, cases, rows, inport, outport, callmessage, Parameter, named_types, is_plain, is_composed, IsCopyable, plain, composed, type_at}
+use Rattle.herm_model.specs.Types.{TypeTable, Shape, boolean, integer, text, polymorph, names, fields, cases, rows, inport, outport, callmessage, Parameter, named_types, type_at}
+use Rattle.herm_model.specs.Copyable.{is_plain, is_composed, IsCopyable, plain, composed}
 use Rattle.herm_model.specs.Expressions.{Expression, copy, Atom}
 use Rattle.herm_model.specs.Statements.{Form, Process, Assign, Get, For, Call}
 use Rattle.herm_model.specs.Values.{Kind, a_boolean, an_integer, a_text, a_tag, a_scalar, a_record, a_variant, a_table, a_callmessage, an_inport, an_outport, Cell, cell, Parts, no_parts, gap, part, parts_of, read_at, Value}
@@ -17,7 +18,7 @@ use Rattle.herm_model.proofs.Options.{none-not_some, some-injective}
 use Rattle.herm_model.proofs.TypedCalls.{parameters-are}
 use Rattle.herm_journal.specs.Kinds.{HasKinds, HaveKinds}
 use Rattle.herm_forms.specs.Evaluate.{Evaluated, gives, evaluate, atom_value}
-use Rattle.herm_forms.specs.Edges.{Code}
+use Rattle.herm_forms.specs.Modules.{Module}
 use Rattle.herm_forms.specs.Acts.{inputs_of}
 use Rattle.herm_forms.proofs.forms.ReadTypes.{read-typed, is-table}
 use Rattle.herm_forms.proofs.known.KindsKept.{AllowsPlain, IfParts, GivesKinds, evaluate-kinds_from, atom-kinds_from}
@@ -118,7 +119,7 @@ module _ (table : TypeTable) where
   shape-there : {N : Type 0} (d : Degree) (t : ℕ) (k : Kind) (ps : Parts N) → IsCopyable table t → Fits table (layout_at d table t k) ps → IsPlainKind k × LayoutCopied (layout_at d table t k)
   shape-there d t k ps copyable fits = by (slice_get table t) refl fits
     where
-      by : (o : Option Shape) → slice_get table t ≡ o → Fits table (with_some unfit (λ s. layout d s k) o) ps → IsPlainKind k × LayoutCopied (with_some unfit (λ s. layout d s k) o)
+      by : (o : Option Shape) → slice_get table t ≡ o → Fits table (map_or unfit (λ s. layout d s k) o) ps → IsPlainKind k × LayoutCopied (map_or unfit (λ s. layout d s k) o)
       by None e fits = absurd fits
       by (Some s) e fits = let copied = copied-of t s e copyable in (kind-plain d s k ps copied fits, layout-copied d s k copied)
 
@@ -141,7 +142,7 @@ module _ (table : TypeTable) where
     fits-plain (many u) (part c ps) copied h = (copyable-plain whole u c copied h.0, fits-plain (many u) ps copied h.1)
     fits-plain unfit ps copied h = absurd h
 
-module _ {N : Type 0} (c : Code) (ps : Parts N) (typed : HaveTypes c.types c.variables ps) where
+module _ {N : Type 0} (c : Module) (ps : Parts N) (typed : HaveTypes c.types c.variables ps) where
   -- what is read at a path of a copyable type
   read-plain : (p : Path) (t : ℕ) → type_at c.types c.variables p ≡ Some t → IsCopyable c.types t → IfKinds IsPlainKind (read_at p ps)
   read-plain [] t at copyable = tt

@@ -4,10 +4,11 @@ use Rattle.std.proofs.lemmas.Bool.{or_right}
 use Rattle.std.proofs.lemmas.List.{append-nil}
 use Rattle.std.specs.Prelude.{slice_get, IsTrue, is_some, ◌↔◌}
 use mathlib.Core.Bool.{true≢false, false≢true}
-use Rattle.herm_model.specs.Lists.{IsIn, some_of}
+use Rattle.herm_model.specs.Lists.{IsIn, any_pass}
 use Rattle.herm_model.specs.Paths.{Path, Fact, init, case, path_of, same_fact, is_at_or_below}
-use Rattle.herm_model.specs.Types.{TypeTable, Shape, part_type, part_of, type_below, type_at, full_parts, steps, greatest_depth}
-use Rattle.herm_model.specs.Values.{Kind, Cell, cell, Parts, no_parts, gap, part, opens, has_value, has_place, set_part, set_at, change_part, change_inside, put_at, read_at, is_component}
+use Rattle.herm_model.specs.Types.{TypeTable, Shape, part_type, part_of, type_below, type_at, full_parts, part_paths, greatest_depth}
+use Rattle.herm_model.specs.Values.{Kind, Cell, cell, Parts, no_parts, gap, part, opens, has_value, has_place, set_part, set_at, change_part, change_inside, put_at, read_at}
+use Rattle.herm_model.specs.FactsOfValues.{is_component}
 use Rattle.herm_model.specs.Typed.{partly, a_value, exactly, Fits, HasType}
 use Rattle.herm_model.proofs.Lists.{and-both, in-map, in-map_from, cons-tail}
 use Rattle.herm_model.proofs.Beginnings.{begins-with, above-longer}
@@ -17,9 +18,9 @@ use Rattle.herm_model.proofs.Steps.{full-named, steps-lead, steps-listed}
 use Rattle.herm_model.proofs.FullFacts.{full-leads, leads-full}
 use Rattle.herm_model.proofs.Typing.{full-typed}
 use Rattle.herm_model.proofs.Options.{none-not_some}
-use Rattle.herm_forms.specs.Bodies.{Name}
-use Rattle.herm_forms.specs.Edges.{Code}
-use Rattle.herm_forms.specs.Arrival.{AreSound, without, ClearingIsSound, SettingIsSound}
+use Rattle.herm_forms.specs.Frames.{Name}
+use Rattle.herm_forms.specs.Modules.{Module}
+use Rattle.herm_forms.specs.laws.EdgeLaws.{AreSound, without, ClearingIsSound, SettingIsSound}
 use Rattle.herm_forms.proofs.TypedReading.{opening}
 use Rattle.herm_forms.proofs.Dropped.{cleared-has, set-has, set-reads}
 use Rattle.herm_forms.proofs.Arrived.{typed-clear}
@@ -116,14 +117,14 @@ abbrev pub facts_below : List (List ℕ) → Path → List Fact
 facts_below steps' p = map (λ r. init (p ++ r)) steps'
 
 module _ (steps' : List (List ℕ)) (p : Path) where
-  full-below : (f : Fact) → some_of (same_fact f) (facts_below steps' p) ≡ true → (r : Path) × (f ≡ init (p ++ r)) × IsIn r steps'
+  full-below : (f : Fact) → any_pass (same_fact f) (facts_below steps' p) ≡ true → (r : Path) × (f ≡ init (p ++ r)) × IsIn r steps'
   full-below f h =
       let x = in-map_from (λ q. init (p ++ q)) f steps' (listed-IsIn f (facts_below steps' p) h) in (x.0, x.2, x.1)
 
-  in-full : (r : Path) → IsIn r steps' → some_of (same_fact (init (p ++ r))) (facts_below steps' p) ≡ true
+  in-full : (r : Path) → IsIn r steps' → any_pass (same_fact (init (p ++ r))) (facts_below steps' p) ≡ true
   in-full r h = IsIn-listed (init (p ++ r)) (facts_below steps' p) (in-map (λ q. init (p ++ q)) r steps' h)
 
-  not-full_case : (q : Path) (k : ℕ) → some_of (same_fact (case q k)) (facts_below steps' p) ≡ true → ⊥
+  not-full_case : (q : Path) (k : ℕ) → any_pass (same_fact (case q k)) (facts_below steps' p) ≡ true → ⊥
   not-full_case q k h = let x = full-below (case q k) h in false≢true (ap is_init x.1)
 
 -- what is at a path that is set
@@ -134,10 +135,10 @@ module _ (i : ℕ) (q : Path) (value : Cell Name) (ps : Parts Name) (place : IsT
 
 -- the facts with those of values at these steps below a path, in place of those at the path and below it
 abbrev pub with_steps : List (List ℕ) → Path → (Fact → Bool) → Fact → Bool
-with_steps steps' p has f = some_of (same_fact f) (facts_below steps' p) || without p has f
+with_steps steps' p has f = any_pass (same_fact f) (facts_below steps' p) || without p has f
 
 -- a value of the path's type that has values at these steps
-pub setting-any : (c : Code) (has : Fact → Bool) (i : ℕ) (q : List ℕ) (t : ℕ) (value : Cell Name) (ps : Parts Name) (steps' : List (List ℕ)) → AreSound c has ps → IsTrue (has_place ps (i ∷ q))
+pub setting-any : (c : Module) (has : Fact → Bool) (i : ℕ) (q : List ℕ) (t : ℕ) (value : Cell Name) (ps : Parts Name) (steps' : List (List ℕ)) → AreSound c has ps → IsTrue (has_place ps (i ∷ q))
     → type_at c.types c.variables (i ∷ q) ≡ Some t → HasType c.types t value → ((r : List ℕ) → IsIn r steps' ↔ IsTrue (has_value (part value no_parts) (0 ∷ r)))
     → AreSound c (with_steps steps' (i ∷ q) has) (put_at (i ∷ q) value ps)
 setting-any c has i q t value ps steps' sound place type typed exact = record {
@@ -146,14 +147,14 @@ setting-any c has i q t value ps steps' sound place type typed exact = record {
 }
   where
     -- what is elsewhere is not of the full facts
-    kept : (p : Path) → is_at_or_below (i ∷ q) p ≡ false → (b : Bool) → some_of (same_fact (init p)) (facts_below steps' (i ∷ q)) ≡ b → b || without (i ∷ q) has (init p) ≡ true → has (init p) ≡ true
+    kept : (p : Path) → is_at_or_below (i ∷ q) p ≡ false → (b : Bool) → any_pass (same_fact (init p)) (facts_below steps' (i ∷ q)) ≡ b → b || without (i ∷ q) has (init p) ≡ true → has (init p) ≡ true
     kept p apart true e h =
         let x = full-below steps' (i ∷ q) (init p) e in
         absurd (true≢false (sym (ap (is_at_or_below (i ∷ q)) (ap path_of x.1) ∙ above-longer (i ∷ q) x.0) ∙ apart))
     kept p apart false e h = (not-both (is_at_or_below (i ∷ q) p) (has (init p)) h).1
 
     -- what is below is of the full facts
-    made : (r : Path) → (b : Bool) → some_of (same_fact (init ((i ∷ q) ++ r))) (facts_below steps' (i ∷ q)) ≡ b → b || without (i ∷ q) has (init ((i ∷ q) ++ r)) ≡ true → IsIn r steps'
+    made : (r : Path) → (b : Bool) → any_pass (same_fact (init ((i ∷ q) ++ r))) (facts_below steps' (i ∷ q)) ≡ b → b || without (i ∷ q) has (init ((i ∷ q) ++ r)) ≡ true → IsIn r steps'
     made r true e h =
         let x = full-below steps' (i ∷ q) (init ((i ∷ q) ++ r)) e in
         let same : r ≡ x.0 = append-same (i ∷ q) r x.0 (ap path_of x.1) in
@@ -164,14 +165,14 @@ setting-any c has i q t value ps steps' sound place type typed exact = record {
     elsewhere p apart = (
       (λ h.
           let before = sym (set-has Name q i p (Some value) ps apart) ∙ h in
-          or_right (some_of (same_fact (init p)) (facts_below steps' (i ∷ q))) _ (ap₂ (λ a b. not a && b) apart ((sound.facts.values p).0 before))),
-      (λ h. set-has Name q i p (Some value) ps apart ∙ (sound.facts.values p).1 (kept p apart (some_of (same_fact (init p)) (facts_below steps' (i ∷ q))) refl h)),
+          or_right (any_pass (same_fact (init p)) (facts_below steps' (i ∷ q))) _ (ap₂ (λ a b. not a && b) apart ((sound.facts.values p).0 before))),
+      (λ h. set-has Name q i p (Some value) ps apart ∙ (sound.facts.values p).1 (kept p apart (any_pass (same_fact (init p)) (facts_below steps' (i ∷ q))) refl h)),
     )
 
     below : (r : Path) → IsTrue (has_value (put_at (i ∷ q) value ps) ((i ∷ q) ++ r)) ↔ IsTrue (with_steps steps' (i ∷ q) has (init ((i ∷ q) ++ r)))
     below r = (
       (λ h. ap (λ b. b || without (i ∷ q) has (init ((i ∷ q) ++ r))) (in-full steps' (i ∷ q) r ((exact r).1 (sym (set-below i q value ps place r) ∙ h)))),
-      (λ h. set-below i q value ps place r ∙ (exact r).0 (made r (some_of (same_fact (init ((i ∷ q) ++ r))) (facts_below steps' (i ∷ q))) refl h)),
+      (λ h. set-below i q value ps place r ∙ (exact r).0 (made r (any_pass (same_fact (init ((i ∷ q) ++ r))) (facts_below steps' (i ∷ q))) refl h)),
     )
 
     at_path : (p : Path) (b : Bool) → is_at_or_below (i ∷ q) p ≡ b → IsTrue (has_value (put_at (i ∷ q) value ps) p) ↔ IsTrue (with_steps steps' (i ∷ q) has (init p))
@@ -184,9 +185,9 @@ setting-any c has i q t value ps steps' sound place type typed exact = record {
     values p = at_path p (is_at_or_below (i ∷ q) p) refl
 
     components : (p : Path) (k : ℕ) → IsTrue (with_steps steps' (i ∷ q) has (case p k)) → IsTrue (is_component (read_at p (put_at (i ∷ q) value ps)) k)
-    components p k h = by (some_of (same_fact (case p k)) (facts_below steps' (i ∷ q))) refl h
+    components p k h = by (any_pass (same_fact (case p k)) (facts_below steps' (i ∷ q))) refl h
       where
-        by : (b : Bool) → some_of (same_fact (case p k)) (facts_below steps' (i ∷ q)) ≡ b → IsTrue (b || without (i ∷ q) has (case p k)) → IsTrue (is_component (read_at p (put_at (i ∷ q) value ps)) k)
+        by : (b : Bool) → any_pass (same_fact (case p k)) (facts_below steps' (i ∷ q)) ≡ b → IsTrue (b || without (i ∷ q) has (case p k)) → IsTrue (is_component (read_at p (put_at (i ∷ q) value ps)) k)
         by true e h = absurd (not-full_case steps' (i ∷ q) p k e)
         by false e h =
             let both = not-both (is_at_or_below (i ∷ q) p) (has (case p k)) h in
@@ -194,7 +195,7 @@ setting-any c has i q t value ps steps' sound place type typed exact = record {
 
 pub setting-sound : SettingIsSound
 setting-sound c has i q t value ps sound place type deep full =
-    setting-any c has i q t value ps (steps full_parts c.types t) sound place type (full-typed c.types t value full)
+    setting-any c has i q t value ps (part_paths full_parts c.types t) sound place type (full-typed c.types t value full)
     (λ r. (
       (λ h. leads-full c.types r t value full (steps-lead full_parts c.types greatest_depth t r h)),
       (λ h. steps-listed full_parts c.types full-named greatest_depth t deep r (full-leads c.types r t value full h)),

@@ -3,7 +3,7 @@ use Rattle.std.proofs.Common.{◌≡◌, ℕ, List, [], ◌∷◌, map, Bool, tr
 use Rattle.std.specs.Prelude.{slice_get, is_some, IsTrue}
 use mathlib.Core.Bool.{false≢true}
 use Rattle.herm_model.specs.Lists.{IsIn, list_of, numbered}
-use Rattle.herm_model.specs.Types.{Parameter, TypeTable, Shape, fields, callmessage, part_type, part_of, type_below, is_cases, is_variant, enters_component, held_parts, Leads, is_within_depth, greatest_depth, steps, variable_paths}
+use Rattle.herm_model.specs.Types.{Parameter, TypeTable, Shape, fields, callmessage, part_type, part_of, type_below, is_cases, is_variant, enters_component, held_parts, IsPartPath, is_within_depth, greatest_depth, part_paths, variable_paths}
 use Rattle.herm_model.specs.Values.{Kind, a_scalar, a_record, a_variant, a_table, a_polymorph, a_callmessage, an_inport, an_outport, Cell, cell, Parts, no_parts, part_at, inside, opens, cell_at}
 use Rattle.herm_model.specs.Typed.{partly, a_value, exactly, unfit, parameter_content, layout, layout_at, is_bounded, is_bounded_at, Fits, HasType, HaveTypes, IsOf}
 use Rattle.herm_model.proofs.Lists.{in-map, in-flat_map, slice_get-map}
@@ -96,7 +96,7 @@ module _ (N : Type 0) (table : TypeTable) where
     pub type : ℕ
     pub below : type_below table (Some first) q ≡ Some type
     pub typed : HasType table type c
-    pub leads : Leads held_parts table first q
+    pub leads : IsPartPath held_parts table first q
     pub direct : enters_component table (Some first) q ≡ false
 
   is_there : (t : ℕ) (n : N) (k : Kind) (ps : Parts N) (o : Option Shape) → slice_get table t ≡ o → Fits table (elim o [ None ↦ unfit | Some s ↦ layout partly s k ]) ps → IsTrue (is_some (slice_get table t))
@@ -143,5 +143,5 @@ module _ (N : Type 0) (table : TypeTable) where
   read-listed variables deep i q ps c h e =
       let r = typed-read variables i q ps c h e in
       let at = at-numbered variables i r.first r.there in
-      in-flat_map (λ (v : ℕ × ℕ). map (v.0 ∷◌) (steps held_parts table v.1)) (i, r.first) (i ∷ q) (numbered 0 variables) at
-      (in-map (i ∷◌) q (steps held_parts table r.first) (steps-listed held_parts table held-named greatest_depth r.first (deep r.first (got-IsIn variables i r.first r.there)) q r.leads))
+      in-flat_map (λ (v : ℕ × ℕ). map (v.0 ∷◌) (part_paths held_parts table v.1)) (i, r.first) (i ∷ q) (numbered 0 variables) at
+      (in-map (i ∷◌) q (part_paths held_parts table r.first) (steps-listed held_parts table held-named greatest_depth r.first (deep r.first (got-IsIn variables i r.first r.there)) q r.leads))

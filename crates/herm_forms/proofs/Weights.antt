@@ -4,14 +4,15 @@ use Rattle.std.proofs.lemmas.Bool.{ltb-true}
 use Rattle.std.specs.Prelude.{nat_eq, IsFalse}
 use Rattle.herm_model.specs.Lists.{total, range}
 use Rattle.herm_model.specs.Paths.{Path}
-use Rattle.herm_model.specs.Values.{Kind, a_variant, a_record, a_callmessage, has_place, Cell, cell, Parts, no_parts, gap, gaps, part, part_at, place, set_part, size, opens, inside, change_inside, change_part, cell_at, set_at, joined, behind_gaps, readable_of, read_at, change_readable, change_behind, change_from, change_at, count, count_in, copy_from, copy_in}
+use Rattle.herm_model.specs.Values.{Kind, a_variant, a_record, a_callmessage, has_place, Cell, cell, Parts, no_parts, gap, gaps, part, part_at, place, set_part, size, opens, inside, change_inside, change_part, cell_at, set_at, joined, behind_gaps, readable_of, read_at, change_readable, change_behind, change_from, change_at}
+use Rattle.herm_model.specs.CellNames.{count, count_in, copy_from, copy_in}
 use Rattle.herm_model.specs.Tables.{without_part}
 use Rattle.herm_model.specs.Finalising.{waits, finalised, finalised_in, pending, pending_in}
 use Rattle.herm_model.proofs.Lists.{total-append, not_true}
 use Rattle.herm_model.proofs.Places.{range-add, set_at-none}
 use Rattle.herm_model.proofs.NothingThere.{none-read}
 use Rattle.herm_model.proofs.Options.{none-not_some}
-use Rattle.herm_forms.specs.Bodies.{Loop}
+use Rattle.herm_forms.specs.Frames.{Loop}
 use Rattle.herm_forms.specs.Forms.{rows_for, set_rows}
 use Rattle.herm_journal.specs.Weights.{weigh_serials}
 use Rattle.herm_journal.specs.Kinds.{HasKinds, HaveKinds}

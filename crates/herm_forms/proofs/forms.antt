@@ -22,3 +22,4 @@ pub mod RemovedRows
 pub mod ClearedReads
 pub mod InsertedRows
 pub mod VisitedRows
+pub mod VisitedLoops

@@ -2,3 +2,6 @@
 pub mod PlacedParts
 pub mod PlacedForms
 pub mod PlacedActions
+pub mod PlacedAnswers
+pub mod PlacedWants
+pub mod PlacedGoing

@@ -1,4 +1,5 @@
 -- What typed forms keep.
+pub mod WantKinds
 pub mod TypedAtoms
 pub mod LocalForms
 pub mod ActionForms
@@ -9,5 +10,8 @@ pub mod Room
 pub mod LocalGoes
 pub mod InsertGoes
 pub mod FormsGo
+pub mod TakesThere
+pub mod WantsThere
+pub mod AnswersTaken
 pub mod LocalOutcomes
 pub mod EachGoes

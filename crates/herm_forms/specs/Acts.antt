@@ -1,6 +1,6 @@
 -- What a statement of each form does, wants and leaves, and where its outcomes lead.
 use Rattle.std.specs.Prelude.{ℕ, List, [], ◌∷◌, map, filter, flat_map, find, Bool, true, false, not, Option, Some, None, option_map, option_and_then, length, ⊤}
-use Rattle.herm_model.specs.Lists.{some_of}
+use Rattle.herm_model.specs.Lists.{any_pass}
 use Rattle.herm_model.specs.Paths.{Path, same_path}
 use Rattle.herm_model.specs.Types.{Shape, fields, rows, Mode, by_in, by_inout, by_out, Parameter, type_at}
 use Rattle.herm_model.specs.Expressions.{Atom}
@@ -8,20 +8,23 @@ use Rattle.herm_model.specs.Statements.{Form, Assign, Move, New, Discard, Unite,
 use Rattle.herm_model.specs.Calls.{shape_at, call_parameters, arguments_by}
 use Rattle.herm_model.specs.StatementTable.{set_by_call, kept_by_call, returned, returned_by}
 use Rattle.herm_model.specs.Outcomes.{Outcome, same_outcome}
-use Rattle.herm_model.specs.Nodes.{Target, Node, exits}
+use Rattle.herm_model.specs.Nodes.{Node, exits}
+use Rattle.herm_model.specs.Targets.{Target}
 use Rattle.herm_model.specs.Values.{a_record, a_table, Parts, no_parts, gaps, part}
 use Rattle.herm_forms.specs.Evaluate.{Evaluated, gives, raises, no_value, evaluate, atom_value, key_values}
 use Rattle.herm_journal.specs.Actions.{values, Want, to_hear, new_port, new_process}
 use Rattle.herm_journal.specs.Actions
-use Rattle.herm_forms.specs.Bodies.{Name, Body, Result, stuck, if_there, Taken}
+use Rattle.herm_forms.specs.Frames.{Name, Frame, Completion, stuck, if_there, Taken}
 use Rattle.herm_forms.specs.Forms
 use Rattle.herm_forms.specs.Exchanges
+use Rattle.herm_forms.specs.Callmessages as callmessages
 use Rattle.herm_journal.specs.Messages.{CellWant, CellAction, is_inport}
-use Rattle.herm_forms.specs.Exchanges.{Composed}
-use Rattle.herm_forms.specs.Edges.{Code, beyond_full, beyond_declared}
+use Rattle.herm_forms.specs.Callmessages.{Composed}
+use Rattle.herm_forms.specs.Excess.{excess_over_full, excess_over_declared}
+use Rattle.herm_forms.specs.Modules.{Module}
 
 -- A statement of these forms is an action, and of the others a local step. Language reference, "Actions".
-abbrev pub is_action : Code → Form → Bool
+abbrev pub is_action : Module → Form → Bool
 is_action c (New x) = is_inport (shape_at c.types c.variables x)
 is_action c (Send x o) = true
 is_action c (Receive x i) = true
@@ -37,28 +40,28 @@ abbrev pub key_fields : Option Shape → List ℕ
 key_fields (Some (rows row key)) = key
 key_fields _ = []
 
-abbrev pub key_at : Code → Path → List ℕ
+abbrev pub key_at : Module → Path → List ℕ
 key_at c t = key_fields (shape_at c.types c.variables t)
 
 -- a new value of a type
-abbrev pub new_value : {N : Type 0} → (Name → N) → Option Shape → Path → Body N → Result N
+abbrev pub new_value : {N : Type 0} → (Name → N) → Option Shape → Path → Frame N → Completion N
 new_value name (Some (fields ts)) x b = Forms.new name a_record (gaps (length ts)) x b
 new_value name (Some (rows row key)) x b = Forms.new name a_table no_parts x b
 new_value name _ x b = stuck
 
 -- What a local step does, for each form. Language reference, "The statement table".
-abbrev pub act : {N : Type 0} → (Name → N) → Code → (statement : ℕ) → Form → Body N → Result N
+abbrev pub act : {N : Type 0} → (Name → N) → Module → (statement : ℕ) → Form → Frame N → Completion N
 act name c s (Assign x e) b = Forms.with_value (Forms.assign name x) (evaluate b.variables e) b
-act name c s (Move y x) b = Forms.move (beyond_full c y b) y x b
+act name c s (Move y x) b = Forms.move (excess_over_full c y b) y x b
 act name c s (New x) b = new_value name (shape_at c.types c.variables x) x b
 act name c s (Discard x) b = Forms.discard x b
-act name c s (Unite v k y) b = Forms.unite name k (beyond_full c y b) y v b
+act name c s (Unite v k y) b = Forms.unite name k (excess_over_full c y b) y v b
 act name c s (Dissolve v k y) b = Forms.dissolve k v y b
 act name c s (Reveal v k) b = Forms.reveal k v b
 act name c s (Case v ks) b = Forms.choose v b
-act name c s (Wrap y p) b = if_there (λ t. Forms.wrap name t (beyond_full c y b) y p b) (type_at c.types c.variables y)
+act name c s (Wrap y p) b = if_there (λ t. Forms.wrap name t (excess_over_full c y b) y p b) (type_at c.types c.variables y)
 act name c s (Unwrap p t y) b = Forms.unwrap t p y b
-act name c s (Insert r t) b = Forms.insert (key_at c t) (beyond_full c r b) r t b
+act name c s (Insert r t) b = Forms.insert (key_at c t) (excess_over_full c r b) r t b
 act name c s (Remove r t keys) b = if_there (λ k. Forms.remove (key_at c t) k r t b) (key_values b.variables keys)
 act name c s (Get r t keys) b = if_there (λ k. Forms.get name (key_at c t) k r t b) (key_values b.variables keys)
 act name c s (For r t) b = Forms.visit name s r t b
@@ -96,65 +99,65 @@ inputs_of (p ∷ parameters) [] ps = None
 inputs_of (p ∷ parameters) (a ∷ atoms) ps = input_of p.mode (atom_value ps a) (inputs_of parameters atoms ps)
 
 -- the paths of arguments whose parameters have such a mode
-abbrev pub arguments_at : Code → (Mode → Bool) → (port : Path) → List Atom → List Path
+abbrev pub arguments_at : Module → (Mode → Bool) → (port : Path) → List Atom → List Path
 arguments_at c test o arguments = arguments_by test (call_parameters c.types c.variables o) arguments
 
 -- the callmessage of a call
-abbrev pub composed : {N : Type 0} → (Name → N) → Code → (port : Path) → List Atom → Body N → Option (Composed N)
+abbrev pub composed : {N : Type 0} → (Name → N) → Module → (port : Path) → List Atom → Frame N → Option (Composed N)
 composed name c o arguments b =
     option_and_then
-    (λ inputs. Exchanges.compose name (map (λ p. p.mode) (call_parameters c.types c.variables o)) inputs
-    (flat_map (λ p. beyond_full c p b) (arguments_at c is_inout o arguments))
+    (λ inputs. callmessages.compose name (map (λ p. p.mode) (call_parameters c.types c.variables o)) inputs
+    (flat_map (λ p. excess_over_full c p b) (arguments_at c is_inout o arguments))
     (arguments_at c is_inout o arguments) b)
     (inputs_of (call_parameters c.types c.variables o) arguments b.variables)
 
 -- the arguments that an exception keeps, and those of mode out that it does not
-abbrev pub kept_at : Code → (port : Path) → List Atom → (exception : ℕ) → List Path
+abbrev pub kept_at : Module → (port : Path) → List Atom → (exception : ℕ) → List Path
 kept_at c o arguments e = kept_by_call c.types c.variables o arguments e
 
-abbrev pub left_at : Code → (port : Path) → List Atom → (exception : ℕ) → List Path
-left_at c o arguments e = filter (λ p. not (some_of (same_path p) (kept_at c o arguments e))) (arguments_at c is_out o arguments)
+abbrev pub left_at : Module → (port : Path) → List Atom → (exception : ℕ) → List Path
+left_at c o arguments e = filter (λ p. not (any_pass (same_path p) (kept_at c o arguments e))) (arguments_at c is_out o arguments)
 
 -- what a return gives back, and what one by an exception does
-abbrev pub given_back : {N : Type 0} → Code → List Path → Body N → Option (Taken N)
-given_back c given b = Exchanges.give_back (flat_map (λ p. beyond_full c p b) given) given b
+abbrev pub given_back : {N : Type 0} → Module → List Path → Frame N → Option (Taken N)
+given_back c given b = callmessages.give_back (flat_map (λ p. excess_over_full c p b) given) given b
 
-abbrev pub given_at : Code → (source : Path) → List Path
+abbrev pub given_at : Module → (source : Path) → List Path
 given_at c m = returned c.types c.variables m
 
-abbrev pub given_by : Code → (source : Path) → (exception : ℕ) → List Path
+abbrev pub given_by : Module → (source : Path) → (exception : ℕ) → List Path
 given_by c m e = returned_by c.types c.variables m e
 
 -- What a statement that is an action wants. Language reference, "Actions".
-abbrev pub wants : {N : Type 0} → (Name → N) → Code → Form → Body N → Option (CellWant N)
+abbrev pub wants : {N : Type 0} → (Name → N) → Module → Form → Frame N → Option (CellWant N)
 wants name c (New x) b = Some new_port
-wants name c (Send x o) b = Exchanges.send_wants (beyond_declared c o x b) x o b
+wants name c (Send x o) b = Exchanges.send_wants (excess_over_declared c o x b) x o b
 wants name c (Receive x i) b = Exchanges.receive_wants i b
 wants name c (Select arms) b = Exchanges.select_wants (map (λ a. a.port) arms) b
-wants name c (Call o arguments) b = Exchanges.call_wants (composed name c o arguments b) o b
-wants name c (Return m) b = Exchanges.return_wants values (given_back c (given_at c m) b) m b
-wants name c (ReturnBy m e) b = Exchanges.return_wants (Actions.raised e) (given_back c (given_by c m e) b) m b
+wants name c (Call o arguments) b = callmessages.call_wants (composed name c o arguments b) o b
+wants name c (Return m) b = callmessages.return_wants values (given_back c (given_at c m) b) m b
+wants name c (ReturnBy m e) b = callmessages.return_wants (Actions.raised e) (given_back c (given_by c m e) b) m b
 wants name c (Create o process) b = Some (new_process process)
 wants name c _ b = None
 
 -- What the answer of a statement's action leaves. Language reference, "Actions".
-abbrev pub settle : {N : Type 0} → (Name → N) → Code → Form → (at : ℕ) → CellAction N → Body N → Result N
+abbrev pub settle : {N : Type 0} → (Name → N) → Module → Form → (at : ℕ) → CellAction N → Frame N → Completion N
 settle name c (New x) at action b = Exchanges.new_inport name x action b
-settle name c (Send x o) at action b = Exchanges.send (beyond_declared c o x b) x action b
+settle name c (Send x o) at action b = Exchanges.send (excess_over_declared c o x b) x action b
 settle name c (Receive x i) at action b = Exchanges.receive x action b
 settle name c (Select arms) at action b = Exchanges.select (map (λ a. a.target) arms) (map (λ a. a.port) arms) at action b
-settle name c (Call o arguments) at action b = Exchanges.call (composed name c o arguments b) (arguments_at c is_out o arguments) action
-settle name c (Return m) at action b = Exchanges.return (given_back c (given_at c m) b) m action
-settle name c (ReturnBy m e) at action b = Exchanges.return (given_back c (given_by c m e) b) m action
+settle name c (Call o arguments) at action b = callmessages.call (composed name c o arguments b) (arguments_at c is_out o arguments) action
+settle name c (Return m) at action b = callmessages.return (given_back c (given_at c m) b) m action
+settle name c (ReturnBy m e) at action b = callmessages.return (given_back c (given_by c m e) b) m action
 settle name c (Create o process) at action b = Exchanges.create name o action b
 settle name c _ at action b = stuck
 
 -- what the answer to the open call leaves, at the call's statement
-abbrev pub settle_reply : {N : Type 0} → Code → Form → (call : ℕ) → CellAction N → Body N → Result N
+abbrev pub settle_reply : {N : Type 0} → Module → Form → (call : ℕ) → CellAction N → Frame N → Completion N
 settle_reply c (Call o arguments) call action b =
-    Exchanges.hear_call (set_by_call c.types c.variables o arguments) (arguments_at c is_out o arguments) (kept_at c o arguments) (left_at c o arguments) call action b
+    callmessages.hear_call (set_by_call c.types c.variables o arguments) (arguments_at c is_out o arguments) (kept_at c o arguments) (left_at c o arguments) call action b
 settle_reply c _ call action b = stuck
 
 -- where an outcome of a node leads
-abbrev pub leads_to : Code → Node → Outcome → Option Target
+abbrev pub leads_to : Module → Node → Outcome → Option Target
 leads_to c n o = option_map (λ e. e.target) (find (λ e. same_outcome e.outcome o) (exits c.types c.variables n))

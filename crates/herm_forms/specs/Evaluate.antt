@@ -1,7 +1,8 @@
 -- The value of an expression, and of the atoms of keys and arguments.
 use Rattle.std.specs.Prelude.{ℕ, List, [], ◌∷◌, ◌++◌, Bool, true, false, cond, not, ◌&&◌, ◌||◌, ℤ, pos, ◌+ℤ◌, ◌-ℤ◌, ◌*ℤ◌, neg_ℤ, int_lt, int_le, int_div, int_rem, nat_eq, nat_lt, nat_le, length, Option, Some, None}
-use Rattle.herm_model.specs.Expressions.{Literal, Operator, either, both, equal, unequal, less, at_most, greater, at_least, plus, minus, times, divided, modulo, concatenated, Expression, literal, copy, negated, inverted, operation, decimal, length_of, Atom, path}
-use Rattle.herm_model.specs.Values.{Scalar, a_boolean, an_integer, a_text, a_tag, Kind, a_scalar, a_table, Cell, cell, Parts, no_parts, read_at, forget, Value}
+use Rattle.herm_model.specs.Expressions.{Literal, Operator, logical_or, logical_and, equal, unequal, less, at_most, greater, at_least, plus, minus, times, divided, modulo, concatenated, Expression, literal, copy, negation, logical_not, operation, decimal, length_of, Atom, path}
+use Rattle.herm_model.specs.Values.{Scalar, a_boolean, an_integer, a_text, a_tag, Kind, a_scalar, a_table, Cell, cell, Parts, no_parts, read_at, Value}
+use Rattle.herm_model.specs.CellNames.{forget}
 use Rattle.herm_model.specs.Values
 use Rattle.herm_model.specs.Tables.{same_scalar, same_integer}
 use Rattle.herm_model.specs.Typed.{is_integer, greatest_text}
@@ -90,8 +91,8 @@ on_texts f left right = text_then (λ s. text_then (f s) right) left
 -- What an operator gives. `div` rounds toward zero, and `a mod b` is `a - b * (a div b)`.
 -- Language reference, "Expressions".
 abbrev pub operate : Operator → Scalar → Scalar → Evaluated
-operate either = on_booleans ◌||◌
-operate both = on_booleans ◌&&◌
+operate logical_or = on_booleans ◌||◌
+operate logical_and = on_booleans ◌&&◌
 operate equal = λ a b. gives_boolean (same_scalar a b)
 operate unequal = λ a b. gives_boolean (not (same_scalar a b))
 operate less = compared int_lt is_before
@@ -127,8 +128,8 @@ rows_there (Some (cell n k ps)) = no_value
 abbrev pub evaluate : {N : Type 0} → Parts N → Expression → Evaluated
 evaluate ps (literal l) = gives_scalar (scalar_of l)
 evaluate ps (copy p) = value_there (read_at p ps)
-evaluate ps (negated e) = one_then (integer_then (λ z. within_bits (neg_ℤ z))) (evaluate ps e)
-evaluate ps (inverted e) = one_then (boolean_then (λ b. gives_boolean (not b))) (evaluate ps e)
+evaluate ps (negation e) = one_then (integer_then (λ z. within_bits (neg_ℤ z))) (evaluate ps e)
+evaluate ps (logical_not e) = one_then (boolean_then (λ b. gives_boolean (not b))) (evaluate ps e)
 evaluate ps (operation o left right) = two_then (operate o) (evaluate ps left) (evaluate ps right)
 evaluate ps (Expression.size_of p) = rows_there (read_at p ps)
 evaluate ps (decimal e) = one_then (integer_then (λ z. gives_scalar (a_text (signed_numeral z)))) (evaluate ps e)

@@ -2,42 +2,43 @@
 use Rattle.std.specs.Prelude.{ℕ, List, [], ◌∷◌, true, false, cond, nat_eq, nat_lt, Option, Some, None}
 use Rattle.herm_model.specs.Paths.{Path}
 use Rattle.herm_model.specs.Outcomes.{ok, is_true, is_false, turn, done, component, raised, depletion, case_error, polymorph_mismatch, duplicate_key, not_found}
-use Rattle.herm_model.specs.Values.{Scalar, a_boolean, Kind, a_scalar, a_variant, a_polymorph, an_inport, an_outport, Cell, cell, Parts, no_parts, gap, part, part_at, size, joined, parts_of, cell_at, change_at, is_component, polymorph_depth, Value}
+use Rattle.herm_model.specs.Values.{Scalar, a_boolean, Kind, a_scalar, a_variant, a_polymorph, an_inport, an_outport, Cell, cell, Parts, no_parts, gap, part, part_at, size, joined, parts_of, cell_at, change_at, polymorph_depth, Value}
+use Rattle.herm_model.specs.FactsOfValues.{is_component}
 use Rattle.herm_model.specs.Tables.{has_key, key_of, place_of_key, without_part}
 use Rattle.herm_model.specs.Typed.{greatest_rows, greatest_polymorph}
 use Rattle.herm_forms.specs.Evaluate.{Evaluated, gives, raises, no_value}
-use Rattle.herm_forms.specs.Bodies.{Name, Loop, Body, Result, goes, stuck, if_there, let_go, end_name, cleared, drop, reading, taking, putting, making, copying, copying_parts}
+use Rattle.herm_forms.specs.Frames.{Name, Loop, Frame, Completion, goes, stuck, if_there, finalise, finalise_name, cleared, drop, reading, taking, putting, making, copying, copying_parts}
 
 -- On with the value that an expression gives. Its exception is the statement's, and leaves all as it was.
 -- Language reference, "Exceptions".
-abbrev pub with_value : {N : Type 0} → (Value → Body N → Result N) → Evaluated → Body N → Result N
+abbrev pub with_value : {N : Type 0} → (Value → Frame N → Completion N) → Evaluated → Frame N → Completion N
 with_value next (gives v) b = next v b
 with_value next (raises e) b = goes (raised e) b
 with_value next no_value b = stuck
 
 -- On with what moves away from a path: what it holds beyond the facts at which it leaves, which is at the paths
 -- `lost`, is finalised first. Language reference, "Excess".
-abbrev pub moving : {N : Type 0} → (lost : List Path) → Path → (Cell N → Body N → Result N) → Body N → Result N
+abbrev pub moving : {N : Type 0} → (lost : List Path) → Path → (Cell N → Frame N → Completion N) → Frame N → Completion N
 moving lost y next b = taking y next (drop lost b)
 
 -- `x := v`: the cells of a copy, and no further one
-abbrev pub assign : {N : Type 0} → (Name → N) → Path → Value → Body N → Result N
+abbrev pub assign : {N : Type 0} → (Name → N) → Path → Value → Frame N → Completion N
 assign name x v b = copying name v (putting x ok) b
 
 -- `move y to x`
-abbrev pub move : {N : Type 0} → (lost : List Path) → (source target : Path) → Body N → Result N
+abbrev pub move : {N : Type 0} → (lost : List Path) → (source target : Path) → Frame N → Completion N
 move lost y x b = moving lost y (putting x ok) b
 
 -- `new x`, of a record with so many fields, or of a table
-abbrev pub new : {N : Type 0} → (Name → N) → Kind → Parts N → Path → Body N → Result N
+abbrev pub new : {N : Type 0} → (Name → N) → Kind → Parts N → Path → Frame N → Completion N
 new name k ps x b = making name k ps (putting x ok) b
 
 -- `discard x`
-abbrev pub discard : {N : Type 0} → Path → Body N → Result N
-discard x b = taking x (λ c b. goes ok (let_go c b)) b
+abbrev pub discard : {N : Type 0} → Path → Frame N → Completion N
+discard x b = taking x (λ c b. goes ok (finalise c b)) b
 
 -- `unite v.c from y`
-abbrev pub unite : {N : Type 0} → (Name → N) → (component : ℕ) → (lost : List Path) → (source target : Path) → Body N → Result N
+abbrev pub unite : {N : Type 0} → (Name → N) → (component : ℕ) → (lost : List Path) → (source target : Path) → Frame N → Completion N
 unite name c lost y v b = moving lost y (λ content b. making name (a_variant c) (part content no_parts) (putting v ok) b) b
 
 -- a cell that holds another one, taken apart
@@ -56,15 +57,15 @@ content_of t (cell n (a_polymorph u) (part content no_parts)) = cond (nat_eq t u
 content_of t v = None
 
 -- the cell itself is finalised, and its content moves to the target
-abbrev pub moving_content : {N : Type 0} → Path → Opened N → Body N → Result N
-moving_content y o b = putting y ok o.content (end_name o.name b)
+abbrev pub moving_content : {N : Type 0} → Path → Opened N → Frame N → Completion N
+moving_content y o b = putting y ok o.content (finalise_name o.name b)
 
 -- `dissolve v.c into y`
-abbrev pub dissolve : {N : Type 0} → (component : ℕ) → (source target : Path) → Body N → Result N
+abbrev pub dissolve : {N : Type 0} → (component : ℕ) → (source target : Path) → Frame N → Completion N
 dissolve c v y b = taking v (λ cell b. if_there (λ o. moving_content y o b) (component_in c cell)) b
 
 -- `reveal v.c`; CaseError where v holds another component
-abbrev pub reveal : {N : Type 0} → (component : ℕ) → Path → Body N → Result N
+abbrev pub reveal : {N : Type 0} → (component : ℕ) → Path → Frame N → Completion N
 reveal c v b = reading v (λ cell. goes (cond (is_component (Some cell) c) ok (raised case_error)) b) b
 
 -- the component that a variant has
@@ -73,12 +74,12 @@ component_of (cell n (a_variant c) ps) = Some c
 component_of v = None
 
 -- `case v`
-abbrev pub choose : {N : Type 0} → Path → Body N → Result N
+abbrev pub choose : {N : Type 0} → Path → Frame N → Completion N
 choose v b = reading v (λ cell. if_there (λ c. goes (component c) b) (component_of cell)) b
 
 -- `wrap y as p`, with a content of this type; Depletion where the polymorph would be too deep, measured without
 -- what y holds beyond a full value
-abbrev pub wrap : {N : Type 0} → (Name → N) → (type : ℕ) → (lost : List Path) → (source target : Path) → Body N → Result N
+abbrev pub wrap : {N : Type 0} → (Name → N) → (type : ℕ) → (lost : List Path) → (source target : Path) → Frame N → Completion N
 wrap name t lost y p b =
     if_there
     (λ c. cond (nat_lt (polymorph_depth c) greatest_polymorph)
@@ -87,7 +88,7 @@ wrap name t lost y p b =
     (cell_at y (drop lost b).variables)
 
 -- `unwrap p as T into y`; PolymorphMismatch where the type differs
-abbrev pub unwrap : {N : Type 0} → (type : ℕ) → (source target : Path) → Body N → Result N
+abbrev pub unwrap : {N : Type 0} → (type : ℕ) → (source target : Path) → Frame N → Completion N
 unwrap t p y b =
     if_there
     (λ c. elim (content_of t c) [ None ↦ goes (raised polymorph_mismatch) b | Some o ↦ moving_content y o (cleared p b) ])
@@ -98,7 +99,7 @@ abbrev pub with_parts : {N : Type 0} → (Parts N → Parts N) → Cell N → Ce
 with_parts f (cell n k ps) = cell n k (f ps)
 
 -- the rows of the table at a path changed
-abbrev pub change_rows : {N : Type 0} → Path → (Parts N → Parts N) → Body N → Body N
+abbrev pub change_rows : {N : Type 0} → Path → (Parts N → Parts N) → Frame N → Frame N
 change_rows t f b = record b { variables = change_at t (with_parts f) b.variables }
 
 -- a row behind the others
@@ -107,7 +108,7 @@ add_row row rows = joined rows (part row no_parts)
 
 -- `insert r into t`, where the fields of the key are these; DuplicateKey where there is a row with the key, else
 -- Depletion where the table has no room
-abbrev pub insert : {N : Type 0} → (key : List ℕ) → (lost : List Path) → (source table : Path) → Body N → Result N
+abbrev pub insert : {N : Type 0} → (key : List ℕ) → (lost : List Path) → (source table : Path) → Frame N → Completion N
 insert key lost r t b =
     if_there
     (λ row. reading t (λ table.
@@ -118,16 +119,16 @@ insert key lost r t b =
     (cell_at r b.variables)
 
 -- on with the row that has this key, by its place; NotFound where there is none
-abbrev pub finding : {N : Type 0} → (key : List ℕ) → List Scalar → (table : Path) → (ℕ → Cell N → Result N) → Body N → Result N
+abbrev pub finding : {N : Type 0} → (key : List ℕ) → List Scalar → (table : Path) → (ℕ → Cell N → Completion N) → Frame N → Completion N
 finding key k t next b =
     reading t (λ table. elim (place_of_key key k (parts_of table)) [ None ↦ goes (raised not_found) b | Some i ↦ if_there (next i) (part_at i (parts_of table)) ]) b
 
 -- `remove r from t [ .. ]`
-abbrev pub remove : {N : Type 0} → (key : List ℕ) → List Scalar → (target table : Path) → Body N → Result N
+abbrev pub remove : {N : Type 0} → (key : List ℕ) → List Scalar → (target table : Path) → Frame N → Completion N
 remove key k r t b = finding key k t (λ i row. putting r ok row (change_rows t (without_part i) b)) b
 
 -- `get r from t [ .. ]`: the row that it gives is a copy
-abbrev pub get : {N : Type 0} → (Name → N) → (key : List ℕ) → List Scalar → (target table : Path) → Body N → Result N
+abbrev pub get : {N : Type 0} → (Name → N) → (key : List ℕ) → List Scalar → (target table : Path) → Frame N → Completion N
 get name key k r t b = finding key k t (λ i row. copying name row (putting r ok) b) b
 
 -- the rows that the loop of this statement has yet to visit
@@ -140,14 +141,14 @@ set_rows s rows [] = []
 set_rows s rows (l ∷ loops) = cond (nat_eq l.statement s) (record { statement = s; rows = rows } ∷ loops) (l ∷ set_rows s rows loops)
 
 -- the next row moves into r, or there is none
-abbrev pub next_row : {N : Type 0} → (statement : ℕ) → Path → Parts N → Body N → Result N
+abbrev pub next_row : {N : Type 0} → (statement : ℕ) → Path → Parts N → Frame N → Completion N
 next_row s r no_parts b = goes done b
 next_row s r (gap rows) b = stuck
 next_row s r (part row rows) b = putting r turn row (record b { loops = set_rows s rows b.loops })
 
 -- A test of `for r in t`: the first one makes a copy of the rows, which the loop holds until it is left.
 -- Language reference, "Loops".
-abbrev pub visit : {N : Type 0} → (Name → N) → (statement : ℕ) → (target table : Path) → Body N → Result N
+abbrev pub visit : {N : Type 0} → (Name → N) → (statement : ℕ) → (target table : Path) → Frame N → Completion N
 visit name s r t b =
     elim (rows_for s b.loops) [
       | None ↦ reading t (λ table. copying_parts name (parts_of table) (λ rows b. next_row s r rows (record b { loops = record { statement = s; rows = rows } ∷ b.loops })) b) b
@@ -165,19 +166,19 @@ outport_number (cell n (an_outport port) ps) = Some port
 outport_number c = None
 
 -- `connect o to i`
-abbrev pub connect : {N : Type 0} → (Name → N) → (target port : Path) → Body N → Result N
+abbrev pub connect : {N : Type 0} → (Name → N) → (target port : Path) → Frame N → Completion N
 connect name o i b = reading i (λ c. if_there (λ n. making name (an_outport n) no_parts (putting o ok) b) (inport_number c)) b
 
 -- the outcome of a test
-abbrev pub tested : {N : Type 0} → Value → Body N → Result N
+abbrev pub tested : {N : Type 0} → Value → Frame N → Completion N
 tested (cell n (a_scalar (a_boolean true)) ps) b = goes is_true b
 tested (cell n (a_scalar (a_boolean false)) ps) b = goes is_false b
 tested v b = stuck
 
 -- `raise E`
-abbrev pub raise : {N : Type 0} → (exception : ℕ) → Body N → Result N
+abbrev pub raise : {N : Type 0} → (exception : ℕ) → Frame N → Completion N
 raise e b = goes (raised e) b
 
 -- `leave`
-abbrev pub leave : {N : Type 0} → Body N → Result N
+abbrev pub leave : {N : Type 0} → Frame N → Completion N
 leave b = goes ok b

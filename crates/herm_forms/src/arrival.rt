@@ -1,7 +1,7 @@
 // Laws of edges and beginnings: what they leave is what the facts of their target say.
 
-ghost use Rattle.herm_forms.specs.Edges.{Code};
-ghost use Rattle.herm_forms.specs.Arrival.{ClearingIsSound, EdgesAreExact, EdgesArrive, PlainFormsAreSound, SendsAreSound, SettingIsSound};
+ghost use Rattle.herm_forms.specs.Modules.{Module};
+ghost use Rattle.herm_forms.specs.laws.EdgeLaws.{ClearingIsSound, EdgesAreExact, EdgesArrive, PlainFormsAreSound, SendsAreSound, SettingIsSound};
 
 /// Where sound values have all facts of an edge's target, and these are closed, the edge leaves sound values with
 /// exactly these facts. Here and below types are within the limit of depth.
@@ -29,7 +29,7 @@ pub fn setting_is_sound()
 /// Behind `discard`, the tests of `if` and `while`, `raise` and `leave` sound values are sound with what the
 /// statement table says is held.
 pub fn plain_forms_are_sound()
-    ensures forms { (c : Code) → PlainFormsAreSound c }
+    ensures forms { (c : Module) → PlainFormsAreSound c }
 {}
 
 /// So they are behind a `send` whose message was placed, where what the message held beyond its declared facts was

@@ -1,6 +1,6 @@
 // A law of exceptions.
 
-ghost use Rattle.herm_forms.specs.Exceptions.{ExceptionsLeaveAll};
+ghost use Rattle.herm_forms.specs.laws.ExceptionLaws.{ExceptionsLeaveAll};
 
 /// Where a form that is a local step raises an exception, it leaves the body that it was given. The count of its step
 /// comes before, and what the edge to a handler finalises after.

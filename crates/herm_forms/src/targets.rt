@@ -1,17 +1,17 @@
 // Laws of the forms that set a value at any path: sound values that have what a form needs stay sound.
 
-ghost use Rattle.herm_forms.specs.Edges.{Code};
-ghost use Rattle.herm_forms.specs.TargetLaws.{AnswersKeepSound, AssignmentsKeepSound, MovesKeepSound, NewValuesKeepSound, ReceivesKeepSound, ReturnedSendsKeepSound, SentAreMessages};
+ghost use Rattle.herm_forms.specs.Modules.{Module};
+ghost use Rattle.herm_forms.specs.laws.TargetLaws.{AnswersKeepSound, AssignmentsKeepSound, MovesKeepSound, NewValuesKeepSound, ReceivesKeepSound, ReturnedSendsKeepSound, SentAreMessages};
 
 /// An assignment to any path does what the statement table says of it, where the expression's value is a full one of the
 /// path's type.
 pub fn assignments_keep_sound()
-    ensures assignments { (c : Code) → AssignmentsKeepSound c }
+    ensures assignments { (c : Module) → AssignmentsKeepSound c }
 {}
 
 /// So do `new` of a record or a table and `connect`, at any path: the value's own fact is made.
 pub fn new_values_keep_sound()
-    ensures values { (c : Code) → NewValuesKeepSound c }
+    ensures values { (c : Module) → NewValuesKeepSound c }
 {}
 
 /// So does a `move` from any path to any path of the same type: what the source holds beyond its full facts is dropped.
@@ -26,7 +26,7 @@ pub fn receives_keep_sound()
 
 /// So do the answers to `new` of an inport, to `create` and to `select`, at any paths.
 pub fn answers_keep_sound()
-    ensures answers { (c : Code) → AnswersKeepSound c }
+    ensures answers { (c : Module) → AnswersKeepSound c }
 {}
 
 /// What a `send` wants to put is a message of the port: it has exactly the facts at which messages travel.

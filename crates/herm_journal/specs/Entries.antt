@@ -4,7 +4,7 @@ use Rattle.herm_model.specs.Lists.{list_of}
 use Rattle.herm_model.specs.Values.{Cell}
 use Rattle.herm_model.specs.Texts.{numeral, text_of}
 use Rattle.herm_journal.specs.Actions.{Reply, values, raised, gone, Action, make_port, make_process, put, take, close, answer, hear}
-use Rattle.herm_journal.specs.Places.{Port, Holding, a_port, replies, a_book}
+use Rattle.herm_journal.specs.PlaceStates.{Port, PlaceState, a_port, replies, a_book}
 
 -- a text as its bytes
 abbrev pub Text : Type 0
@@ -57,7 +57,7 @@ map_action f g (hear call r) = hear call (g r)
 abbrev pub map_port : {M N : Type 0} → (M → N) → Port M → Port N
 map_port f p = record { is_open = p.is_open; queue = map (λ q. (q.0, f q.1)) p.queue; placed = p.placed }
 
-abbrev pub map_holding : {M N R S : Type 0} → (M → N) → (R → S) → Holding M R → Holding N S
+abbrev pub map_holding : {M N R S : Type 0} → (M → N) → (R → S) → PlaceState M R → PlaceState N S
 map_holding f g (a_port p) = a_port (map_port f p)
 map_holding f g (replies rs) = replies (map (λ r. (r.0, g r.1)) rs)
 map_holding f g (a_book b) = a_book b
@@ -75,8 +75,8 @@ texts_of (c ∷ cs) = text_of c ++ more_texts_of cs
 abbrev pub recorded : {N : Type 0} → Action (Cell N) (Reply (List (Cell N))) → Record
 recorded a = map_action text_of (map_reply texts_of) a
 
-abbrev pub told : {N : Type 0} → Holding (Cell N) (Reply (List (Cell N))) → Holding Text (Reply Text)
-told h = map_holding text_of (map_reply texts_of) h
+abbrev pub recorded_state : {N : Type 0} → PlaceState (Cell N) (Reply (List (Cell N))) → PlaceState Text (Reply Text)
+recorded_state h = map_holding text_of (map_reply texts_of) h
 
 -- a space and a number
 abbrev pub and_number : ℕ → Text

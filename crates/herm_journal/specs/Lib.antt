@@ -1,10 +1,12 @@
 pub mod Actions
-pub mod Places
 pub mod Entries
 pub mod Journals
-pub mod JournalLaws
 pub mod Messages
 pub mod Weights
 pub mod Renaming
 pub mod Kinds
 pub mod PartTypes
+pub mod laws
+pub mod Stamps
+pub mod Histories
+pub mod PlaceStates

@@ -1,10 +1,11 @@
 -- What travels where messages are cells, which messages a port takes, and which replies a call.
 use Rattle.std.specs.Prelude.{ℕ, List, [], ◌∷◌, map, filter, flat_map, Bool, true, false, nat_eq, Option, Some, None, slice_get, option_and_then, IsTrue, ⊤}
-use Rattle.herm_model.specs.Lists.{IsIn, list_of, some_of}
+use Rattle.herm_model.specs.Lists.{IsIn, list_of, any_pass}
 use Rattle.herm_model.specs.Types.{TypeTable, Shape, inport, Parameter, Raised}
 use Rattle.herm_model.specs.Facts.{declared_facts}
 use Rattle.herm_model.specs.Calls.{message_type, parameters_of, raises_of, kept_for, is_returned}
-use Rattle.herm_model.specs.Values.{Cell, part, no_parts, HasExactly}
+use Rattle.herm_model.specs.Values.{Cell, part, no_parts}
+use Rattle.herm_model.specs.FactsOfValues.{HasExactly}
 use Rattle.herm_model.specs.Typed.{HasType, IsFull}
 use Rattle.herm_journal.specs.Actions.{Reply, values, raised, gone, Want, Action}
 
@@ -74,5 +75,5 @@ types_of_reply types call gone = []
 -- exception is one that the type declares. Language reference, "Calls".
 abbrev pub IsReplyTo : {N : Type 0} → TypeTable → (call : Option ℕ) → CellReply N → Type 0
 IsReplyTo types call (values cs) = AreFull types (types_back types call) cs
-IsReplyTo types call (raised e cs) = IsTrue (some_of (λ (r : Raised). nat_eq r.exception e) (raises_for types call)) × AreFull types (types_kept types call e) cs
+IsReplyTo types call (raised e cs) = IsTrue (any_pass (λ (r : Raised). nat_eq r.exception e) (raises_for types call)) × AreFull types (types_kept types call e) cs
 IsReplyTo types call gone = ⊤

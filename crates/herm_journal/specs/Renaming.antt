@@ -1,6 +1,7 @@
 -- The same with other names: of a reply, of what was done and of what is wanted.
 use Rattle.std.specs.Prelude.{map, ⊤}
-use Rattle.herm_model.specs.Values.{Name, rename}
+use Rattle.herm_model.specs.Values.{Name}
+use Rattle.herm_model.specs.CellNames.{rename}
 use Rattle.herm_journal.specs.Actions.{new_port, new_process, to_put, to_take, to_close, to_answer, to_hear}
 use Rattle.herm_journal.specs.Entries.{map_reply, map_action}
 use Rattle.herm_journal.specs.Messages.{CellReply, CellWant, CellAction}

@@ -35,9 +35,9 @@ module _ {N : Type 0} (w : N → ℕ) where
   weigh_serials name s count = total (λ s. w (name s)) (range s count)
 
   -- what comes in with an action: a message that comes back, one that was taken, those of a closed port, or a reply
-  abbrev pub come_in : CellAction N → ℕ
-  come_in (put None m) = weigh m
-  come_in (take k m) = weigh m
-  come_in (close count left) = weigh_all left
-  come_in (hear call r) = weigh_reply r
-  come_in action = 0
+  abbrev pub weight_received : CellAction N → ℕ
+  weight_received (put None m) = weigh m
+  weight_received (take k m) = weigh m
+  weight_received (close count left) = weigh_all left
+  weight_received (hear call r) = weigh_reply r
+  weight_received action = 0

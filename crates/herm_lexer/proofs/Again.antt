@@ -3,7 +3,7 @@ use Rattle.std.proofs.Common.{◌≡◌, ℕ, ◌+◌, ◌<◌, ◌⊎◌, inl, 
 use Rattle.std.specs.Prelude.{pos, negsuc}
 use Rattle.std.proofs.lemmas.List.{length-append}
 use Rattle.herm_lexer.specs.Bytes.{is_blank, is_allowed, is_line_byte}
-use Rattle.herm_alphabet.specs.Letters.{letters, characters}
+use Rattle.herm_alphabet.specs.KeywordLetters.{letters, characters}
 use Rattle.herm_lexer.specs.Runs.{Stops}
 use Rattle.herm_lexer.specs.Spelling.{Spells, SpellsPiece, IsPieceWithinLimit, IsWithinLimit, Ends}
 use Rattle.herm_lexer.specs.Faults.{IsOpenString, HasStrayByte, BeginsNoToken, FaultAt}

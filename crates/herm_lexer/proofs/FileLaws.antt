@@ -6,7 +6,7 @@ use Rattle.std.proofs.lemmas.Bool.{cases_lt}
 use Rattle.herm_lexer.specs.Spelling.{Spells, SpellsPiece, Part, text_of, AreParts, token_at, tokens_of, ReadTo, HasTokens, IsOrdinary}
 use Rattle.herm_lexer.specs.Faults.{FaultAt, IsStoppedBy, HasFault, kept}
 use Rattle.herm_lexer.specs.Reading.{piece_at, placed}
-use Rattle.herm_lexer.specs.Laws.{OneTokenList, OneFault, TokensOrFault, TokensElseFault, IsSpelledIn, AreRising, TokensSpellFile}
+use Rattle.herm_lexer.specs.laws.TokenLaws.{OneTokenList, OneFault, TokensOrFault, TokensElseFault, IsSpelledIn, AreRising, TokensSpellFile}
 use Rattle.herm_lexer.specs.declared.piece.Piece.{Piece}
 use Rattle.herm_lexer.specs.declared.piece.Piece.TheVariants.{Blank, Comment, Token as Lexeme}
 use Rattle.herm_lexer.specs.declared.piece.Stop.{Stop}

@@ -13,3 +13,4 @@ pub mod Again
 pub mod Files
 pub mod FileLaws
 pub mod Longest
+pub mod Sources

@@ -5,12 +5,12 @@ use Rattle.std.specs.List.{AllByRecursion, flat_map}
 use Rattle.std.specs.Char.{is_ascii_alphabetic, is_ascii_digit}
 use Rattle.std.proofs.lemmas.List.{length-append}
 use Rattle.herm_lexer.specs.Bytes.{is_blank, is_line_byte, is_name_byte}
-use Rattle.herm_alphabet.specs.Letters.{characters}
+use Rattle.herm_alphabet.specs.KeywordLetters.{characters}
 use Rattle.herm_lexer.specs.Runs.{Goes, Stops, run_length}
 use Rattle.herm_lexer.specs.Spelling.{IsName, Spells, SpellsPiece, Ends, escaped, is_content, piece_goes_on, sign_goes_on}
-use Rattle.herm_alphabet.specs.Letters.{keyword_of}
+use Rattle.herm_alphabet.specs.KeywordLetters.{keyword_of}
 use Rattle.herm_lexer.specs.Reading.{double_sign, kind_of}
-use Rattle.herm_lexer.specs.Laws.{IsLongest, IsApart, PiecesAreLongest}
+use Rattle.herm_lexer.specs.laws.TokenLaws.{IsLongest, IsApart, PiecesAreLongest}
 use Rattle.herm_lexer.specs.declared.run.Run.TheVariants.{Name, Digits, Line, Inside}
 use Rattle.herm_lexer.specs.declared.piece.Piece.{Piece}
 use Rattle.herm_lexer.specs.declared.piece.Piece.TheVariants.{Blank, Comment, Token as Lexeme}

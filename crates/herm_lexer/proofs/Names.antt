@@ -6,11 +6,11 @@ use Rattle.std.specs.Char.{is_ascii_alphabetic}
 use Rattle.std.proofs.lemmas.Bool.{le-ltb, lt-ltb, ltb-false, ltb-true}
 use Rattle.std.proofs.lemmas.List.{take_at}
 use Rattle.herm_lexer.specs.Bytes.{is_name_byte}
-use Rattle.herm_alphabet.specs.Letters.{letters}
+use Rattle.herm_alphabet.specs.KeywordLetters.{letters}
 use Rattle.herm_alphabet.proofs.Keywords.{keyword_of-letters, keyword_of-some, keyword_of-none}
 use Rattle.herm_lexer.specs.Runs.{Goes, Stops, run_length}
 use Rattle.herm_lexer.specs.Spelling.{IsName, Spells, IsWithinLimit}
-use Rattle.herm_alphabet.specs.Letters.{keyword_of}
+use Rattle.herm_alphabet.specs.KeywordLetters.{keyword_of}
 use Rattle.herm_lexer.specs.Reading.{kind_of, name_of, name_at, piece_at}
 use Rattle.herm_lexer.specs.declared.run.Run.TheVariants.{Name}
 use Rattle.herm_alphabet.specs.declared.keyword.Keyword.{Keyword}

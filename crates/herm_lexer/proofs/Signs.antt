@@ -6,7 +6,7 @@ use Rattle.std.specs.Char.{is_ascii_alphabetic, is_ascii_digit}
 use Rattle.std.proofs.lemmas.Bool.Decides.{nat_tests}
 use Rattle.herm_base.specs.Decimal.{IsDecimalText}
 use Rattle.herm_lexer.specs.Bytes.{is_blank, is_allowed}
-use Rattle.herm_alphabet.specs.Letters.{letters, characters}
+use Rattle.herm_alphabet.specs.KeywordLetters.{letters, characters}
 use Rattle.herm_lexer.specs.Spelling.{IsName, Spells, Ends, sign_goes_on}
 use Rattle.herm_lexer.specs.Reading.{single_sign, single_signs, sign_among, single_of, sign_of, sign_at, piece_at}
 use Rattle.herm_lexer.specs.declared.piece.Piece.TheVariants.{Token as Lexeme}

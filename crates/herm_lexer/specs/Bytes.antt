@@ -1,6 +1,7 @@
 -- Classes of the bytes of a source file (Language reference, "Tokens").
 use Rattle.std.specs.Prelude.{ℕ, Bool, ◌==◌, ◌||◌, ◌&&◌, not}
-use Rattle.std.specs.Char.{is_ascii_graphic, is_ascii_alphanumeric}
+use Rattle.std.specs.Char.{is_ascii_graphic}
+pub use Rattle.herm_alphabet.specs.Tokens.{is_name_byte}
 
 -- white space
 abbrev pub is_blank : ℕ → Bool
@@ -13,7 +14,3 @@ is_allowed b = is_blank b || is_ascii_graphic b
 -- what goes on to the end of a line: an allowed byte that is no newline
 abbrev pub is_line_byte : ℕ → Bool
 is_line_byte b = is_allowed b && not (b == 10)
-
--- what may stand in a name behind its first letter
-abbrev pub is_name_byte : ℕ → Bool
-is_name_byte b = is_ascii_alphanumeric b || b == 95

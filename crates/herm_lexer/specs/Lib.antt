@@ -3,4 +3,4 @@ pub mod Runs
 pub mod Spelling
 pub mod Faults
 pub mod Reading
-pub mod Laws
+pub mod laws

@@ -1,11 +1,10 @@
 -- How the bytes of a source file spell its tokens (Language reference, "Tokens").
-use Rattle.std.specs.Prelude.{◌≡◌, ◌≢◌, ℕ, pos, negsuc, ◌+◌, ◌<◌, ◌≤◌, ◌^◌, ◌==◌, ◌||◌, Bool, false, IsTrue, IsFalse, List, [], ◌∷◌, ◌++◌, length, if◌then◌else◌}
+use Rattle.std.specs.Prelude.{◌≡◌, ◌≢◌, ℕ, pos, negsuc, ◌+◌, ◌≤◌, ◌==◌, ◌||◌, Bool, false, IsTrue, IsFalse, List, [], ◌∷◌, ◌++◌, length, if◌then◌else◌}
 use Rattle.std.specs.List.{AllByRecursion, flat_map}
-use Rattle.std.specs.Char.{is_ascii_alphabetic}
-use Rattle.std.specs.Int.{is_in_range}
 use Rattle.herm_base.specs.Decimal.{IsDecimalText}
 use Rattle.herm_lexer.specs.Bytes.{is_blank, is_line_byte, is_name_byte}
-use Rattle.herm_alphabet.specs.Letters.{letters, characters}
+pub use Rattle.herm_alphabet.specs.Tokens.{IsName, is_content, IsWithinLimit}
+use Rattle.herm_alphabet.specs.KeywordLetters.{letters, characters}
 use Rattle.herm_alphabet.specs.declared.token.Token.{Token}
 use Rattle.herm_alphabet.specs.declared.token.TokenKind.{TokenKind}
 use Rattle.herm_alphabet.specs.declared.token.TokenKind.TheVariants.{Key, Ident, Int, Text, Sign}
@@ -16,15 +15,6 @@ use Rattle.herm_lexer.specs.declared.piece.Piece.{Piece}
 use Rattle.herm_lexer.specs.declared.piece.Piece.TheVariants.{Blank, Comment, Token as Lexeme}
 
 -- ---- tokens
-
--- a letter, and then letters, digits and `_`
-abbrev pub IsName : List ℕ → Type 0
-IsName [] = ⊥
-IsName (b ∷ bs) = IsTrue (is_ascii_alphabetic b) × AllByRecursion (λ c. IsTrue (is_name_byte c)) bs
-
--- what a string may contain: the printable bytes and the blank, and newlines
-abbrev pub is_content : ℕ → Bool
-is_content b = b == 10 || is_in_range 32 126 b
 
 -- how a byte of a string's content is written: `\n`, `\"`, `\\`, or the byte itself
 abbrev pub escaped : ℕ → List ℕ
@@ -40,15 +30,6 @@ Spells (Int (negsuc n)) text = ⊥
 Spells (Text content) text =
     (text ≡ 34 ∷ flat_map escaped content ++ 34 ∷ []) × AllByRecursion (λ b. IsTrue (is_content b)) content
 Spells (Sign mark) text = text ≡ characters mark
-
--- the limits of a name, an integer and a string
-abbrev pub IsWithinLimit : TokenKind → Type 0
-IsWithinLimit (Key keyword) = Unit {0}
-IsWithinLimit (Ident name) = length name ≤ 64
-IsWithinLimit (Int (pos n)) = n < 2 ^ 63
-IsWithinLimit (Int (negsuc n)) = ⊥
-IsWithinLimit (Text content) = length content ≤ 4096
-IsWithinLimit (Sign mark) = Unit {0}
 
 -- ---- pieces
 

@@ -1,5 +1,5 @@
 //! What holds of every file.
-ghost use Rattle.herm_lexer.specs.Laws.{OneTokenList, OneFault, TokensOrFault, TokensElseFault, TokensSpellFile, PiecesAreLongest};
+ghost use Rattle.herm_lexer.specs.laws.TokenLaws.{OneTokenList, OneFault, TokensOrFault, TokensElseFault, TokensSpellFile, TokensAreSource, PiecesAreLongest};
 
 /// A file has at most one token list.
 pub fn one_token_list()
@@ -24,6 +24,11 @@ pub fn tokens_else_fault()
 /// The bytes at each token's place spell it, and the places stand one behind the other.
 pub fn tokens_spell_file()
     ensures { TokensSpellFile }
+{}
+
+/// The tokens of a file are within the limits of tokens: names, integers and texts that a source file can have.
+pub fn tokens_are_source()
+    ensures { TokensAreSource }
 {}
 
 /// Each piece of a file is the longest that stands there.

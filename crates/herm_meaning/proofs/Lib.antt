@@ -1,1 +1,10 @@
 pub mod Unique
+pub mod FaultlessPlaces
+pub mod NamePlaces
+pub mod Forgotten
+pub mod NameRules
+pub mod TypeRules
+pub mod FactRules
+pub mod KeptRules
+pub mod WellNamed
+pub mod Outlines

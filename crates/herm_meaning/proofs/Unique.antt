@@ -1,9 +1,9 @@
 -- Places have one list of faults.
-use Rattle.std.proofs.Common.{◌≡◌, ◌<◌, ◌⊎◌, inl, inr, ℕ, List, [], ◌∷◌, refl, sym, ◌∙◌, ap, subst, arith}
+use Rattle.std.proofs.Common.{◌≡◌, ◌<◌, inl, inr, [], ◌∷◌, refl, sym, ◌∙◌, ap, arith}
 use Rattle.herm_meaning.specs.Names.{NamedTable}
 use Rattle.herm_meaning.specs.Marks.{Place}
-use Rattle.herm_meaning.specs.Faults.{Code, unknown, twice, cycle, deep, bad_key, bad_state, rank, Fault, IsRight, IsFirst, AreFaults}
-use Rattle.herm_meaning.specs.Laws.{HasOneList}
+use Rattle.herm_meaning.specs.Faults.{Code, unknown, twice, cycle, deep, bad_key, bad_state, rank, IsFirst}
+use Rattle.herm_meaning.specs.laws.FaultLaws.{HasOneList}
 
 same-rank : (c d : Code) → (rank c < rank d → ⊥) → (rank d < rank c → ⊥) → c ≡ d
 same-rank unknown unknown l m = refl

@@ -4,7 +4,8 @@ use Rattle.herm_base.specs.declared.word.Span.{Span}
 use Rattle.herm_model.specs.Lists.{IsIn}
 use Rattle.herm_model.specs.Paths.{Fact}
 use Rattle.herm_model.specs.Types as types
-use Rattle.herm_model.specs.Types.{IsCopyable, named_types, is_composed}
+use Rattle.herm_model.specs.Types.{named_types}
+use Rattle.herm_model.specs.Copyable.{IsCopyable, is_composed}
 use Rattle.herm_model.specs.Facts.{component_count}
 use Rattle.herm_model.specs.Calls.{is_returned}
 use Rattle.herm_model.specs.Outcomes.{disconnected}
@@ -85,7 +86,7 @@ module _ (table : NamedTable) where
   IsOnCycle role = ⊥
 
   abbrev pub IsDeep : Role → Type 0
-  IsDeep (a_type number shape) = MeetsNoUnknown number × MeetsNoCycle number × ((types.is_within_depth types.greatest_depth table.shapes number ≡ false) ⊎ (greatest_paths < length (types.steps types.all_parts table.shapes number)))
+  IsDeep (a_type number shape) = MeetsNoUnknown number × MeetsNoCycle number × ((types.is_within_depth types.greatest_depth table.shapes number ≡ false) ⊎ (greatest_paths < length (types.part_paths types.all_parts table.shapes number)))
   IsDeep role = ⊥
 
   -- ---- keys

@@ -5,4 +5,4 @@ pub mod Meaning
 pub mod Marks
 pub mod Walks
 pub mod Faults
-pub mod Laws
+pub mod laws

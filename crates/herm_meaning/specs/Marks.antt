@@ -1,5 +1,5 @@
 -- The places of a text at which a definition can be faulty, in the order of the text.
-use Rattle.std.specs.Prelude.{ℕ, suc, List, [], ◌∷◌, ◌++◌, flat_map}
+use Rattle.std.specs.Prelude.{ℕ, suc, List, [], ◌∷◌, ◌++◌}
 use Rattle.herm_base.specs.declared.word.Name.{Name}
 use Rattle.herm_syntax.specs.declared.definitions.DefForm.{DefForm}
 use Rattle.herm_syntax.specs.declared.definitions.DefForm.TheVariants.{Shaped, Exception}

@@ -5,9 +5,9 @@ use Rattle.std.specs.List.{list_any}
 use Rattle.herm_model.specs.Paths.{Fact, init, case}
 use Rattle.herm_model.specs.Types as types
 use Rattle.herm_model.specs.Facts.{full_facts}
-use Rattle.herm_syntax.specs.Trees.{Letters, Field, Mode, In, Inout, Out, Param, Raising, DeclaredFact, InitFact, FullFact, CaseFact, Shape, Names, Fields, Cases, Rows, Inport, Outport, CallMessage}
+use Rattle.herm_syntax.specs.Trees.{Letters, Mode, In, Inout, Out, Param, Raising, DeclaredFact, InitFact, FullFact, CaseFact, Shape, Names, Fields, Cases, Rows, Inport, Outport, CallMessage}
 use Rattle.herm_meaning.specs.Names.{NamedTable, behind_predefined, predefined_names, predefined_exception_names}
-use Rattle.herm_meaning.specs.Walks.{place_of, parts_of, at_end, walk}
+use Rattle.herm_meaning.specs.Walks.{place_of, parts_of, at_end, walk_fields}
 use Rattle.herm_meaning.specs.Items.{Placed, types_in, exceptions_in}
 
 -- the names of a shape's parts
@@ -64,11 +64,11 @@ outline items = behind_predefined (record {
   exceptions = exceptions_in items;
 })
 
--- the facts that a declared fact lists, for a message of a type
+-- The facts that a declared fact lists, for a message of a type: none where its path names no field, as no text has it.
 abbrev pub fact_meant : NamedTable → ℕ → DeclaredFact → List Fact
-fact_meant table message (InitFact p) = at_end (walk table message p) (λ places t. init (0 ∷ places) ∷ [])
-fact_meant table message (FullFact p) = at_end (walk table message p) (λ places t. full_facts table.shapes t (0 ∷ places))
-fact_meant table message (CaseFact p c) = at_end (walk table message p) (λ places t. case (0 ∷ places) (place_of (parts_of table t) c) ∷ [])
+fact_meant table message (InitFact p) = at_end (walk_fields table message p) (λ places t. init (0 ∷ places) ∷ [])
+fact_meant table message (FullFact p) = at_end (walk_fields table message p) (λ places t. full_facts table.shapes t (0 ∷ places))
+fact_meant table message (CaseFact p c) = at_end (walk_fields table message p) (λ places t. case (0 ∷ places) (place_of (parts_of table t) c) ∷ [])
 
 -- the shape with the keys and the declared facts looked up in an outline
 abbrev pub meant_shape : NamedTable → Shape → types.Shape

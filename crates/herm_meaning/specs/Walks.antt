@@ -1,9 +1,8 @@
 -- Paths of names through record fields, and the facts that they are written in.
-use Rattle.std.specs.Prelude.{ℕ, List, [], ◌∷◌, Option, Some, None, slice_get, length, ◌<◌, if◌then◌else◌, nat_lt}
+use Rattle.std.specs.Prelude.{ℕ, List, [], ◌∷◌, slice_get}
 use Rattle.std.specs.Str.{bytes_eq}
 use Rattle.std.specs.List.{position_or_len}
-use Rattle.herm_model.specs.Lists.{with_some}
-use Rattle.herm_model.specs.Types.{Shape, fields}
+use Rattle.herm_model.specs.Lists.{map_or}
 use Rattle.herm_model.specs.WellFormedTables.{field_type}
 use Rattle.herm_syntax.specs.Trees.{Letters}
 use Rattle.herm_meaning.specs.Names.{NamedTable}
@@ -14,7 +13,7 @@ place_of names name = position_or_len (bytes_eq name) names
 
 -- the names of the parts of a type
 abbrev pub parts_of : NamedTable → ℕ → List Letters
-parts_of table t = with_some [] (λ ps. ps) (slice_get table.parts t)
+parts_of table t = map_or [] (λ ps. ps) (slice_get table.parts t)
 
 -- What comes of following names of fields from a type: the type at the end with the places of the fields on the way,
 -- or a type on the way that has no such field, or one that is unknown.
@@ -33,7 +32,12 @@ abbrev pub walk : NamedTable → ℕ → List Letters → Walked
 walk table t [] = ended [] t
 walk table t (name ∷ p) =
     let i = place_of (parts_of table t) name in
-    with_some met_unknown (λ s. with_some left_fields (λ u. further i (walk table u p)) (field_type s i)) (slice_get table.shapes t)
+    map_or met_unknown (λ s. map_or left_fields (λ u. further i (walk table u p)) (field_type s i)) (slice_get table.shapes t)
+
+-- the same for a path of one field at least
+abbrev pub walk_fields : NamedTable → ℕ → List Letters → Walked
+walk_fields table t [] = left_fields
+walk_fields table t (name ∷ p) = walk table t (name ∷ p)
 
 -- what a function makes of the end of a path that leads there
 abbrev pub at_end : {X : Type 0} → Walked → (List ℕ → ℕ → List X) → List X

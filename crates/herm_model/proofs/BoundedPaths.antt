@@ -1,8 +1,8 @@
 -- Paths of typed processes are bounded.
 use Rattle.std.proofs.Common.{◌≡◌, ℕ, zero, suc, ◌<◌, ◌≤◌, List, [], ◌∷◌, ◌++◌, map, flat_map, length, length-append, false, Option, Some, None, is_some, slice_get, IsTrue, refl, subst, arith}
-use Rattle.herm_model.specs.Lists.{IsIn, every, with_some, numbered}
+use Rattle.herm_model.specs.Lists.{IsIn, all_pass, map_or, numbered}
 use Rattle.herm_model.specs.Paths.{Path}
-use Rattle.herm_model.specs.Types.{Mode, by_in, by_inout, by_out, Parameter, Shape, fields, cases, callmessage, TypeTable, named_types, part_type, part_of, type_below, type_at, is_within_depth, greatest_depth, filled, if_filled, full_parts, held_parts, all_parts, steps_within, steps, variable_paths}
+use Rattle.herm_model.specs.Types.{Mode, by_in, by_inout, by_out, Parameter, Shape, fields, cases, callmessage, TypeTable, named_types, part_type, part_of, type_below, type_at, is_within_depth, greatest_depth, filled, if_filled, full_parts, held_parts, all_parts, part_paths_within, part_paths, variable_paths}
 use Rattle.herm_model.specs.WellFormedTables.{IsType, IsWellFormedTable}
 use Rattle.herm_model.specs.laws.TypedFactLaws.{TypedPathsAreBounded}
 use Rattle.herm_model.proofs.Lists.{not_true, in-map, every-in, length-map}
@@ -24,7 +24,7 @@ module _ (exceptions : ℕ) (table : TypeTable) (well : IsWellFormedTable except
   part-there : (t i u : ℕ) → part_of table (Some t) i ≡ Some u → IsType table u
   part-there t i u e = by (slice_get table t) refl e
     where
-      by : (o : Option Shape) → slice_get table t ≡ o → with_some None (λ s. part_type s i) o ≡ Some u → IsType table u
+      by : (o : Option Shape) → slice_get table t ≡ o → map_or None (λ s. part_type s i) o ≡ Some u → IsType table u
       by None s e = none-not_some e
       by (Some s) k e = well.types_known t s k u (part-named s i u e)
 
@@ -40,7 +40,7 @@ module _ (exceptions : ℕ) (table : TypeTable) (well : IsWellFormedTable except
 within-part : (table : TypeTable) (n t i u : ℕ) → IsTrue (is_within_depth (suc n) table t) → part_of table (Some t) i ≡ Some u → IsTrue (is_within_depth n table u)
 within-part table n t i u w e = by (slice_get table t) w e
   where
-    by : (o : Option Shape) → IsTrue (with_some false (λ s. every (is_within_depth n table) (named_types s)) o) → with_some None (λ s. part_type s i) o ≡ Some u → IsTrue (is_within_depth n table u)
+    by : (o : Option Shape) → IsTrue (map_or false (λ s. all_pass (is_within_depth n table) (named_types s)) o) → map_or None (λ s. part_type s i) o ≡ Some u → IsTrue (is_within_depth n table u)
     by None w e = not_true w
     by (Some s) w e = every-in (is_within_depth n table) u (named_types s) w (part-named s i u e)
 
@@ -86,17 +86,17 @@ module _ (parts : Shape → List (ℕ × ℕ)) (fewer : Fewer parts) (table : Ty
   mapped : (i : ℕ) (xs ys : List (List ℕ)) → length xs ≤ length ys → length (map (i ∷◌) xs) ≤ length (map (i ∷◌) ys)
   mapped i xs ys h = omega (arith, length-map (i ∷◌) xs, length-map (i ∷◌) ys, h)
 
-  steps-fewer : (n t : ℕ) → length (steps_within parts n table t) ≤ length (steps_within all_parts n table t)
+  steps-fewer : (n t : ℕ) → length (part_paths_within parts n table t) ≤ length (part_paths_within all_parts n table t)
   steps-fewer zero t = omega arith
   steps-fewer (suc n) t = by (slice_get table t) (steps-fewer n)
     where
-      by : (o : Option Shape) → ((u : ℕ) → length (steps_within parts n table u) ≤ length (steps_within all_parts n table u))
-          → length (with_some [] (λ s. [] ∷ flat_map (λ (part : ℕ × ℕ). map (part.0 ∷◌) (steps_within parts n table part.1)) (parts s)) o) ≤ length (with_some [] (λ s. [] ∷ flat_map (λ (part : ℕ × ℕ). map (part.0 ∷◌) (steps_within all_parts n table part.1)) (all_parts s)) o)
+      by : (o : Option Shape) → ((u : ℕ) → length (part_paths_within parts n table u) ≤ length (part_paths_within all_parts n table u))
+          → length (map_or [] (λ s. [] ∷ flat_map (λ (part : ℕ × ℕ). map (part.0 ∷◌) (part_paths_within parts n table part.1)) (parts s)) o) ≤ length (map_or [] (λ s. [] ∷ flat_map (λ (part : ℕ × ℕ). map (part.0 ∷◌) (part_paths_within all_parts n table part.1)) (all_parts s)) o)
       by None again = omega arith
-      by (Some s) again = omega (arith, fewer (λ part. map (part.0 ∷◌) (steps_within parts n table part.1)) (λ part. map (part.0 ∷◌) (steps_within all_parts n table part.1)) (λ part. mapped part.0 _ _ (again part.1)) s)
+      by (Some s) again = omega (arith, fewer (λ part. map (part.0 ∷◌) (part_paths_within parts n table part.1)) (λ part. map (part.0 ∷◌) (part_paths_within all_parts n table part.1)) (λ part. mapped part.0 _ _ (again part.1)) s)
 
   paths-fewer : (variables : List ℕ) → length (variable_paths parts table variables) ≤ length (variable_paths all_parts table variables)
-  paths-fewer variables = fewer-each (λ (v : ℕ × ℕ). map (v.0 ∷◌) (steps parts table v.1)) (λ (v : ℕ × ℕ). map (v.0 ∷◌) (steps all_parts table v.1)) (λ v. mapped v.0 _ _ (steps-fewer greatest_depth v.1)) (numbered 0 variables)
+  paths-fewer variables = fewer-each (λ (v : ℕ × ℕ). map (v.0 ∷◌) (part_paths parts table v.1)) (λ (v : ℕ × ℕ). map (v.0 ∷◌) (part_paths all_parts table v.1)) (λ v. mapped v.0 _ _ (steps-fewer greatest_depth v.1)) (numbered 0 variables)
 
 pub paths-bounded : TypedPathsAreBounded
 paths-bounded exceptions table processes p well typed = record {

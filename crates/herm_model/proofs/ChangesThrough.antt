@@ -2,7 +2,8 @@
 use Rattle.std.proofs.Common.{◌≡◌, ◌≢◌, ◌⊎◌, inl, inr, ℕ, zero, suc, [], ◌∷◌, ◌++◌, Bool, true, false, ◌&&◌, Option, Some, None, option_map, is_some, nat_eq, IsTrue, IsFalse, refl, sym, ap, subst, ◌∙◌, true≢false}
 use Rattle.std.proofs.lemmas.Bool.{eq-eqb, eqb-true}
 use Rattle.herm_model.specs.Paths.{Path, Fact, init, case, path_of, are_apart, is_at_or_below}
-use Rattle.herm_model.specs.Values.{a_record, a_variant, a_callmessage, Cell, cell, Parts, no_parts, part_at, inside, cell_at, behind_gaps, readable_of, read_at, change_readable, change_behind, change_from, change_at, is_component, tells}
+use Rattle.herm_model.specs.Values.{a_record, a_variant, a_callmessage, Cell, cell, Parts, no_parts, part_at, inside, cell_at, behind_gaps, readable_of, read_at, change_readable, change_behind, change_from, change_at}
+use Rattle.herm_model.specs.FactsOfValues.{is_component, satisfies}
 use Rattle.herm_model.proofs.Options.{is_some-map}
 use Rattle.herm_model.proofs.NothingThere.{none-there}
 use Rattle.herm_model.proofs.Places.{apart-cases, cell_below, cell-below, read_below, read-below, part_at-change_same, part_at-change_other, change_behind_same, read_at-change_at}
@@ -110,7 +111,7 @@ module _ {N : Type 0} where
   component-inside c h (Some (cell n (a_variant d) ps)) = refl
   component-inside c h (Some (cell n k ps)) = refl
 
-  pub tells-elsewhere : (p : Path) (g : Cell N → Cell N) (ps : Parts N) (f : Fact) → IsFalse (is_at_or_below p (path_of f)) → tells (change_at p g ps) f ≡ tells ps f
+  pub tells-elsewhere : (p : Path) (g : Cell N → Cell N) (ps : Parts N) (f : Fact) → IsFalse (is_at_or_below p (path_of f)) → satisfies (change_at p g ps) f ≡ satisfies ps f
   tells-elsewhere p g ps (init q) h = cell-elsewhere (Unit {0}) is_some (λ a h o. is_some-map (change_readable h) o) g p q ps (above-elsewhere p q h)
   tells-elsewhere p g ps (case q c) h = read-elsewhere (Unit {0}) (λ o. is_component o c) (λ a. component-inside c) g p q 0 ps (above-elsewhere p q h)
 

@@ -1,9 +1,10 @@
 -- The tests of expressions and forms decide which are typed.
 use Rattle.std.proofs.Common.{◌≡◌, ◌↔◌, ℕ, zero, suc, ◌<◌, List, [], ◌∷◌, ◌++◌, map, length, Bool, true, false, cond, ◌&&◌, nat_eq, nat_lt, Option, Some, None, is_some, slice_get, option_and_then, IsTrue, IsFalse, refl, sym, ap, subst, ◌∙◌, true≢false}
-use Rattle.herm_model.specs.Lists.{IsIn, every, some_of, with_some, range}
+use Rattle.herm_model.specs.Lists.{IsIn, all_pass, any_pass, map_or, range}
 use Rattle.herm_model.specs.Paths.{Path, Fact, are_apart, same_path}
-use Rattle.herm_model.specs.Types.{Mode, by_in, by_inout, by_out, Parameter, Raised, Shape, boolean, integer, text, polymorph, names, fields, cases, rows, inport, outport, callmessage, TypeTable, predefined, greatest_depth, type_at, passes_component, IsCopyable, is_copyable_within}
-use Rattle.herm_model.specs.Expressions.{Literal, Operator, either, both, equal, unequal, less, at_most, greater, at_least, plus, minus, times, divided, modulo, concatenated, Expression, literal, copy, negated, inverted, operation, size_of, decimal, length_of, Atom, path}
+use Rattle.herm_model.specs.Types.{Mode, by_in, by_inout, by_out, Parameter, Raised, Shape, boolean, integer, text, polymorph, names, fields, cases, rows, inport, outport, callmessage, TypeTable, predefined, greatest_depth, type_at, passes_component}
+use Rattle.herm_model.specs.Copyable.{IsCopyable, is_copyable_within}
+use Rattle.herm_model.specs.Expressions.{Literal, Operator, logical_or, logical_and, equal, unequal, less, at_most, greater, at_least, plus, minus, times, divided, modulo, concatenated, Expression, literal, copy, negation, logical_not, operation, size_of, decimal, length_of, Atom, path}
 use Rattle.herm_model.specs.Typed.{is_integer, is_text}
 use Rattle.herm_model.specs.Statements.{Form, Assign, Move, New, Discard, Unite, Dissolve, Reveal, Case, Wrap, Unwrap, Insert, Remove, Get, For, Connect, Send, Receive, Select, Call, Return, ReturnBy, Create, If, While, Raise, Leave, Arm, Process, Differ}
 use Rattle.herm_model.specs.StatementTable.{set_by_call}
@@ -26,7 +27,7 @@ number_of text = 2
 number_of polymorph = 3
 number_of s = 4
 
-only-predefined : (defined : TypeTable) → IsTrue (every is_definable defined) → (s : Shape) → is_definable s ≡ false → (t : ℕ) → slice_get (predefined ++ defined) t ≡ Some s → t ≡ number_of s
+only-predefined : (defined : TypeTable) → IsTrue (all_pass is_definable defined) → (s : Shape) → is_definable s ≡ false → (t : ℕ) → slice_get (predefined ++ defined) t ≡ Some s → t ≡ number_of s
 only-predefined defined d s n zero e = ap number_of (some-injective e)
 only-predefined defined d s n (suc zero) e = ap number_of (some-injective e)
 only-predefined defined d s n (suc (suc zero)) e = ap number_of (some-injective e)
@@ -47,7 +48,7 @@ pub record IsRegular (table : TypeTable) : Type 0 where
   pub one_text : (t : ℕ) → HasShape table t text → t ≡ 2
   pub deep : AreShallow table
 
-begins-regular : (defined : TypeTable) → IsTrue (every is_definable defined) → AreShallow (predefined ++ defined) → IsRegular (predefined ++ defined)
+begins-regular : (defined : TypeTable) → IsTrue (all_pass is_definable defined) → AreShallow (predefined ++ defined) → IsRegular (predefined ++ defined)
 begins-regular defined d deep = record {
   has_boolean = refl;
   has_integer = refl;
@@ -88,7 +89,7 @@ polymorph-decides o = false-decides (λ e. let k : ⊥ = cc e in k)
 
 apart-decide : (xs : List Path) → Decides (are_all_apart xs) (AreApart xs)
 apart-decide [] = true-decides tt
-apart-decide (x ∷ xs) = both-decide (every (are_apart x) xs) _ (all-decide (are_apart x) (λ y. IsTrue (are_apart x y)) (λ y. ((λ h. h), λ h. h)) xs) (apart-decide xs)
+apart-decide (x ∷ xs) = both-decide (all_pass (are_apart x) xs) _ (all-decide (are_apart x) (λ y. IsTrue (are_apart x y)) (λ y. ((λ h. h), λ h. h)) xs) (apart-decide xs)
 
 module _ (table : TypeTable) (regular : IsRegular table) where
   shape-number : (o : Operator) (t : ℕ) → HasShape table t (shape_given o) ↔ (t ≡ number_of_shape (shape_given o))
@@ -101,8 +102,8 @@ module _ (table : TypeTable) (regular : IsRegular table) where
       integers = (regular.one_integer t, λ e. subst (λ u. HasShape table u integer) (sym e) regular.has_integer)
 
       by : (o : Operator) → HasShape table t (shape_given o) ↔ (t ≡ number_of_shape (shape_given o))
-      by either = booleans
-      by both = booleans
+      by logical_or = booleans
+      by logical_and = booleans
       by equal = booleans
       by unequal = booleans
       by less = booleans
@@ -160,10 +161,10 @@ module _ (table : TypeTable) (regular : IsRegular table) where
         by (Some u) s e = let r = (chosen-if _ u t (copyable u)).0 e in ((seen p t).0 (s ∙ ap Some (sym r.0)), subst (IsCopyable table) (sym r.0) r.1)
 
     module _ (test : ℕ → Bool) (P : ℕ → Type 0) (each : (t : ℕ) → Decides (test t) (P t)) where
-      at-own : (p : Path) → Decides (with_some false test (own_type table variables p)) ((t : ℕ) × IsTarget table variables p t × P t)
+      at-own : (p : Path) → Decides (map_or false test (own_type table variables p)) ((t : ℕ) × IsTarget table variables p t × P t)
       at-own p = through _ (λ h. (h.0, (own p h.0).0 h.1, h.2)) (λ h. (h.0, (own p h.0).1 h.1, h.2)) (chosen-decides test P each (own_type table variables p))
 
-      at-seen : (p : Path) → Decides (with_some false test (seen_type table variables p)) ((t : ℕ) × IsLookedAt table variables p t × P t)
+      at-seen : (p : Path) → Decides (map_or false test (seen_type table variables p)) ((t : ℕ) × IsLookedAt table variables p t × P t)
       at-seen p = through _ (λ h. (h.0, (seen p h.0).0 h.1, h.2)) (λ h. (h.0, (seen p h.0).1 h.1, h.2)) (chosen-decides test P each (seen_type table variables p))
 
     table-decides : (p : Path) → Decides (is_table table variables p) ((u row : ℕ) × (key : List ℕ) × IsPathOf table variables p u × HasShape table u (rows row key))
@@ -176,9 +177,9 @@ module _ (table : TypeTable) (regular : IsRegular table) where
     operated o left right t l r = (λ e. to (expression_type table variables left) refl e, from)
       where
         given : Option ℕ → Option ℕ
-        given = option_and_then (λ u. cond (with_some false (takes o) (slice_get table u) && is_number (expression_type table variables right) u) (Some (number_of_shape (shape_given o))) None)
+        given = option_and_then (λ u. cond (map_or false (takes o) (slice_get table u) && is_number (expression_type table variables right) u) (Some (number_of_shape (shape_given o))) None)
 
-        operands : (u : ℕ) → Decides (with_some false (takes o) (slice_get table u) && is_number (expression_type table variables right) u) (((s : Shape) × HasShape table u s × IsTrue (takes o s)) × (expression_type table variables right ≡ Some u))
+        operands : (u : ℕ) → Decides (map_or false (takes o) (slice_get table u) && is_number (expression_type table variables right) u) (((s : Shape) × HasShape table u s × IsTrue (takes o s)) × (expression_type table variables right ≡ Some u))
         operands u = both-decide _ _ (chosen-decides (takes o) (λ s. IsTrue (takes o s)) (λ s. ((λ h. h), λ h. h)) (slice_get table u)) (number-is (expression_type table variables right) u)
 
         to : (x : Option ℕ) → expression_type table variables left ≡ x → given x ≡ Some t → IsTyped table variables (operation o left right) t
@@ -193,12 +194,12 @@ module _ (table : TypeTable) (regular : IsRegular table) where
     expression-is : (e : Expression) (t : ℕ) → (expression_type table variables e ≡ Some t) ↔ IsTyped table variables e t
     expression-is (literal l) t = literal-is l t
     expression-is (copy p) t = copied p t
-    expression-is (negated e) t =
+    expression-is (negation e) t =
         let k = given-if 1 1 (expression_type table variables e) t in (
           λ h. let r = k.0 h in (subst (λ u. HasShape table u integer) (sym r.0) regular.has_integer, 1, regular.has_integer, (expression-is e 1).0 r.1),
           λ h. k.1 (regular.one_integer t h.0, (expression-is e 1).1 (subst (IsTyped table variables e) (regular.one_integer h.1 h.2) h.3)),
         )
-    expression-is (inverted e) t =
+    expression-is (logical_not e) t =
         let k = given-if 0 0 (expression_type table variables e) t in (
           λ h. let r = k.0 h in (subst (λ u. HasShape table u boolean) (sym r.0) regular.has_boolean, 0, regular.has_boolean, (expression-is e 0).0 r.1),
           λ h. k.1 (regular.one_boolean t h.0, (expression-is e 0).1 (subst (IsTyped table variables e) (regular.one_boolean h.1 h.2) h.3)),
@@ -242,7 +243,7 @@ module _ (table : TypeTable) (regular : IsRegular table) where
     keys-decide ts [] (a ∷ atoms) = false-decides (λ h. h)
     keys-decide ts (i ∷ key) [] = false-decides (λ h. h)
     keys-decide ts (i ∷ key) (a ∷ atoms) =
-        both-decide (with_some false (is_number (atom_type table variables a)) (slice_get ts i)) _
+        both-decide (map_or false (is_number (atom_type table variables a)) (slice_get ts i)) _
         (chosen-decides (is_number (atom_type table variables a)) (IsTypedAtom table variables a) (λ t. through _ (atom-is a t).0 (atom-is a t).1 (number-is (atom_type table variables a) t)) (slice_get ts i))
         (keys-decide ts key atoms)
 
@@ -270,7 +271,7 @@ module _ (table : TypeTable) (regular : IsRegular table) where
       component-decides : (t c : ℕ) → Decides (at_component_type table variables t c test) ((u : ℕ) × IsComponent table t c u × P u)
       component-decides t c =
           through _ (λ h. (h.2.0, (h.0, h.1, h.2.1), h.2.2)) (λ h. ((h.1).0, (h.1).1, (h.0, (h.1).2, h.2)))
-          (cases-decide (λ ts. with_some false test (slice_get ts c)) (λ ts. (u : ℕ) × (slice_get ts c ≡ Some u) × P u) (λ ts. chosen-decides test P each (slice_get ts c)) (slice_get table t))
+          (cases-decide (λ ts. map_or false test (slice_get ts c)) (λ ts. (u : ℕ) × (slice_get ts c ≡ Some u) × P u) (λ ts. chosen-decides test P each (slice_get ts c)) (slice_get table t))
 
     found-decides : (r t : Path) (keys : List Atom) (test : ℕ → Bool) (P : ℕ → Type 0) → ((row : ℕ) → Decides (test row) (P row)) → Decides (is_found table variables r t keys test) ((row : ℕ) × IsFound table variables r t keys row × P row)
     found-decides r t keys test P each =
@@ -295,12 +296,12 @@ module _ (table : TypeTable) (regular : IsRegular table) where
         (number-is (expression_type table variables e) 0)
 
     -- the arms of a `case`
-    covers-decide : (cs : List ℕ) (n : ℕ) → Decides (are_different nat_eq cs && (every (λ c. nat_lt c n) cs && every (λ c. some_of (nat_eq c) cs) (range 0 n))) (Differ cs × ((c : ℕ) → IsIn c cs ↔ (c < n)))
+    covers-decide : (cs : List ℕ) (n : ℕ) → Decides (are_different nat_eq cs && (all_pass (λ c. nat_lt c n) cs && all_pass (λ c. any_pass (nat_eq c) cs) (range 0 n))) (Differ cs × ((c : ℕ) → IsIn c cs ↔ (c < n)))
     covers-decide cs n =
         through _ (λ h. (h.0, λ c. (h.1.0 c, h.1.1 c))) (λ h. (h.0, (λ c i. (h.1 c).0 i, λ c l. (h.1 c).1 l)))
         (both-decide (are_different nat_eq cs) _ (different-decides nat_eq numbers-decide cs)
-        (both-decide (every (λ c. nat_lt c n) cs) _ (all-decide (λ c. nat_lt c n) (λ c. c < n) (λ c. below-decides c n) cs)
-        (range-decides (λ c. some_of (nat_eq c) cs) (λ c. IsIn c cs) (λ c. member-decides nat_eq numbers-decide c cs) n)))
+        (both-decide (all_pass (λ c. nat_lt c n) cs) _ (all-decide (λ c. nat_lt c n) (λ c. c < n) (λ c. below-decides c n) cs)
+        (range-decides (λ c. any_pass (nat_eq c) cs) (λ c. IsIn c cs) (λ c. member-decides nat_eq numbers-decide c cs) n)))
 
     itself : (b : Bool) → Decides b (IsTrue b)
     itself b = ((λ h. h), λ h. h)
@@ -313,7 +314,7 @@ module _ (table : TypeTable) (regular : IsRegular table) where
           (both-decide _ (are_apart y x) (at-own (is_number (own_type table variables x)) (IsTarget table variables x) (number-own x) y) (itself (are_apart y x)))
       form-decides (New x) =
           through _ (λ h. (h.0, h.2.0, h.1, h.2.1, h.2.2)) (λ h. (h.0, h.2, (h.1, h.3, h.4)))
-          (at-own (λ t. with_some false can_be_new (slice_get table t)) (λ t. (s : Shape) × HasShape table t s × IsTrue (can_be_new s)) (λ t. chosen-decides can_be_new (λ s. IsTrue (can_be_new s)) (λ s. itself (can_be_new s)) (slice_get table t)) x)
+          (at-own (λ t. map_or false can_be_new (slice_get table t)) (λ t. (s : Shape) × HasShape table t s × IsTrue (can_be_new s)) (λ t. chosen-decides can_be_new (λ s. IsTrue (can_be_new s)) (λ s. itself (can_be_new s)) (slice_get table t)) x)
       form-decides (Discard x) = through _ (λ h. (h.0, (own x h.0).0 h.1)) (λ h. (h.0, (own x h.0).1 h.1)) (there-decides (own_type table variables x))
       form-decides (Unite v c y) =
           through _ (λ h. (h.0.0, h.0.2.0, h.0.1, h.0.2.1, h.0.2.2, h.1)) (λ h. ((h.0, h.2, (h.1, h.3, h.4)), h.5))
@@ -326,8 +327,8 @@ module _ (table : TypeTable) (regular : IsRegular table) where
           (at-seen (λ t. at_component_type table variables t c (λ u. true)) (λ t. (u : ℕ) × IsComponent table t c u × Unit {0}) (λ t. component-decides (λ u. true) (λ u. Unit {0}) (λ u. true-decides tt) t c) v)
       form-decides (Case v cs) =
           through _ (λ h. (h.0, h.2.0, h.1, h.2.1, h.2.2.0, h.2.2.1)) (λ h. (h.0, h.2, (h.1, h.3, (h.4, h.5))))
-          (at-seen (λ t. on_cases (λ ts. are_different nat_eq cs && (every (λ c. nat_lt c (length ts)) cs && every (λ c. some_of (nat_eq c) cs) (range 0 (length ts)))) (slice_get table t)) (λ t. (ts : List ℕ) × HasShape table t (cases ts) × (Differ cs × ((c : ℕ) → IsIn c cs ↔ (c < length ts))))
-          (λ t. cases-decide (λ ts. are_different nat_eq cs && (every (λ c. nat_lt c (length ts)) cs && every (λ c. some_of (nat_eq c) cs) (range 0 (length ts)))) (λ ts. Differ cs × ((c : ℕ) → IsIn c cs ↔ (c < length ts))) (λ ts. covers-decide cs (length ts)) (slice_get table t)) v)
+          (at-seen (λ t. on_cases (λ ts. are_different nat_eq cs && (all_pass (λ c. nat_lt c (length ts)) cs && all_pass (λ c. any_pass (nat_eq c) cs) (range 0 (length ts)))) (slice_get table t)) (λ t. (ts : List ℕ) × HasShape table t (cases ts) × (Differ cs × ((c : ℕ) → IsIn c cs ↔ (c < length ts))))
+          (λ t. cases-decide (λ ts. are_different nat_eq cs && (all_pass (λ c. nat_lt c (length ts)) cs && all_pass (λ c. any_pass (nat_eq c) cs) (range 0 (length ts)))) (λ ts. Differ cs × ((c : ℕ) → IsIn c cs ↔ (c < length ts))) (λ ts. covers-decide cs (length ts)) (slice_get table t)) v)
       form-decides (Wrap y p) =
           through _ (λ h. (h.0.0.0, h.0.1.0, h.0.0.1, h.0.1.1, h.0.1.2, h.1)) (λ h. (((h.0, h.2), (h.1, h.3, h.4)), h.5))
           (both-decide _ (are_apart y p) (both-decide (is_some (own_type table variables y)) _ (form-decides_own y) (polymorph_at-decides p)) (itself (are_apart y p)))
@@ -335,7 +336,7 @@ module _ (table : TypeTable) (regular : IsRegular table) where
           form-decides_own : (y : Path) → Decides (is_some (own_type table variables y)) ((t : ℕ) × IsTarget table variables y t)
           form-decides_own y = through _ (λ h. (h.0, (own y h.0).0 h.1)) (λ h. (h.0, (own y h.0).1 h.1)) (there-decides (own_type table variables y))
 
-          polymorph_at-decides : (p : Path) → Decides (with_some false (λ t. is_polymorph (slice_get table t)) (own_type table variables p)) ((t : ℕ) × IsTarget table variables p t × HasShape table t polymorph)
+          polymorph_at-decides : (p : Path) → Decides (map_or false (λ t. is_polymorph (slice_get table t)) (own_type table variables p)) ((t : ℕ) × IsTarget table variables p t × HasShape table t polymorph)
           polymorph_at-decides p = at-own (λ t. is_polymorph (slice_get table t)) (λ t. HasShape table t polymorph) (λ t. polymorph-decides (slice_get table t)) p
       form-decides (Unwrap p t y) =
           through _ (λ h. (h.0.1.0, h.0.1.1, h.0.1.2, h.0.0, h.1)) (λ h. ((h.3, (h.0, h.1, h.2)), h.4))
@@ -357,7 +358,7 @@ module _ (table : TypeTable) (regular : IsRegular table) where
           (both-decide _ (are_all_apart (set_by_call table variables o arguments)) (at_outport-decides (λ message. on_callmessage (λ ps rs. are_arguments table variables ps arguments) (slice_get table message)) (λ message. (ps : List Parameter) × (rs : List Raised) × HasShape table message (callmessage ps rs) × AreArguments table variables ps arguments)
           (λ message. callmessage-decides (λ ps rs. are_arguments table variables ps arguments) (λ ps rs. AreArguments table variables ps arguments) (λ ps rs. arguments-decide ps arguments) (slice_get table message)) o) (apart-decide (set_by_call table variables o arguments)))
       form-decides (Return m) = through _ (λ h. (h.0, h.1)) (λ h. (h.0, h.1, tt)) (returned-decides m (λ rs. true) (λ rs. Unit {0}) (λ rs. true-decides tt))
-      form-decides (ReturnBy m e) = returned-decides m (λ rs. some_of (nat_eq e) (map (λ (r : Raised). r.exception) rs)) (λ rs. IsIn e (map (λ (r : Raised). r.exception) rs)) (λ rs. member-decides nat_eq numbers-decide e (map (λ (r : Raised). r.exception) rs))
+      form-decides (ReturnBy m e) = returned-decides m (λ rs. any_pass (nat_eq e) (map (λ (r : Raised). r.exception) rs)) (λ rs. IsIn e (map (λ (r : Raised). r.exception) rs)) (λ rs. member-decides nat_eq numbers-decide e (map (λ (r : Raised). r.exception) rs))
       form-decides (Create o n) =
           through _ (λ h. (h.0, h.2.0, h.1, h.2.1, h.2.2)) (λ h. (h.0, h.2, (h.1, h.3, h.4)))
           (at-own (λ t. on_outport (is_number (port_type processes n)) (slice_get table t)) (λ t. (port : ℕ) × HasShape table t (outport port) × (port_type processes n ≡ Some port)) (λ t. outport-decides (is_number (port_type processes n)) (λ port. port_type processes n ≡ Some port) (number-is (port_type processes n)) (slice_get table t)) o)

@@ -1,13 +1,14 @@
 -- The tests of bodies, processes and programs decide which are typed.
 use Rattle.std.proofs.Common.{◌&&◌, ◌≡◌, ◌↔◌, ℕ, suc, ◌+◌, ◌<◌, List, [], ◌∷◌, ◌++◌, map, length, Bool, true, false, not, cond, ◌||◌, ◌⊎◌, inl, inr, nat_eq, nat_lt, Some, is_some, option_map, slice_get, IsTrue, refl, sym, ap, subst, ◌∙◌, arith, true≢false, IsFalse, filter, zero, ◌≤◌}
-use Rattle.herm_model.specs.Lists.{IsIn, every, some_of, numbered, range}
+use Rattle.herm_model.specs.Lists.{IsIn, all_pass, any_pass, numbered, range}
 use Rattle.herm_model.specs.Paths.{Fact}
 use Rattle.herm_model.specs.Types.{inport, TypeTable, predefined, all_parts, variable_paths}
 use Rattle.herm_model.specs.Statements.{Form, Case, Statement, simple, choosing, repeating, leaving, trying, Block, no_statements, statement, Blocks, no_blocks, block, Handlers, no_handlers, handler, Process, Branching, goes_on, repeats, leaves, chooses, branching_of, count_blocks, numbers_of_block, HasDifferentArms, IsWellFormed, IsWellFormedBlock, AreWellFormed, AreWellFormedHandlers}
-use Rattle.herm_model.specs.Nodes.{Target, node, end, end_by, Node, process_nodes, entry_of, Exit, exits}
-use Rattle.herm_model.specs.Control.{Edge, edge, Point, point, flow_of, IsReached}
-use Rattle.herm_model.specs.FlowLaws.{EdgesDiffer, IsLedTo, begins, goes_on}
-use Rattle.herm_model.specs.FlowLaws
+use Rattle.herm_model.specs.Nodes.{Node, process_nodes, entry_of, Exit, exits}
+use Rattle.herm_model.specs.Targets.{Target, node, end, end_by}
+use Rattle.herm_model.specs.ControlPaths.{Edge, edge, Point, point, flow_of, IsReached}
+use Rattle.herm_model.specs.laws.FlowLaws.{EdgesDiffer, IsLedTo, begins, goes_on}
+use Rattle.herm_model.specs.laws.FlowLaws
 use Rattle.herm_model.specs.TypedExpressions.{HasShape}
 use Rattle.herm_model.specs.WellFormedTables.{IsType}
 use Rattle.herm_model.specs.TypedStatements.{port_type, IsTypedForm}
@@ -122,11 +123,11 @@ not-false : (b : Bool) → IsFalse (not b) → IsTrue b
 not-false true f = refl
 not-false false f = absurd (true≢false f)
 
-every-false : {X : Type 0} (test : X → Bool) (xs : List X) → IsFalse (every test xs) → (x : X) × IsIn x xs × IsFalse (test x)
+every-false : {X : Type 0} (test : X → Bool) (xs : List X) → IsFalse (all_pass test xs) → (x : X) × IsIn x xs × IsFalse (test x)
 every-false test [] f = absurd (true≢false f)
 every-false {X} test (x ∷ xs) f = by (test x) refl f (every-false test xs)
   where
-    by : (b : Bool) → test x ≡ b → IsFalse (b && every test xs) → (IsFalse (every test xs) → (y : X) × IsIn y xs × IsFalse (test y)) → (y : X) × IsIn y (x ∷ xs) × IsFalse (test y)
+    by : (b : Bool) → test x ≡ b → IsFalse (b && all_pass test xs) → (IsFalse (all_pass test xs) → (y : X) × IsIn y xs × IsFalse (test y)) → (y : X) × IsIn y (x ∷ xs) × IsFalse (test y)
     by false e f again = (x, inl refl, e)
     by true e f again = let r = again f in (r.0, inr r.1, r.2)
 
@@ -184,9 +185,9 @@ module _ (table : TypeTable) (p : Process) where
 
   sweep-led : (ns : List (ℕ × Node)) (marked : List ℕ) → ((n : ℕ × Node) → IsIn n ns → IsAt n) → ((i : ℕ) → IsIn i marked → Led i) → (i : ℕ) → IsIn i (sweep table p ns marked) → Led i
   sweep-led [] marked at led i h = led i h
-  sweep-led (n ∷ ns) marked at led i h = by (some_of (nat_eq n.0) marked) refl (λ next next_led k. sweep-led ns next (λ m k. at m (inr k)) next_led i k) h
+  sweep-led (n ∷ ns) marked at led i h = by (any_pass (nat_eq n.0) marked) refl (λ next next_led k. sweep-led ns next (λ m k. at m (inr k)) next_led i k) h
     where
-      by : (b : Bool) → some_of (nat_eq n.0) marked ≡ b → ((next : List ℕ) → ((j : ℕ) → IsIn j next → Led j) → IsIn i (sweep table p ns next) → Led i) → IsIn i (sweep table p ns (cond b (places_behind table p n.1 ++ marked) marked)) → Led i
+      by : (b : Bool) → any_pass (nat_eq n.0) marked ≡ b → ((next : List ℕ) → ((j : ℕ) → IsIn j next → Led j) → IsIn i (sweep table p ns next) → Led i) → IsIn i (sweep table p ns (cond b (places_behind table p n.1 ++ marked) marked)) → Led i
       by false e again k = again marked led k
       by true e again k = again (places_behind table p n.1 ++ marked) more k
         where
@@ -224,7 +225,7 @@ module _ (table : TypeTable) (p : Process) where
   -- a sweep keeps the marks, and marks what is behind each
   sweep-keeps : (ns : List (ℕ × Node)) (marked : List ℕ) (i : ℕ) → IsIn i marked → IsIn i (sweep table p ns marked)
   sweep-keeps [] marked i h = h
-  sweep-keeps (n ∷ ns) marked i h = by (some_of (nat_eq n.0) marked) (λ m. sweep-keeps ns m i)
+  sweep-keeps (n ∷ ns) marked i h = by (any_pass (nat_eq n.0) marked) (λ m. sweep-keeps ns m i)
     where
       by : (b : Bool) → ((m : List ℕ) → IsIn i m → IsIn i (sweep table p ns m)) → IsIn i (sweep table p ns (cond b (places_behind table p n.1 ++ marked) marked))
       by true again = again (places_behind table p n.1 ++ marked) (in-append_right i (places_behind table p n.1) marked h)
@@ -233,10 +234,10 @@ module _ (table : TypeTable) (p : Process) where
   sweep-marks : (ns : List (ℕ × Node)) (marked : List ℕ) (n : ℕ × Node) (j : ℕ) → IsIn n ns → IsIn n.0 marked → IsIn j (places_behind table p n.1) → IsIn j (sweep table p ns marked)
   sweep-marks [] marked n j i m h = absurd i
   sweep-marks (x ∷ ns) marked n j (inl e) m h =
-      let test : some_of (nat_eq x.0) marked ≡ true = subst (λ (y : ℕ × Node). IsTrue (some_of (nat_eq y.0) marked)) e ((member-decides nat_eq numbers-decide n.0 marked).1 m) in
+      let test : any_pass (nat_eq x.0) marked ≡ true = subst (λ (y : ℕ × Node). IsTrue (any_pass (nat_eq y.0) marked)) e ((member-decides nat_eq numbers-decide n.0 marked).1 m) in
       let here : IsIn j (places_behind table p x.1) = subst (λ (y : ℕ × Node). IsIn j (places_behind table p y.1)) e h in
       subst (λ b. IsIn j (sweep table p ns (cond b (places_behind table p x.1 ++ marked) marked))) (sym test) (sweep-keeps ns (places_behind table p x.1 ++ marked) j (in-append_left j (places_behind table p x.1) marked here))
-  sweep-marks (x ∷ ns) marked n j (inr i) m h = by (some_of (nat_eq x.0) marked) (λ next k. sweep-marks ns next n j i k h)
+  sweep-marks (x ∷ ns) marked n j (inr i) m h = by (any_pass (nat_eq x.0) marked) (λ next k. sweep-marks ns next n j i k h)
     where
       by : (b : Bool) → ((next : List ℕ) → IsIn n.0 next → IsIn j (sweep table p ns next)) → IsIn j (sweep table p ns (cond b (places_behind table p x.1 ++ marked) marked))
       by true again = again (places_behind table p x.1 ++ marked) (in-append_right n.0 (places_behind table p x.1) marked m)
@@ -250,23 +251,23 @@ module _ (table : TypeTable) (p : Process) where
       subst (λ k. j < k) (length-map (point table p.variables) (process_nodes p)) (subst (FlowLaws.IsThere (length (flow_of table p).points)) (sym r.2) there)
 
   abbrev unmarked : List ℕ → ℕ → Bool
-  unmarked marked i = not (some_of (nat_eq i) marked)
+  unmarked marked i = not (any_pass (nat_eq i) marked)
 
   -- a sweep over marks that are not settled leaves fewer places unmarked
   fewer-unmarked : (marked : List ℕ) → ((i : ℕ) → IsIn i (places_of (entry_of p ∷ [])) → IsIn i marked) → IsFalse (are_settled table p marked)
       → length (filter (unmarked (sweep table p places marked)) (range 0 (length (process_nodes p)))) < length (filter (unmarked marked) (range 0 (length (process_nodes p))))
   fewer-unmarked marked entry f =
-      let g = and-false _ _ f (in-every (λ i. some_of (nat_eq i) marked) (places_of (entry_of p ∷ [])) (λ i k. (member-decides nat_eq numbers-decide i marked).1 (entry i k))) in
-      let n = every-false (λ (n : ℕ × Node). not (some_of (nat_eq n.0) marked) || every (λ i. some_of (nat_eq i) marked) (places_behind table p n.1)) places g in
-      let o = or-falses (not (some_of (nat_eq (n.0).0) marked)) _ n.2 in
-      let j = every-false (λ i. some_of (nat_eq i) marked) (places_behind table p (n.0).1) o.1 in
+      let g = and-false _ _ f (in-every (λ i. any_pass (nat_eq i) marked) (places_of (entry_of p ∷ [])) (λ i k. (member-decides nat_eq numbers-decide i marked).1 (entry i k))) in
+      let n = every-false (λ (n : ℕ × Node). not (any_pass (nat_eq n.0) marked) || all_pass (λ i. any_pass (nat_eq i) marked) (places_behind table p n.1)) places g in
+      let o = or-falses (not (any_pass (nat_eq (n.0).0) marked)) _ n.2 in
+      let j = every-false (λ i. any_pass (nat_eq i) marked) (places_behind table p (n.0).1) o.1 in
       let at : IsIn (n.0).0 marked = (member-decides nat_eq numbers-decide (n.0).0 marked).0 (not-false _ o.0) in
       let now = (member-decides nat_eq numbers-decide j.0 (sweep table p places marked)).1 (sweep-marks places marked n.0 j.0 n.1 at j.1) in
       shorter (unmarked (sweep table p places marked)) (unmarked marked) still (range 0 (length (process_nodes p))) j.0 (below-in 0 (length (process_nodes p)) j.0 (omega arith) (omega (arith, behind-there n.0 j.0 n.1 j.1)))
       (ap not now) (ap not j.2)
     where
       still : (i : ℕ) → IsTrue (unmarked (sweep table p places marked) i) → IsTrue (unmarked marked i)
-      still i h = (not-decides (some_of (nat_eq i) marked) (member-decides nat_eq numbers-decide i marked)).1 (λ k. (not-decides _ (member-decides nat_eq numbers-decide i (sweep table p places marked))).0 h (sweep-keeps places marked i k))
+      still i h = (not-decides (any_pass (nat_eq i) marked) (member-decides nat_eq numbers-decide i marked)).1 (λ k. (not-decides _ (member-decides nat_eq numbers-decide i (sweep table p places marked))).0 h (sweep-keeps places marked i k))
 
   settle-settles : (n : ℕ) (marked : List ℕ) → ((i : ℕ) → IsIn i (places_of (entry_of p ∷ [])) → IsIn i marked) → length (filter (unmarked marked) (range 0 (length (process_nodes p)))) < n → IsTrue (are_settled table p (settle table p n marked))
   settle-settles zero marked entry l = let z : ⊥ = omega arith in absurd z
@@ -284,10 +285,10 @@ module _ (table : TypeTable) (p : Process) where
 
   behind-marked : (i j : ℕ) (n : Node) → IsAt (i, n) → IsTrue (is_marked table p i) → IsIn j (places_behind table p n) → IsTrue (is_marked table p j)
   behind-marked i j n at m h =
-      let t = every-in (λ (n : ℕ × Node). not (is_marked table p n.0) || every (is_marked table p) (places_behind table p n.1)) (i, n) (numbered 0 (process_nodes p)) (and-both _ _ settled).1 (at-numbered (process_nodes p) i n at) in
+      let t = every-in (λ (n : ℕ × Node). not (is_marked table p n.0) || all_pass (is_marked table p) (places_behind table p n.1)) (i, n) (numbered 0 (process_nodes p)) (and-both _ _ settled).1 (at-numbered (process_nodes p) i n at) in
       by (is_marked table p i) m (or-either (not (is_marked table p i)) _ t)
     where
-      by : (b : Bool) → IsTrue b → IsTrue (not b) ⊎ IsTrue (every (is_marked table p) (places_behind table p n)) → IsTrue (is_marked table p j)
+      by : (b : Bool) → IsTrue b → IsTrue (not b) ⊎ IsTrue (all_pass (is_marked table p) (places_behind table p n)) → IsTrue (is_marked table p j)
       by true m (inl z) = not_true z
       by false m x = not_true m
       by true m (inr z) = every-in (is_marked table p) j (places_behind table p n) z h
@@ -393,7 +394,7 @@ test-programs exceptions defined processes main = (to, from)
     to : IsTrue (is_typed_program exceptions defined processes main) → IsTypedProgram exceptions (predefined ++ defined) processes main
     to h =
         let a = and-both (is_empty (broken_table_rules exceptions defined)) _ h in
-        let b = and-both (every (λ p. is_empty (broken_process_rules exceptions (predefined ++ defined) processes p)) processes) _ a.1 in
+        let b = and-both (all_pass (λ p. is_empty (broken_process_rules exceptions (predefined ++ defined) processes p)) processes) _ a.1 in
         let w = (none-well_formed exceptions defined).0 ((empty-decides _).0 a.0) in
         record {
           types = w;
@@ -404,6 +405,6 @@ test-programs exceptions defined processes main = (to, from)
     from : IsTypedProgram exceptions (predefined ++ defined) processes main → IsTrue (is_typed_program exceptions defined processes main)
     from w =
         both-and (is_empty (broken_table_rules exceptions defined)) _ ((empty-decides _).1 ((none-well_formed exceptions defined).1 w.types))
-        (both-and (every (λ p. is_empty (broken_process_rules exceptions (predefined ++ defined) processes p)) processes) _
+        (both-and (all_pass (λ p. is_empty (broken_process_rules exceptions (predefined ++ defined) processes p)) processes) _
         (in-every (λ p. is_empty (broken_process_rules exceptions (predefined ++ defined) processes p)) processes (λ p i. (empty-decides _).1 ((none-process exceptions (predefined ++ defined) processes p w.types).1 (w.modules p i))))
         ((number-is (port_type processes main) main_start).1 w.begins))

@@ -1,13 +1,14 @@
 -- The tests of tables decide which are well formed.
 use Rattle.std.proofs.Common.{◌≡◌, ℕ, zero, suc, ◌+◌, ◌<◌, ◌≤◌, List, [], ◌∷◌, ◌++◌, map, filter, flat_map, length, Bool, true, false, not, cond, ◌&&◌, ◌||◌, ◌⊎◌, inl, inr, nat_eq, nat_lt, nat_le, Option, Some, None, is_some, slice_get, option_and_then, IsTrue, refl, sym, ap, subst, ◌∙◌, arith, append-nil, true≢false}
-use Rattle.herm_model.specs.Lists.{IsIn, every, some_of, with_some, list_of}
+use Rattle.herm_model.specs.Lists.{IsIn, all_pass, any_pass, map_or, list_of}
 use Rattle.herm_model.specs.Paths.{Path, Fact, init, case, path_of, same_path, same_fact}
-use Rattle.herm_model.specs.Types.{Mode, by_in, by_inout, by_out, Parameter, Raised, Shape, fields, cases, rows, inport, outport, callmessage, TypeTable, predefined, named_types, is_within_depth, greatest_depth, all_parts, full_parts, steps_within, steps, IsCopyable, plain, composed, is_copyable_within}
+use Rattle.herm_model.specs.Types.{Mode, by_in, by_inout, by_out, Parameter, Raised, Shape, fields, cases, rows, inport, outport, callmessage, TypeTable, predefined, named_types, is_within_depth, greatest_depth, all_parts, full_parts, part_paths_within, part_paths}
+use Rattle.herm_model.specs.Copyable.{IsCopyable, plain, composed, is_copyable_within}
 use Rattle.herm_model.specs.Facts.{full_facts}
 use Rattle.herm_model.specs.Calls.{is_returned}
 use Rattle.herm_model.specs.Outcomes.{disconnected}
 use Rattle.herm_model.specs.Statements.{Differ}
-use Rattle.herm_model.specs.FlowLaws.{Rise}
+use Rattle.herm_model.specs.laws.FlowLaws.{Rise}
 use Rattle.herm_model.specs.TypedExpressions.{is_scalar_shape}
 use Rattle.herm_model.specs.WellFormedTables.{predefined_exceptions, greatest_paths, is_definable, BeginsPredefined, Reaches, at_once, further, field_below, IsType, NamesTypes, IsScalarField, HasKey, LeadsToInport, CopiesInputs, IsFieldPath, IsOfField, IsOfFullField, DeclaresFields, DeclaresOneCase, RaisesKnown, RaisesDifferent, KeepsReturned, KeepsRising, KeepsNoneDisconnected, IsWellFormedTable}
 use Rattle.herm_model.specs.tests.TableTests.{are_different, do_rise, on_fields, on_cases, on_rows, on_inport, on_outport, on_callmessage, if_input, names_types, is_scalar_field, has_keys, leads_to_inport, copies_inputs, field_path_type, is_of_field, is_of_full_at, is_of_full_field, declares_fields, agree, declares_one_case, raises_known, raises_different, keeps_returned, keeps_rising, is_none_kept, keeps_none_disconnected, TableRule, predefined_types, enough_exceptions, types_known, exceptions_known, exceptions_differ, shallow, few_paths, keys, outports, inputs_copyable, facts_of_fields, one_case, kept_returned, kept_rising, kept_disconnected, table_rules, of_each_type, keeps_table_rule, broken_table_rules}
@@ -55,9 +56,9 @@ copyable-decides table deep t = (copyable-is table greatest_depth t, λ c. is-co
 
 -- the facts of a full value begin with that there is one
 full-root : (table : TypeTable) (t : ℕ) (p : Path) (f : Fact) → IsIn f (full_facts table t p) → IsIn (init (p ++ [])) (full_facts table t p)
-full-root table t p f h = by (λ s. flat_map (λ (part : ℕ × ℕ). map (part.0 ∷◌) (steps_within full_parts 31 table part.1)) (full_parts s)) (slice_get table t) h
+full-root table t p f h = by (λ s. flat_map (λ (part : ℕ × ℕ). map (part.0 ∷◌) (part_paths_within full_parts 31 table part.1)) (full_parts s)) (slice_get table t) h
   where
-    by : (below : Shape → List (List ℕ)) (o : Option Shape) → IsIn f (map (λ q. init (p ++ q)) (with_some [] (λ s. [] ∷ below s) o)) → IsIn (init (p ++ [])) (map (λ q. init (p ++ q)) (with_some [] (λ s. [] ∷ below s) o))
+    by : (below : Shape → List (List ℕ)) (o : Option Shape) → IsIn f (map (λ q. init (p ++ q)) (map_or [] (λ s. [] ∷ below s) o)) → IsIn (init (p ++ [])) (map (λ q. init (p ++ q)) (map_or [] (λ s. [] ∷ below s) o))
     by below None h = absurd h
     by below (Some s) h = inl refl
 
@@ -68,13 +69,13 @@ module _ (table : TypeTable) where
   field-decides : (ts : List ℕ) (i : ℕ) → Decides (is_scalar_field table ts i) (IsScalarField table ts i)
   field-decides ts i =
       through _ (λ h. (h.0, h.2.0, h.1, h.2.1, h.2.2)) (λ h. (h.0, h.2, (h.1, h.3, h.4)))
-      (chosen-decides (λ t. with_some false is_scalar_shape (slice_get table t)) (λ t. (s : Shape) × (slice_get table t ≡ Some s) × IsTrue (is_scalar_shape s))
+      (chosen-decides (λ t. map_or false is_scalar_shape (slice_get table t)) (λ t. (s : Shape) × (slice_get table t ≡ Some s) × IsTrue (is_scalar_shape s))
       (λ t. chosen-decides is_scalar_shape (λ s. IsTrue (is_scalar_shape s)) (λ s. ((λ h. h), λ h. h)) (slice_get table t)) (slice_get ts i))
 
   keys-decide : (s : Shape) → Decides (has_keys table s) (HasKey table s)
   keys-decide (rows row key) =
       through _ (λ h. (h.0, h.1, h.2.0, h.2.1)) (λ h. (h.0, h.1, (h.2, h.3)))
-      (fields-decide (λ ts. are_different nat_eq key && every (is_scalar_field table ts) key) (λ ts. Differ key × ((i : ℕ) → IsIn i key → IsScalarField table ts i))
+      (fields-decide (λ ts. are_different nat_eq key && all_pass (is_scalar_field table ts) key) (λ ts. Differ key × ((i : ℕ) → IsIn i key → IsScalarField table ts i))
       (λ ts. both-decide (are_different nat_eq key) _ (different-decides nat_eq numbers-decide key) (all-decide (is_scalar_field table ts) (IsScalarField table ts) (field-decides ts) key)) (slice_get table row))
   keys-decide s = true-decides tt
 
@@ -133,8 +134,8 @@ module _ (table : TypeTable) where
       full_at-decides : (p : Path) → Decides (is_of_full_at table message declared f p) (OfFullAt p)
       full_at-decides p =
           through _ (λ h. (h.0, path-is p h.0 h.1, h.2.0, h.2.1)) (λ h. (h.0, is-path p h.0 h.1, (h.2, h.3)))
-          (chosen-decides (λ t. some_of (same_fact f) (full_facts table t p) && every (λ g. some_of (same_fact g) declared) (full_facts table t p)) (λ t. IsIn f (full_facts table t p) × ((g : Fact) → IsIn g (full_facts table t p) → IsIn g declared))
-          (λ t. both-decide (some_of (same_fact f) (full_facts table t p)) _ (member-decides same_fact facts-decide f (full_facts table t p)) (all-decide (λ g. some_of (same_fact g) declared) (λ g. IsIn g declared) (λ g. member-decides same_fact facts-decide g declared) (full_facts table t p)))
+          (chosen-decides (λ t. any_pass (same_fact f) (full_facts table t p) && all_pass (λ g. any_pass (same_fact g) declared) (full_facts table t p)) (λ t. IsIn f (full_facts table t p) × ((g : Fact) → IsIn g (full_facts table t p) → IsIn g declared))
+          (λ t. both-decide (any_pass (same_fact f) (full_facts table t p)) _ (member-decides same_fact facts-decide f (full_facts table t p)) (all-decide (λ g. any_pass (same_fact g) declared) (λ g. IsIn g declared) (λ g. member-decides same_fact facts-decide g declared) (full_facts table t p)))
           (field_path_type table message p))
 
       of_full-decides : Decides (is_of_full_field table message declared f) (IsOfFullField table message declared f)
@@ -169,7 +170,7 @@ agree-decides (case p c) (init q) = true-decides (λ r b e i j. let k : ⊥ = cc
 one_case-decides : (s : Shape) → Decides (declares_one_case s) (DeclaresOneCase s)
 one_case-decides (inport message declared) =
     through _ (λ h p c d i j. h (case p c) i (case p d) j p c d refl refl) (λ h f i g j p c d e k. h p c d (subst (λ x. IsIn x declared) e i) (subst (λ x. IsIn x declared) k j))
-    (all-decide (λ f. every (agree f) declared) (λ f. (g : Fact) → IsIn g declared → (p : Path) (c d : ℕ) → f ≡ case p c → g ≡ case p d → c ≡ d) (λ f. all-decide (agree f) (λ g. (p : Path) (c d : ℕ) → f ≡ case p c → g ≡ case p d → c ≡ d) (agree-decides f) declared) declared)
+    (all-decide (λ f. all_pass (agree f) declared) (λ f. (g : Fact) → IsIn g declared → (p : Path) (c d : ℕ) → f ≡ case p c → g ≡ case p d → c ≡ d) (λ f. all-decide (agree f) (λ g. (p : Path) (c d : ℕ) → f ≡ case p c → g ≡ case p d → c ≡ d) (agree-decides f) declared) declared)
 one_case-decides s = true-decides tt
 
 known-decides : (exceptions : ℕ) (s : Shape) → Decides (raises_known exceptions s) (RaisesKnown exceptions s)
@@ -182,8 +183,8 @@ raises-decide s = true-decides tt
 
 returned-decides : (s : Shape) → Decides (keeps_returned s) (KeepsReturned s)
 returned-decides (callmessage ps rs) =
-    all-decide (λ (r : Raised). every (λ i. with_some false (λ (p : Parameter). is_returned p.mode) (slice_get ps i)) r.kept) (λ (r : Raised). (i : ℕ) → IsIn i r.kept → (p : Parameter) × (slice_get ps i ≡ Some p) × IsTrue (is_returned p.mode))
-    (λ (r : Raised). all-decide (λ i. with_some false (λ (p : Parameter). is_returned p.mode) (slice_get ps i)) (λ i. (p : Parameter) × (slice_get ps i ≡ Some p) × IsTrue (is_returned p.mode)) (λ i. chosen-decides (λ (p : Parameter). is_returned p.mode) (λ (p : Parameter). IsTrue (is_returned p.mode)) (λ p. ((λ h. h), λ h. h)) (slice_get ps i)) r.kept) rs
+    all-decide (λ (r : Raised). all_pass (λ i. map_or false (λ (p : Parameter). is_returned p.mode) (slice_get ps i)) r.kept) (λ (r : Raised). (i : ℕ) → IsIn i r.kept → (p : Parameter) × (slice_get ps i ≡ Some p) × IsTrue (is_returned p.mode))
+    (λ (r : Raised). all-decide (λ i. map_or false (λ (p : Parameter). is_returned p.mode) (slice_get ps i)) (λ i. (p : Parameter) × (slice_get ps i ≡ Some p) × IsTrue (is_returned p.mode)) (λ i. chosen-decides (λ (p : Parameter). is_returned p.mode) (λ (p : Parameter). IsTrue (is_returned p.mode)) (λ p. ((λ h. h), λ h. h)) (slice_get ps i)) r.kept) rs
 returned-decides s = true-decides tt
 
 rising-decides : (s : Shape) → Decides (keeps_rising s) (KeepsRising s)
@@ -221,7 +222,7 @@ module _ (table : TypeTable) where
   within-named : (n t u : ℕ) → IsTrue (is_within_depth (suc n) table t) → IsIn u (list_of named_types (slice_get table t)) → IsTrue (is_within_depth n table u)
   within-named n t u w i = by (slice_get table t) w i
     where
-      by : (o : Option Shape) → IsTrue (with_some false (λ s. every (is_within_depth n table) (named_types s)) o) → IsIn u (list_of named_types o) → IsTrue (is_within_depth n table u)
+      by : (o : Option Shape) → IsTrue (map_or false (λ s. all_pass (is_within_depth n table) (named_types s)) o) → IsIn u (list_of named_types o) → IsTrue (is_within_depth n table u)
       by None w i = absurd i
       by (Some s) w i = every-in (is_within_depth n table) u (named_types s) w i
 
@@ -252,8 +253,8 @@ module _ (table : TypeTable) where
   pub shallow-acyclic : AreShallow table → (t : ℕ) → Reaches table t t → ⊥
   shallow-acyclic deep t r = within-acyclic greatest_depth t (deep t (reaches-type t t r)) r
 
-predefined-decides : (defined : TypeTable) → Decides (every is_definable defined) (BeginsPredefined (predefined ++ defined))
-predefined-decides defined = ((λ h. (defined, refl, h)), λ h. subst (λ d. IsTrue (every is_definable d)) (sym (behind h.0 h.1)) h.2)
+predefined-decides : (defined : TypeTable) → Decides (all_pass is_definable defined) (BeginsPredefined (predefined ++ defined))
+predefined-decides defined = ((λ h. (defined, refl, h)), λ h. subst (λ d. IsTrue (all_pass is_definable d)) (sym (behind h.0 h.1)) h.2)
   where
     behind : (d : TypeTable) → predefined ++ defined ≡ predefined ++ d → defined ≡ d
     behind d e = cons-tail (cons-tail (cons-tail (cons-tail (cons-tail (cons-tail (cons-tail (cons-tail e)))))))
@@ -268,7 +269,7 @@ table-decides exceptions defined deep types_known = got-decides (names_types (pr
 table-decides exceptions defined deep exceptions_known = got-decides (raises_known exceptions) (RaisesKnown exceptions) (known-decides exceptions) (predefined ++ defined)
 table-decides exceptions defined deep exceptions_differ = got-decides raises_different RaisesDifferent raises-decide (predefined ++ defined)
 table-decides exceptions defined deep shallow = through _ (λ h. (shallow-acyclic (predefined ++ defined) h, h)) (λ h. h.1) (shallow-decides exceptions defined)
-table-decides exceptions defined deep few_paths = types-decide (predefined ++ defined) (λ t. nat_le (length (steps all_parts (predefined ++ defined) t)) greatest_paths) (λ t. length (steps all_parts (predefined ++ defined) t) ≤ greatest_paths) (λ t. at_most-decides (length (steps all_parts (predefined ++ defined) t)) greatest_paths)
+table-decides exceptions defined deep few_paths = types-decide (predefined ++ defined) (λ t. nat_le (length (part_paths all_parts (predefined ++ defined) t)) greatest_paths) (λ t. length (part_paths all_parts (predefined ++ defined) t) ≤ greatest_paths) (λ t. at_most-decides (length (part_paths all_parts (predefined ++ defined) t)) greatest_paths)
 table-decides exceptions defined deep keys = got-decides (has_keys (predefined ++ defined)) (HasKey (predefined ++ defined)) (keys-decide (predefined ++ defined)) (predefined ++ defined)
 table-decides exceptions defined deep outports = got-decides (leads_to_inport (predefined ++ defined)) (LeadsToInport (predefined ++ defined)) (outports-decide (predefined ++ defined)) (predefined ++ defined)
 table-decides exceptions defined deep inputs_copyable = got-decides (copies_inputs (predefined ++ defined)) (CopiesInputs (predefined ++ defined)) (inputs-decide (predefined ++ defined) deep) (predefined ++ defined)

@@ -2,7 +2,7 @@
 use Rattle.std.proofs.Common.{◌⊎◌, inl, inr, ℕ, List, [], ◌∷◌, flat_map, IsTrue, refl, sym, subst}
 use Rattle.herm_model.specs.Lists.{IsIn}
 use Rattle.herm_model.specs.Paths.{Fact, init}
-use Rattle.herm_model.specs.Types.{TypeTable, is_within_depth, greatest_depth, full_parts, steps}
+use Rattle.herm_model.specs.Types.{TypeTable, is_within_depth, greatest_depth, full_parts, part_paths}
 use Rattle.herm_model.specs.Facts.{facts_to, prefixes, with_prefixes, IsClosed, full_facts, message_facts}
 use Rattle.herm_model.proofs.Lists.{in-map, in-flat_map, in-flat_map_from}
 use Rattle.herm_model.proofs.Steps.{full-named, steps-listed, within-known}
@@ -11,7 +11,7 @@ use Rattle.herm_model.proofs.ClosedFacts.{once-IsIn, IsIn-once}
 
 module _ (table : TypeTable) (message : ℕ) where
   root-full : IsTrue (is_within_depth greatest_depth table message) → IsIn (init (0 ∷ [])) (full_facts table message (0 ∷ []))
-  root-full w = in-map (λ q. init (0 ∷ q)) [] (steps full_parts table message) (steps-listed full_parts table full-named greatest_depth message w [] (within-known table greatest_depth message w))
+  root-full w = in-map (λ q. init (0 ∷ q)) [] (part_paths full_parts table message) (steps-listed full_parts table full-named greatest_depth message w [] (within-known table greatest_depth message w))
 
   pub message-closed : (fs : List Fact) → IsTrue (is_within_depth greatest_depth table message) → IsClosed table (message ∷ []) (λ f. IsIn f (message_facts table message fs))
   message-closed [] w f g h k = by (full-closed table (message ∷ []) (0 ∷ []) message refl refl w f g (inr h) k)

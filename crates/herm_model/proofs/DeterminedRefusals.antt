@@ -4,9 +4,9 @@ use Rattle.herm_model.specs.Lists.{IsIn}
 use Rattle.herm_model.specs.Paths.{Fact}
 use Rattle.herm_model.specs.Types.{TypeTable}
 use Rattle.herm_model.specs.Statements.{Process}
-use Rattle.herm_model.specs.Control.{Flow, flow_of, Hop, Holds, LacksBy}
+use Rattle.herm_model.specs.ControlPaths.{Flow, flow_of, Hop, Holds, LacksBy}
 use Rattle.herm_model.specs.Refusals.{Demand, demands, Refusal, AreRefusals, none, missing, holds, IsAccepted}
-use Rattle.herm_model.specs.FlowLaws.{said}
+use Rattle.herm_model.specs.laws.FlowLaws.{said}
 
 -- a fact is not both held on every path and lacking on one
 not-both : {A : Type 0} (flow : Flow) (f : Fact) (i : ℕ) (hops : List Hop) → Holds flow f i → LacksBy flow f i hops → A

@@ -1,8 +1,8 @@
 -- No path of a type is listed twice.
 use Rattle.std.proofs.Common.{◌⊎◌, inl, inr, ℕ, zero, suc, ◌≤◌, List, [], ◌∷◌, map, flat_map, Option, Some, None, slice_get, sym, subst, arith}
-use Rattle.herm_model.specs.Lists.{IsIn, numbered, with_some}
+use Rattle.herm_model.specs.Lists.{IsIn, numbered, map_or}
 use Rattle.herm_model.specs.Statements.{Differ}
-use Rattle.herm_model.specs.Types.{Mode, by_in, by_inout, by_out, Parameter, Shape, fields, cases, callmessage, TypeTable, filled, if_filled, full_parts, held_parts, all_parts, steps_within}
+use Rattle.herm_model.specs.Types.{Mode, by_in, by_inout, by_out, Parameter, Shape, fields, cases, callmessage, TypeTable, filled, if_filled, full_parts, held_parts, all_parts, part_paths_within}
 use Rattle.herm_model.proofs.Lists.{in-append_cases, in-map_from, in-flat_map_from, cons-not_nil, cons-head, cons-tail, joined-Differ, mapped-Differ}
 
 -- the places of parts rise from a first one on
@@ -74,10 +74,10 @@ module _ (next : ℕ → List (List ℕ)) (each : (u : ℕ) → Differ (next u))
       let r = in-flat_map_from (λ (part : ℕ × ℕ). map (part.0 ∷◌) (next part.1)) [] parts h in
       let m = in-map_from (r.0.0 ∷◌) [] (next r.0.1) r.2 in cons-not_nil r.0.0 m.0 (sym m.2)
 
-pub steps-differ : (parts : Shape → List (ℕ × ℕ)) → HaveRisingPlaces parts → (n : ℕ) (table : TypeTable) (t : ℕ) → Differ (steps_within parts n table t)
+pub steps-differ : (parts : Shape → List (ℕ × ℕ)) → HaveRisingPlaces parts → (n : ℕ) (table : TypeTable) (t : ℕ) → Differ (part_paths_within parts n table t)
 steps-differ parts rise zero table t = tt
 steps-differ parts rise (suc n) table t = by (slice_get table t) (steps-differ parts rise n table)
   where
-    by : (o : Option Shape) → ((u : ℕ) → Differ (steps_within parts n table u)) → Differ (with_some [] (λ s. [] ∷ flat_map (λ part. map (part.0 ∷◌) (steps_within parts n table part.1)) (parts s)) o)
+    by : (o : Option Shape) → ((u : ℕ) → Differ (part_paths_within parts n table u)) → Differ (map_or [] (λ s. [] ∷ flat_map (λ part. map (part.0 ∷◌) (part_paths_within parts n table part.1)) (parts s)) o)
     by None each = tt
-    by (Some s) each = (root-alone (steps_within parts n table) each (parts s), differ-below (steps_within parts n table) each 0 (parts s) (rise s))
+    by (Some s) each = (root-alone (part_paths_within parts n table) each (parts s), differ-below (part_paths_within parts n table) each 0 (parts s) (rise s))

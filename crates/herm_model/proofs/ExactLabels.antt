@@ -2,10 +2,10 @@
 use Rattle.std.proofs.Common.{◌≡◌, ◌↔◌, ℕ, suc, ◌+◌, ◌<◌, List, [], ◌∷◌, map, filter, length, Bool, true, false, cond, not, refl, sym, ap, ◌∙◌, subst, inl, inr, arith}
 use Rattle.herm_model.specs.Lists.{IsIn, numbered}
 use Rattle.herm_model.specs.Paths.{Fact}
-use Rattle.herm_model.specs.Nodes.{node}
-use Rattle.herm_model.specs.Control.{Point, Flow, IsReached, Holds}
+use Rattle.herm_model.specs.Targets.{node}
+use Rattle.herm_model.specs.ControlPaths.{Point, Flow, IsReached, Holds}
 use Rattle.herm_model.specs.Refusals.{Demand, demands_at, demands, Refusal, AreRefusals, none, missing, holds, Labels, AreExact}
-use Rattle.herm_model.specs.FlowLaws.{said, not_in_labels}
+use Rattle.herm_model.specs.laws.FlowLaws.{said, not_in_labels}
 use Rattle.herm_model.proofs.Lists.{in-flat_map_from, in-map_from}
 
 -- the place of a numbered element is below the end

@@ -1,8 +1,8 @@
 -- The excess has exactly the topmost paths that are left over.
 use Rattle.std.proofs.Common.{◌≡◌, ℕ, zero, suc, List, [], ◌∷◌, ◌++◌, flat_map, Bool, true, false, cond, Option, Some, None, is_some, inl, inr, slice_get, IsTrue, IsFalse, refl, sym, ap, subst, ◌∙◌, append_assoc, append-nil}
-use Rattle.herm_model.specs.Lists.{IsIn, every, with_some, list_of}
+use Rattle.herm_model.specs.Lists.{IsIn, all_pass, map_or, list_of}
 use Rattle.herm_model.specs.Paths.{Path}
-use Rattle.herm_model.specs.Types.{Shape, TypeTable, named_types, is_within_depth, held_parts, Leads}
+use Rattle.herm_model.specs.Types.{Shape, TypeTable, named_types, is_within_depth, held_parts, IsPartPath}
 use Rattle.herm_model.specs.Finalising.{excess_from}
 use Rattle.herm_model.proofs.Lists.{in-flat_map, in-flat_map_from, every-in, not_true, cons-head, cons-tail, cons-not_nil}
 use Rattle.herm_model.proofs.Steps.{held-named, within-known}
@@ -12,12 +12,12 @@ module _ (left : Path → Bool) (table : TypeTable) where
   pub record Top (p : Path) (t : ℕ) (x : Path) : Type 0 where
     pub steps : List ℕ
     pub whole : x ≡ p ++ steps
-    pub leads : Leads held_parts table t steps
+    pub leads : IsPartPath held_parts table t steps
     pub is_left : IsTrue (left x)
     pub first : (r : List ℕ) (i : ℕ) (more : List ℕ) → steps ≡ r ++ i ∷ more → IsFalse (left (p ++ r))
 
   abbrev parts_excess : ℕ → Path → Option Shape → List Path
-  parts_excess n p o = with_some [] (λ s. flat_map (λ part. excess_from left n table (p ++ part.0 ∷ []) part.1) (held_parts s)) o
+  parts_excess n p o = map_or [] (λ s. flat_map (λ part. excess_from left n table (p ++ part.0 ∷ []) part.1) (held_parts s)) o
 
   -- what the parts give
   down : (p : Path) (t i u : ℕ) (x : Path) → IsIn (i, u) (list_of held_parts (slice_get table t)) → IsFalse (left p) → Top (p ++ i ∷ []) u x → Top p t x
@@ -39,7 +39,7 @@ module _ (left : Path → Bool) (table : TypeTable) where
   parts-top n p None x again h = absurd h
   parts-top n p (Some s) x again h = let r = in-flat_map_from (λ (part : ℕ × ℕ). excess_from left n table (p ++ part.0 ∷ []) part.1) x (held_parts s) h in (r.0, r.1, again r.0.0 r.0.1 r.1 r.2)
 
-  within-part : (n : ℕ) (o : Option Shape) (i u : ℕ) → IsTrue (with_some false (λ s. every (is_within_depth n table) (named_types s)) o) → IsIn (i, u) (list_of held_parts o) → IsTrue (is_within_depth n table u)
+  within-part : (n : ℕ) (o : Option Shape) (i u : ℕ) → IsTrue (map_or false (λ s. all_pass (is_within_depth n table) (named_types s)) o) → IsIn (i, u) (list_of held_parts o) → IsTrue (is_within_depth n table u)
   within-part n None i u w h = absurd h
   within-part n (Some s) i u w h = every-in (is_within_depth n table) u (named_types s) w (held-named s i u h)
 
@@ -56,7 +56,7 @@ module _ (left : Path → Bool) (table : TypeTable) where
   part-excess n p (Some s) i u x h k = in-flat_map (λ (part : ℕ × ℕ). excess_from left n table (p ++ part.0 ∷ []) part.1) (i, u) x (held_parts s) h k
 
   -- a path that leads, with nothing left before it, is in the excess
-  pub top-excess : (n : ℕ) (p : Path) (t : ℕ) (q x : List ℕ) → IsTrue (is_within_depth n table t) → x ≡ p ++ q → Leads held_parts table t q → IsTrue (left x) → ((r : List ℕ) (i : ℕ) (more : List ℕ) → q ≡ r ++ i ∷ more → IsFalse (left (p ++ r))) → IsIn x (excess_from left n table p t)
+  pub top-excess : (n : ℕ) (p : Path) (t : ℕ) (q x : List ℕ) → IsTrue (is_within_depth n table t) → x ≡ p ++ q → IsPartPath held_parts table t q → IsTrue (left x) → ((r : List ℕ) (i : ℕ) (more : List ℕ) → q ≡ r ++ i ∷ more → IsFalse (left (p ++ r))) → IsIn x (excess_from left n table p t)
   top-excess zero p t q x w e l h first = not_true w
   top-excess (suc n) p t [] x w e l h first = subst (λ b. IsIn x (cond b (p ∷ []) (parts_excess n p (slice_get table t)))) (sym (subst (λ y. IsTrue (left y)) (e ∙ append-nil p) h)) (inl (e ∙ append-nil p))
   top-excess (suc n) p t (i ∷ q) x w e l h first =

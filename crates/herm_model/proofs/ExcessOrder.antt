@@ -2,9 +2,9 @@
 use Rattle.std.proofs.Common.{◌≡◌, ◌↔◌, ℕ, zero, suc, ◌<◌, ◌≤◌, List, [], ◌∷◌, ◌++◌, map, flat_map, Bool, true, false, cond, ◌&&◌, ◌||◌, ◌⊎◌, inl, inr, nat_eq, nat_lt, Option, Some, None, is_some, option_map, slice_get, IsTrue, IsFalse, refl, sym, ap, ap₂, subst, ◌∙◌, arith, append_assoc, append-nil, true≢false}
 use Rattle.std.proofs.lemmas.Bool.{eq-eqb, eqb-true, lt-ltb, ltb-true}
 use Rattle.std.proofs.Math.Path.{fun_ext}
-use Rattle.herm_model.specs.Lists.{IsIn, every, with_some, list_of, numbered}
+use Rattle.herm_model.specs.Lists.{IsIn, all_pass, map_or, list_of, numbered}
 use Rattle.herm_model.specs.Paths.{Path, Fact, init}
-use Rattle.herm_model.specs.Types.{Parameter, Shape, fields, cases, callmessage, TypeTable, named_types, part_type, is_cases, type_below, enters_component, is_within_depth, greatest_depth, held_parts, Leads}
+use Rattle.herm_model.specs.Types.{Parameter, Shape, fields, cases, callmessage, TypeTable, named_types, part_type, is_cases, type_below, enters_component, is_within_depth, greatest_depth, held_parts, IsPartPath}
 use Rattle.herm_model.specs.Facts.{IsFactOf}
 use Rattle.herm_model.specs.Values.{has_value}
 use Rattle.herm_model.specs.Finalising.{excess_from, excess_at, excess}
@@ -110,7 +110,7 @@ module _ (left : Path → Bool) (table : TypeTable) where
           subst (λ w. IsTrue (comes_before w v)) (sym a.1) (subst (λ w. IsTrue (comes_before (p ++ x.0 ∷ a.0) w)) (sym b.1) (before-parts p x.0 (r.0).0 a.0 b.0 (rise.0 r.0 r.1)))
 
   abbrev in_parts : ℕ → Path → Option Shape → List Path
-  in_parts n p o = with_some [] (λ s. flat_map (λ (part : ℕ × ℕ). excess_from left n table (p ++ part.0 ∷ []) part.1) (held_parts s)) o
+  in_parts n p o = map_or [] (λ s. flat_map (λ (part : ℕ × ℕ). excess_from left n table (p ++ part.0 ∷ []) part.1) (held_parts s)) o
 
   -- each path goes on from the one that the excess is asked for
   excess-begins : (n : ℕ) (p : Path) (t : ℕ) (x : Path) → IsIn x (excess_from left n table p t) → (more : List ℕ) × (x ≡ p ++ more)
@@ -149,21 +149,21 @@ module _ (left : Path → Bool) (table : TypeTable) where
 -- a path that has a type and passes through no component leads through parts that hold values
 module _ (table : TypeTable) where
   abbrev part_at_shape : Option Shape → ℕ → Option ℕ
-  part_at_shape o i = with_some None (λ s. part_type s i) o
+  part_at_shape o i = map_or None (λ s. part_type s i) o
 
-  pub typed-leads : (n : ℕ) (q : List ℕ) (t : ℕ) → IsTrue (is_within_depth n table t) → IsTrue (is_some (type_below table (Some t) q)) → IsFalse (enters_component table (Some t) q) → Leads held_parts table t q
+  pub typed-leads : (n : ℕ) (q : List ℕ) (t : ℕ) → IsTrue (is_within_depth n table t) → IsTrue (is_some (type_below table (Some t) q)) → IsFalse (enters_component table (Some t) q) → IsPartPath held_parts table t q
   typed-leads zero q t w h f = not_true w
   typed-leads (suc n) [] t w h f = within-known table (suc n) t w
   typed-leads (suc n) (i ∷ q) t w h f = by (slice_get table t) w h f (typed-leads n q)
     where
       Again : Type 0
-      Again = (u : ℕ) → IsTrue (is_within_depth n table u) → IsTrue (is_some (type_below table (Some u) q)) → IsFalse (enters_component table (Some u) q) → Leads held_parts table u q
+      Again = (u : ℕ) → IsTrue (is_within_depth n table u) → IsTrue (is_some (type_below table (Some u) q)) → IsFalse (enters_component table (Some u) q) → IsPartPath held_parts table u q
 
-      part : (ts : List ℕ) (o : Option ℕ) → slice_get ts i ≡ o → IsTrue (every (is_within_depth n table) ts) → IsTrue (is_some (type_below table o q)) → IsFalse (enters_component table o q) → Again → (u : ℕ) × IsIn (i, u) (numbered 0 ts) × Leads held_parts table u q
+      part : (ts : List ℕ) (o : Option ℕ) → slice_get ts i ≡ o → IsTrue (all_pass (is_within_depth n table) ts) → IsTrue (is_some (type_below table o q)) → IsFalse (enters_component table o q) → Again → (u : ℕ) × IsIn (i, u) (numbered 0 ts) × IsPartPath held_parts table u q
       part ts None e w h f again = not_true (typed-before table None q h)
       part ts (Some u) e w h f again = (u, at-numbered ts i u e, again u (every-in (is_within_depth n table) u ts w (got-IsIn ts i u e)) h f)
 
-      by : (o : Option Shape) → IsTrue (with_some false (λ s. every (is_within_depth n table) (named_types s)) o) → IsTrue (is_some (type_below table (part_at_shape o i) q)) → IsFalse (with_some false (λ s. is_cases s) o || enters_component table (part_at_shape o i) q) → Again → (u : ℕ) × IsIn (i, u) (list_of held_parts o) × Leads held_parts table u q
+      by : (o : Option Shape) → IsTrue (map_or false (λ s. all_pass (is_within_depth n table) (named_types s)) o) → IsTrue (is_some (type_below table (part_at_shape o i) q)) → IsFalse (map_or false (λ s. is_cases s) o || enters_component table (part_at_shape o i) q) → Again → (u : ℕ) × IsIn (i, u) (list_of held_parts o) × IsPartPath held_parts table u q
       by None w h f again = not_true w
       by (Some (fields ts)) w h f again = part ts (slice_get ts i) refl w h f again
       by (Some (cases ts)) w h f again = absurd (true≢false f)

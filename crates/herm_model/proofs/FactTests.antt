@@ -1,21 +1,21 @@
 -- The test that a list has a fact, and numbered lists.
 use Rattle.std.proofs.Common.{◌≡◌, ℕ, zero, suc, ◌+◌, List, [], ◌∷◌, true, inl, inr, sym, ap₂, subst, ⊎_elim, arith, Some, slice_get}
 use Rattle.std.proofs.lemmas.Bool.{or_cases}
-use Rattle.herm_model.specs.Lists.{some_of, IsIn, numbered}
+use Rattle.herm_model.specs.Lists.{any_pass, IsIn, numbered}
 use Rattle.herm_model.proofs.Lists.{or-left, or-right}
 use Rattle.herm_model.proofs.Equality.{same_fact-is, same_fact_self}
 use Rattle.herm_model.specs.Paths.{Fact, same_fact}
 
 -- a fact that a list has by its test is in the list
-pub listed-IsIn : (f : Fact) (fs : List Fact) → some_of (same_fact f) fs ≡ true → IsIn f fs
+pub listed-IsIn : (f : Fact) (fs : List Fact) → any_pass (same_fact f) fs ≡ true → IsIn f fs
 listed-IsIn f [] h = cc
 listed-IsIn f (g ∷ gs) h =
-    ⊎_elim (λ e. inl (same_fact-is f g e)) (λ e. inr (listed-IsIn f gs e)) (or_cases (same_fact f g) (some_of (same_fact f) gs) h)
+    ⊎_elim (λ e. inl (same_fact-is f g e)) (λ e. inr (listed-IsIn f gs e)) (or_cases (same_fact f g) (any_pass (same_fact f) gs) h)
 
-pub IsIn-listed : (f : Fact) (fs : List Fact) → IsIn f fs → some_of (same_fact f) fs ≡ true
+pub IsIn-listed : (f : Fact) (fs : List Fact) → IsIn f fs → any_pass (same_fact f) fs ≡ true
 IsIn-listed f [] h = absurd h
-IsIn-listed f (g ∷ gs) (inl e) = or-left (same_fact f g) (some_of (same_fact f) gs) (subst (λ z. same_fact f z ≡ true) e (same_fact_self f))
-IsIn-listed f (g ∷ gs) (inr h) = or-right (same_fact f g) (some_of (same_fact f) gs) (IsIn-listed f gs h)
+IsIn-listed f (g ∷ gs) (inl e) = or-left (same_fact f g) (any_pass (same_fact f) gs) (subst (λ z. same_fact f z ≡ true) e (same_fact_self f))
+IsIn-listed f (g ∷ gs) (inr h) = or-right (same_fact f g) (any_pass (same_fact f) gs) (IsIn-listed f gs h)
 
 -- the element at a place, among the numbered ones
 pub numbered-IsIn : {X : Type 0} (xs : List X) (k i : ℕ) (x : X) → slice_get xs i ≡ Some x → IsIn (k + i, x) (numbered k xs)

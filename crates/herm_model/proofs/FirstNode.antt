@@ -3,9 +3,10 @@ use Rattle.std.proofs.Common.{◌≡◌, ℕ, zero, suc, ◌+◌, ◌<◌, ◌�
 use Rattle.herm_model.specs.Lists.{IsIn}
 use Rattle.herm_model.specs.Types.{TypeTable}
 use Rattle.herm_model.specs.Statements.{Statement, simple, choosing, repeating, leaving, trying, Block, no_statements, statement, Handlers, numbers_of, numbers_of_block, nodes_of, nodes_of_block, Process}
-use Rattle.herm_model.specs.Nodes.{Target, node, end, end_by, Surroundings, Node, start, start_of_block, catches_of, nodes, nodes_in, nodes_of_catches, process_nodes, entry_of}
-use Rattle.herm_model.specs.Control.{Point, point, Flow, flow_of, IsReached}
-use Rattle.herm_model.specs.FlowLaws.{IsLedTo, begins, goes_on, first_of}
+use Rattle.herm_model.specs.Nodes.{Surroundings, Node, start, start_of_block, catches_of, nodes, nodes_in, nodes_of_catches, process_nodes, entry_of}
+use Rattle.herm_model.specs.Targets.{Target, node, end, end_by}
+use Rattle.herm_model.specs.ControlPaths.{Point, point, Flow, flow_of, IsReached}
+use Rattle.herm_model.specs.laws.FlowLaws.{IsLedTo, begins, goes_on, first_of}
 use Rattle.herm_model.proofs.FactTests.{got-IsIn}
 use Rattle.herm_model.proofs.Reached.{reached-IsLedTo}
 use Rattle.herm_model.proofs.NodePlaces.{IsWithin, IsSurrounded, LeadsThere, block-there, in-there, handlers-there, more-catches, outermost, edge-within, flow_length, count, count_in}

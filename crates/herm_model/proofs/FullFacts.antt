@@ -1,7 +1,7 @@
 -- A value of a type is full exactly where it has a value at each path that full asks for and at no other.
 use Rattle.std.proofs.Common.{◌≡◌, inl, inr, ℕ, zero, suc, ◌+◌, List, [], ◌∷◌, map, Bool, true, false, Option, Some, None, option_map, is_some, is_none, slice_get, IsTrue, refl, sym, ap, subst, ◌∙◌, arith, cond, zero-add, true≢false}
-use Rattle.herm_model.specs.Lists.{IsIn, numbered, every, with_some, list_of}
-use Rattle.herm_model.specs.Types.{Mode, by_in, by_inout, by_out, Parameter, Raised, Shape, fields, callmessage, TypeTable, filled, if_filled, full_parts, Leads, is_within_depth, named_types}
+use Rattle.herm_model.specs.Lists.{IsIn, numbered, all_pass, map_or, list_of}
+use Rattle.herm_model.specs.Types.{Mode, by_in, by_inout, by_out, Parameter, Raised, Shape, fields, callmessage, TypeTable, filled, if_filled, full_parts, IsPartPath, is_within_depth, named_types}
 use Rattle.herm_model.specs.Values.{Kind, a_record, a_callmessage, Cell, cell, Parts, no_parts, gap, part, part_at, opens, inside, has_value}
 use Rattle.herm_model.specs.Typed.{Degree, whole, partly, Content, a_value, nothing, Layout, exactly, parameter_content, MayBeEmpty, IsOf, Fits}
 use Rattle.herm_model.proofs.Lists.{not_true, and-both, every-in, slice_get-map}
@@ -147,23 +147,23 @@ module _ {N : Type 0} (table : TypeTable) where
   type-there None k ps h = absurd h
   type-there (Some s) k ps h = refl
 
-  value-leads : (q : List ℕ) (i t : ℕ) (ps : Parts N) (c : Cell N) → part_at i ps ≡ Some c → IsOf whole table t c → IsTrue (has_value ps (i ∷ q)) → Leads full_parts table t q
+  value-leads : (q : List ℕ) (i t : ℕ) (ps : Parts N) (c : Cell N) → part_at i ps ≡ Some c → IsOf whole table t c → IsTrue (has_value ps (i ∷ q)) → IsPartPath full_parts table t q
   value-leads [] i t ps (cell n k qs) e h v = type-there (slice_get table t) k qs h.0
   value-leads (j ∷ q) i t ps (cell n k qs) e h v =
       let w : IsTrue (has_value (cond (opens k) qs no_parts) (j ∷ q)) = subst (λ o. IsTrue (has_value (inside o) (j ∷ q))) e v in
       let s = step-down (slice_get table t) k qs j q h.0 w in (s.1, s.3, value-leads q j s.1 (cond (opens k) qs no_parts) s.0 s.2 s.4 w)
 
-  leads-value : (q : List ℕ) (i t : ℕ) (ps : Parts N) (c : Cell N) → part_at i ps ≡ Some c → IsOf whole table t c → Leads full_parts table t q → IsTrue (has_value ps (i ∷ q))
+  leads-value : (q : List ℕ) (i t : ℕ) (ps : Parts N) (c : Cell N) → part_at i ps ≡ Some c → IsOf whole table t c → IsPartPath full_parts table t q → IsTrue (has_value ps (i ∷ q))
   leads-value [] i t ps c e h l = ap is_some e
   leads-value (j ∷ q) i t ps (cell n k qs) e h l =
       let s = step-to (slice_get table t) k qs j l.0 h.0 l.1 in
       subst (λ o. IsTrue (has_value (inside o) (j ∷ q))) (sym e) (leads-value q j l.0 (cond (opens k) qs no_parts) s.0 s.1 s.2 l.2)
 
   -- the same of a value alone
-  pub full-leads : (q : List ℕ) (t : ℕ) (c : Cell N) → IsOf whole table t c → IsTrue (has_value (part c no_parts) (0 ∷ q)) → Leads full_parts table t q
+  pub full-leads : (q : List ℕ) (t : ℕ) (c : Cell N) → IsOf whole table t c → IsTrue (has_value (part c no_parts) (0 ∷ q)) → IsPartPath full_parts table t q
   full-leads q t c h v = value-leads q 0 t (part c no_parts) c refl h v
 
-  pub leads-full : (q : List ℕ) (t : ℕ) (c : Cell N) → IsOf whole table t c → Leads full_parts table t q → IsTrue (has_value (part c no_parts) (0 ∷ q))
+  pub leads-full : (q : List ℕ) (t : ℕ) (c : Cell N) → IsOf whole table t c → IsPartPath full_parts table t q → IsTrue (has_value (part c no_parts) (0 ∷ q))
   leads-full q t c h l = leads-value q 0 t (part c no_parts) c refl h l
 
 -- the other way: a value of the type with values exactly there is full
@@ -177,11 +177,11 @@ module _ (table : TypeTable) where
     ExactIn o ps = (i : ℕ) (q : List ℕ) → (IsTrue (has_value ps (i ∷ q)) → LeadsOf full_parts table o (i ∷ q)) × (LeadsOf full_parts table o (i ∷ q) → IsTrue (has_value ps (i ∷ q)))
 
     abbrev ExactAt : ℕ → Cell N → Type 0
-    ExactAt t c = (i : ℕ) (q : List ℕ) → (IsTrue (has_value (inside (Some c)) (i ∷ q)) → Leads full_parts table t (i ∷ q)) × (Leads full_parts table t (i ∷ q) → IsTrue (has_value (inside (Some c)) (i ∷ q)))
+    ExactAt t c = (i : ℕ) (q : List ℕ) → (IsTrue (has_value (inside (Some c)) (i ∷ q)) → IsPartPath full_parts table t (i ∷ q)) × (IsPartPath full_parts table t (i ∷ q) → IsTrue (has_value (inside (Some c)) (i ∷ q)))
 
     part-exact : (o : Option Shape) (ps : Parts N) (j u : ℕ) (d : Cell N) → ExactIn o ps → IsIn (j, u) (list_of full_parts o) → part_at j ps ≡ Some d → ExactAt u d
     part-exact o ps j u d E h e i q = (
-      (λ v. let l = (E j (i ∷ q)).0 (subst (λ x. IsTrue (has_value (inside x) (i ∷ q))) (sym e) v) in subst (λ t. Leads full_parts table t (i ∷ q)) (one-type o j l.0 u l.1 h) l.2),
+      (λ v. let l = (E j (i ∷ q)).0 (subst (λ x. IsTrue (has_value (inside x) (i ∷ q))) (sym e) v) in subst (λ t. IsPartPath full_parts table t (i ∷ q)) (one-type o j l.0 u l.1 h) l.2),
       (λ l. subst (λ x. IsTrue (has_value (inside x) (i ∷ q))) e ((E j (i ∷ q)).1 (u, h, l))),
     )
 
@@ -197,13 +197,13 @@ module _ (table : TypeTable) where
     exact-at : (o : Option Shape) (ps : Parts N) (n j u : ℕ) → ExactIn o ps → IsIn (j, u) (list_of full_parts o) → IsTrue (is_within_depth n table u) → Exact (part_at j ps) u
     exact-at o ps n j u E h w = ((E j []).1 (u, h, within-known table n u w), λ d e. part-exact o ps j u d E h e)
 
-    field-demand : (ts : List ℕ) (ps : Parts N) (n j u : ℕ) → ExactIn (Some (fields ts)) ps → IsTrue (every (is_within_depth n table) ts) → slice_get ts j ≡ Some u → Exact (part_at j ps) u
+    field-demand : (ts : List ℕ) (ps : Parts N) (n j u : ℕ) → ExactIn (Some (fields ts)) ps → IsTrue (all_pass (is_within_depth n table) ts) → slice_get ts j ≡ Some u → Exact (part_at j ps) u
     field-demand ts ps n j u E w e =
         let i = contents-fields 0 j u whole ts (slice_get-map (a_value whole) ts j ∙ ap (option_map (a_value whole)) e) in
         let h = subst (λ m. IsIn (m, u) (numbered 0 ts)) (zero-add j) i.0 in
         exact-at (Some (fields ts)) ps n j u E h (every-in (is_within_depth n table) u ts w (full-named (fields ts) j u h))
 
-    parameter-demand : (qs : List Parameter) (es : List Raised) (ps : Parts N) (n j : ℕ) (p : Parameter) → ExactIn (Some (callmessage qs es)) ps → IsTrue (every (is_within_depth n table) (map (λ q. q.content) qs)) → slice_get qs j ≡ Some p → Demand p.mode (part_at j ps) p.content
+    parameter-demand : (qs : List Parameter) (es : List Raised) (ps : Parts N) (n j : ℕ) (p : Parameter) → ExactIn (Some (callmessage qs es)) ps → IsTrue (all_pass (is_within_depth n table) (map (λ q. q.content) qs)) → slice_get qs j ≡ Some p → Demand p.mode (part_at j ps) p.content
     parameter-demand qs es ps n j p E w e = by p.mode (slice_get-map (λ q. parameter_content whole q.mode q.content) qs j ∙ ap (option_map (λ q. parameter_content whole q.mode q.content)) e)
       where
         filled-demand : slice_get (parameter_contents qs) j ≡ Some (a_value whole p.content) → Exact (part_at j ps) p.content
@@ -225,12 +225,12 @@ module _ (table : TypeTable) where
         by by_out f = not-asked f (part_at j ps) refl
 
     abbrev FieldsFull : Parts N → ℕ → Type 0
-    FieldsFull ps n = (ts : List ℕ) → IsTrue (every (is_within_depth n table) ts) → Fits table (exactly (map (a_value partly) ts)) ps → ((j u : ℕ) → slice_get ts j ≡ Some u → Exact (part_at j ps) u) → Fits table (exactly (field_contents ts)) ps
+    FieldsFull ps n = (ts : List ℕ) → IsTrue (all_pass (is_within_depth n table) ts) → Fits table (exactly (map (a_value partly) ts)) ps → ((j u : ℕ) → slice_get ts j ≡ Some u → Exact (part_at j ps) u) → Fits table (exactly (field_contents ts)) ps
 
     abbrev ParametersFull : Parts N → ℕ → Type 0
-    ParametersFull ps n = (qs : List Parameter) → IsTrue (every (is_within_depth n table) (map (λ q. q.content) qs)) → Fits table (partly_parameters qs) ps → ((j : ℕ) (p : Parameter) → slice_get qs j ≡ Some p → Demand p.mode (part_at j ps) p.content) → Fits table (exactly (parameter_contents qs)) ps
+    ParametersFull ps n = (qs : List Parameter) → IsTrue (all_pass (is_within_depth n table) (map (λ q. q.content) qs)) → Fits table (partly_parameters qs) ps → ((j : ℕ) (p : Parameter) → slice_get qs j ≡ Some p → Demand p.mode (part_at j ps) p.content) → Fits table (exactly (parameter_contents qs)) ps
 
-    layout-full : (o : Option Shape) (k : Kind) (ps : Parts N) (n : ℕ) → IsTrue (with_some false (λ s. every (is_within_depth n table) (named_types s)) o) → FieldsFull ps n → ParametersFull ps n → ExactIn o (cond (opens k) ps no_parts) → Fits table (layout_of partly o k) ps → Fits table (layout_of whole o k) ps
+    layout-full : (o : Option Shape) (k : Kind) (ps : Parts N) (n : ℕ) → IsTrue (map_or false (λ s. all_pass (is_within_depth n table) (named_types s)) o) → FieldsFull ps n → ParametersFull ps n → ExactIn o (cond (opens k) ps no_parts) → Fits table (layout_of partly o k) ps → Fits table (layout_of whole o k) ps
     layout-full (Some (fields ts)) a_record ps n w F G E h = F ts w h (λ j u e. field-demand ts ps n j u E w e)
     layout-full (Some (callmessage qs es)) (a_callmessage caller call) ps n w F G E h = G qs w h (λ j p e. parameter-demand qs es ps n j p E w e)
     layout-full o k ps n w F G E h = h

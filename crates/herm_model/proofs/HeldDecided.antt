@@ -5,8 +5,8 @@ use Rattle.std.proofs.lemmas.Bool.{eq-eqb, eqb-true}
 use Rattle.herm_model.specs.Lists.{IsIn, numbered}
 use Rattle.herm_model.specs.Paths.{Fact}
 use Rattle.herm_model.specs.Outcomes.{same_outcome}
-use Rattle.herm_model.specs.Nodes.{Target, node, end, end_by}
-use Rattle.herm_model.specs.Control.{Edge, Point, Flow, Hop, Standing, held_behind, held_at_start, walk, edge_at, edge_from, Holds, Lacks}
+use Rattle.herm_model.specs.Targets.{Target, node, end, end_by}
+use Rattle.herm_model.specs.ControlPaths.{Edge, Point, Flow, Hop, Standing, held_after_edge, held_at_start, walk, edge_at, edge_from, Holds, Lacks}
 use Rattle.herm_model.specs.Refusals.{Demand, Refusal, AreRefusals, none, missing, holds, Labels, AreExact}
 use Rattle.herm_model.proofs.Lists.{not_true, and-both, both-and, in-append_left, in-append_right, in-map, found-in}
 use Rattle.herm_model.proofs.Options.{none-not_some, some-injective}
@@ -95,23 +95,23 @@ module _ (flow : Flow) (f : Fact) where
   walk-on (hop ∷ hops) more here held b c h k = by (edge_from flow here hop) (λ t value. walk-on hops more t value b c) h
     where
       by : (o : Option Edge) → ((t : Target) (value : Bool) → WalksTo hops t value b → WalksTo more (node b.0) b.1 c → WalksTo (hops ++ more) t value c)
-          → option_and_then (λ (e : Edge). walk flow f hops e.target (held_behind e f held)) o ≡ Some (at_node b.0 b.1)
-          → option_and_then (λ (e : Edge). walk flow f (hops ++ more) e.target (held_behind e f held)) o ≡ Some (at_node c.0 c.1)
+          → option_and_then (λ (e : Edge). walk flow f hops e.target (held_after_edge e f held)) o ≡ Some (at_node b.0 b.1)
+          → option_and_then (λ (e : Edge). walk flow f (hops ++ more) e.target (held_after_edge e f held)) o ≡ Some (at_node c.0 c.1)
       by None again h = none-not_some h
-      by (Some e) again h = again e.target (held_behind e f held) h k
+      by (Some e) again h = again e.target (held_after_edge e f held) h k
 
   -- one hop
   abbrev Steps : Mark → Mark → Type 0
   Steps a b = (hop : Hop) × WalksTo (hop ∷ []) (node a.0) a.1 b
 
   steps-by : (a b : Mark) (o : Option Point) → slice_get flow.points a.0 ≡ o → Decided (Steps a b)
-  steps-by a b None is = inr (λ s. none-not_some (ap (λ o. option_and_then (λ (e : Edge). walk flow f [] e.target (held_behind e f a.1)) (edge_at s.0 o)) (sym is) ∙ s.1))
+  steps-by a b None is = inr (λ s. none-not_some (ap (λ o. option_and_then (λ (e : Edge). walk flow f [] e.target (held_after_edge e f a.1)) (edge_at s.0 o)) (sym is) ∙ s.1))
   steps-by a b (Some p) is = by (some-passes leads p.edges)
     where
       leads : Edge → Bool
       leads e = stands_at b.0 b.1 (walk flow f (hop_by p e ∷ []) (node a.0) a.1)
 
-      refuted : (((e : Edge) × IsIn e p.edges × IsTrue (leads e)) → ⊥) → (hop : Hop) → WalksTo (hop ∷ []) (node a.0) a.1 b → (o : Option Edge) → edge_at hop (Some p) ≡ o → option_and_then (λ (e : Edge). walk flow f [] e.target (held_behind e f a.1)) o ≡ Some (at_node b.0 b.1) → ⊥
+      refuted : (((e : Edge) × IsIn e p.edges × IsTrue (leads e)) → ⊥) → (hop : Hop) → WalksTo (hop ∷ []) (node a.0) a.1 b → (o : Option Edge) → edge_at hop (Some p) ≡ o → option_and_then (λ (e : Edge). walk flow f [] e.target (held_after_edge e f a.1)) o ≡ Some (at_node b.0 b.1) → ⊥
       refuted n hop w None at h = none-not_some h
       refuted n hop w (Some e) at h =
           let r = hop-is hop p e at in
@@ -119,7 +119,7 @@ module _ (flow : Flow) (f : Fact) where
 
       by : Decided ((e : Edge) × IsIn e p.edges × IsTrue (leads e)) → Decided (Steps a b)
       by (inl r) = inl (hop_by p r.0, stands-there b.0 b.1 _ r.2)
-      by (inr n) = inr (λ s. refuted n s.0 s.1 (edge_at s.0 (Some p)) refl (ap (λ o. option_and_then (λ (e : Edge). walk flow f [] e.target (held_behind e f a.1)) (edge_at s.0 o)) (sym is) ∙ s.1))
+      by (inr n) = inr (λ s. refuted n s.0 s.1 (edge_at s.0 (Some p)) refl (ap (λ o. option_and_then (λ (e : Edge). walk flow f [] e.target (held_after_edge e f a.1)) (edge_at s.0 o)) (sym is) ∙ s.1))
 
   -- a path of one hop or more that passes through these marks alone
   abbrev Goes : List Mark → Mark → Mark → Type 0
@@ -193,19 +193,19 @@ module _ (flow : Flow) (f : Fact) where
       Next = (j : ℕ) (value : Bool) → WalksTo (next ∷ hops) (node j) value b → Goes marks (j, value) b
 
       onward : (t : Target) (value : Bool) (o : Option Edge) → edge_from flow t next ≡ o → Next → ((j : ℕ) → t ≡ node j → Steps (i, held) (j, value)) → WalksTo (next ∷ hops) t value b → Goes marks (i, held) b
-      onward t value None at again step w = none-not_some (ap (option_and_then (λ (e : Edge). walk flow f hops e.target (held_behind e f value))) (sym at) ∙ w)
+      onward t value None at again step w = none-not_some (ap (option_and_then (λ (e : Edge). walk flow f hops e.target (held_after_edge e f value))) (sym at) ∙ w)
       onward t value (Some e) at again step w =
           let of = edge_from-IsEdgeOf flow t next e at in
           joined marks (of.at, value) (i, held) b (mark-listed of.at of.point value of.point-is)
           (step-goes marks (i, held) (of.at, value) (step of.at of.here-is))
           (again of.at value (subst (λ t. WalksTo (next ∷ hops) t value b) of.here-is w))
 
-      by : (o : Option Edge) → edge_from flow (node i) hop ≡ o → Next → option_and_then (λ (e : Edge). walk flow f (next ∷ hops) e.target (held_behind e f held)) o ≡ Some (at_node b.0 b.1) → Goes marks (i, held) b
+      by : (o : Option Edge) → edge_from flow (node i) hop ≡ o → Next → option_and_then (λ (e : Edge). walk flow f (next ∷ hops) e.target (held_after_edge e f held)) o ≡ Some (at_node b.0 b.1) → Goes marks (i, held) b
       by None at again w = none-not_some w
-      by (Some e) at again w = onward e.target (held_behind e f held) (edge_from flow e.target next) refl again step w
+      by (Some e) at again w = onward e.target (held_after_edge e f held) (edge_from flow e.target next) refl again step w
         where
-          step : (j : ℕ) → e.target ≡ node j → Steps (i, held) (j, held_behind e f held)
-          step j here = (hop, ap (option_and_then (λ (e : Edge). walk flow f [] e.target (held_behind e f held))) at ∙ ap (λ t. Some (record { here = t; held = held_behind e f held })) here)
+          step : (j : ℕ) → e.target ≡ node j → Steps (i, held) (j, held_after_edge e f held)
+          step j here = (hop, ap (option_and_then (λ (e : Edge). walk flow f [] e.target (held_after_edge e f held))) at ∙ ap (λ t. Some (record { here = t; held = held_after_edge e f held })) here)
 
   -- some walk leads from a target to a mark, or none does
   walks-or_not : (t : Target) (held : Bool) (b : Mark) → Decided ((hops : List Hop) × WalksTo hops t held b)

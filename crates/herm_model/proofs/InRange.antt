@@ -1,10 +1,10 @@
 -- What a typed form names by numbers is in range.
 use Rattle.std.proofs.Common.{◌≡◌, ℕ, zero, suc, ◌<◌, List, [], ◌∷◌, map, length, ◌⊎◌, inl, inr, Some, slice_get, option_and_then, refl, sym, ap, subst, ◌∙◌, arith}
-use Rattle.herm_model.specs.Lists.{IsIn, with_some}
+use Rattle.herm_model.specs.Lists.{IsIn, map_or}
 use Rattle.herm_model.specs.Paths.{Path, Fact, case}
 use Rattle.herm_model.specs.Types.{Mode, by_in, by_inout, by_out, Parameter, Raised, callmessage, TypeTable, type_at}
 use Rattle.herm_model.specs.Facts.{component_count, IsFactOf}
-use Rattle.herm_model.specs.Expressions.{Literal, Expression, literal, copy, negated, inverted, operation, size_of, decimal, length_of, Atom, path, paths_read, paths_among}
+use Rattle.herm_model.specs.Expressions.{Literal, Expression, literal, copy, negation, logical_not, operation, size_of, decimal, length_of, Atom, path, paths_read, paths_among}
 use Rattle.herm_model.specs.Statements.{Form, Assign, Move, New, Discard, Unite, Dissolve, Reveal, Case, Wrap, Unwrap, Insert, Remove, Get, For, Connect, Send, Receive, Select, Call, Return, ReturnBy, Create, If, While, Raise, Leave, Arm, Process}
 use Rattle.herm_model.specs.TypedExpressions.{IsLiteralOf, IsTyped}
 use Rattle.herm_model.specs.WellFormedTables.{IsType, IsWellFormedTable}
@@ -42,8 +42,8 @@ module _ (exceptions : ℕ) (table : TypeTable) (well : IsWellFormedTable except
   literals-typed (literal l) t h k (inl e) = (t, subst (λ x. IsLiteralOf table x t) (sym e) h)
   literals-typed (literal l) t h k (inr i) = absurd i
   literals-typed (copy p) t h k i = absurd i
-  literals-typed (negated e) t h k i = literals-typed e h.1 h.3 k i
-  literals-typed (inverted e) t h k i = literals-typed e h.1 h.3 k i
+  literals-typed (negation e) t h k i = literals-typed e h.1 h.3 k i
+  literals-typed (logical_not e) t h k i = literals-typed e h.1 h.3 k i
   literals-typed (operation o left right) t h k i = by (in-append_cases k (literals_in left) (literals_in right) i) (literals-typed left h.1 h.5 k) (literals-typed right h.1 h.6 k)
     where
       by : IsIn k (literals_in left) ⊎ IsIn k (literals_in right) → (IsIn k (literals_in left) → (u : ℕ) × IsLiteralOf table k u) → (IsIn k (literals_in right) → (u : ℕ) × IsLiteralOf table k u) → (u : ℕ) × IsLiteralOf table k u
@@ -135,7 +135,7 @@ module _ (exceptions : ℕ) (table : TypeTable) (well : IsWellFormedTable except
         covered : (f : Fact) → IsIn f (map (case v) cs) → IsFactOf table variables f
         covered f i =
             let r = in-map_from (case v) f cs i in
-            subst (IsFactOf table variables) (sym r.2) (subst (λ o. r.0 < with_some 0 (λ t. with_some 0 component_count (slice_get table t)) o) (sym (h.2).0) (subst (λ o. r.0 < with_some 0 component_count o) (sym h.3) ((h.5 r.0).0 r.1)))
+            subst (IsFactOf table variables) (sym r.2) (subst (λ o. r.0 < map_or 0 (λ t. map_or 0 component_count (slice_get table t)) o) (sym (h.2).0) (subst (λ o. r.0 < map_or 0 component_count o) (sym h.3) ((h.5 r.0).0 r.1)))
     form-in (Wrap y p) h = paths-in (y ∷ p ∷ []) (two-typed y p (h.0, ((h.2).0).0) (h.1, ((h.3).0).0))
     form-in (Unwrap p t y) h = record {
       paths = two-typed p y (h.0, ((h.1).0).0) (t, ((h.3).0).0);

@@ -5,8 +5,8 @@ use Rattle.herm_model.specs.Statements.{Statement}
 use Rattle.herm_model.specs.WellFormedTables.{IsWellFormedTable}
 use Rattle.herm_model.specs.tests.TableTests.{broken_table_rules}
 use Rattle.herm_model.specs.tests.BodyTests.{ProcessRule, typed}
-use Rattle.herm_model.specs.judged.StatementTypes.{statement_types, helper, main_of}
-use Rattle.herm_model.specs.judged.TableRuleExamples.{TableExample}
+use Rattle.herm_model.specs.examples.StatementTypes.{statement_types, helper, main_of}
+use Rattle.herm_model.specs.examples.TableRuleExamples.{TableExample}
 use Rattle.herm_model.specs.laws.TypedExampleLaws.{example_exceptions, example_table, broken_by, IsTypedBody, AreTyped, BreakTheirFormAlone, BreakTheseRules, BreakTheseTableRules}
 use Rattle.herm_model.proofs.Lists.{cons-not_nil}
 use Rattle.herm_model.proofs.DecidedTables.{none-well_formed}

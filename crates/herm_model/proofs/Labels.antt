@@ -1,11 +1,11 @@
 -- Labels as lists of facts, and a test that they flow and settle each demand.
 use Rattle.std.proofs.Common.{◌≡◌, ℕ, zero, suc, map, set, filter, flat_map, refl, sym, subst, ap₂, List, [], ◌∷◌, Bool, true, false, cond, not, ◌&&◌, nat_eq, Option, Some, None, slice_get}
-use Rattle.herm_model.specs.Lists.{IsIn, every, some_of, list_of, numbered}
+use Rattle.herm_model.specs.Lists.{IsIn, all_pass, any_pass, list_of, numbered}
 use Rattle.herm_model.specs.Paths.{Fact, init, same_fact}
 use Rattle.herm_model.specs.Facts.{without_repeats}
-use Rattle.herm_model.specs.Nodes.{Target, node, end, end_by}
-use Rattle.herm_model.specs.Control.{Edge, Point, Flow, Hop, Standing, held_behind, held_at_start, walk, LacksBy}
-use Rattle.herm_model.specs.Refusals.{Demand, demands, Refusal, AreRefusals, none, missing, holds, Labels, label_at, Flows}
+use Rattle.herm_model.specs.Targets.{Target, node, end, end_by}
+use Rattle.herm_model.specs.ControlPaths.{Edge, Point, Flow, Hop, Standing, held_after_edge, held_at_start, walk, LacksBy}
+use Rattle.herm_model.specs.Refusals.{Demand, demands, Refusal, AreRefusals, none, missing, holds, Labels, label_at, AreInductive}
 use Rattle.herm_model.proofs.Equality.{same_fact-is}
 use Rattle.herm_model.proofs.FactTests.{listed-IsIn, at-numbered}
 use Rattle.herm_model.proofs.Lists.{every-in}
@@ -22,17 +22,17 @@ facts_at_target lists end = []
 facts_at_target lists (end_by e) = []
 
 abbrev pub listed : List (List Fact) → Labels
-listed lists i f = some_of (same_fact f) (facts_at lists i)
+listed lists i f = any_pass (same_fact f) (facts_at lists i)
 
 abbrev pub edge_flows : List (List Fact) → ℕ → Edge → Bool
-edge_flows lists i e = every (λ f. held_behind e f (listed lists i f)) (facts_at_target lists e.target)
+edge_flows lists i e = all_pass (λ f. held_after_edge e f (listed lists i f)) (facts_at_target lists e.target)
 
 abbrev pub point_flows : List (List Fact) → ℕ × Point → Bool
-point_flows lists (i, p) = every (edge_flows lists i) p.edges
+point_flows lists (i, p) = all_pass (edge_flows lists i) p.edges
 
 abbrev pub labels_flow : Flow → List (List Fact) → Bool
 labels_flow flow lists =
-    every held_at_start (facts_at_target lists flow.entry) && every (point_flows lists) (numbered 0 flow.points)
+    all_pass held_at_start (facts_at_target lists flow.entry) && all_pass (point_flows lists) (numbered 0 flow.points)
 
 -- whether a walk led to the point without the fact
 abbrev pub is_without : ℕ → Target → Bool → Bool
@@ -66,16 +66,16 @@ label_at-IsIn lists end f h = cc
 label_at-IsIn lists (end_by e) f h = cc
 
 -- labels that pass the test flow
-pub labels_flow-Flows : (flow : Flow) (lists : List (List Fact)) → labels_flow flow lists ≡ true → Flows flow (listed lists)
+pub labels_flow-Flows : (flow : Flow) (lists : List (List Fact)) → labels_flow flow lists ≡ true → AreInductive flow (listed lists)
 labels_flow-Flows flow lists h = record {
   begins = λ f label. every-in held_at_start f (facts_at_target lists flow.entry) both.0 (label_at-IsIn lists flow.entry f label);
   goes_on = λ i p e f is member label.
       let point : point_flows lists (i, p) ≡ true = every-in (point_flows lists) (i, p) (numbered 0 flow.points) both.1 (at-numbered flow.points i p is) in
       let edge : edge_flows lists i e ≡ true = every-in (edge_flows lists i) e p.edges point member in
-      every-in (λ f. held_behind e f (listed lists i f)) f (facts_at_target lists e.target) edge (label_at-IsIn lists e.target f label);
+      every-in (λ f. held_after_edge e f (listed lists i f)) f (facts_at_target lists e.target) edge (label_at-IsIn lists e.target f label);
 }
   where
-    both : (every held_at_start (facts_at_target lists flow.entry) ≡ true) × (every (point_flows lists) (numbered 0 flow.points) ≡ true)
+    both : (all_pass held_at_start (facts_at_target lists flow.entry) ≡ true) × (all_pass (point_flows lists) (numbered 0 flow.points) ≡ true)
     both = and_parts _ _ h
 
 abbrev standing_at : Target → Bool → Standing
@@ -109,7 +109,7 @@ is_report-missing flow d ds r rs h rest =
     subst (λ (x : Refusal). AreRefusals flow (d ∷ ds) (x ∷ rs)) refusal (missing d ds r.path rs (is_without-LacksBy flow d r.path more.1) rest)
 
 -- demands that labels settle beside the reports
-settles-AreRefusals : (flow : Flow) (lists : List (List Fact)) → Flows flow (listed lists) → (ds : List Demand) (rs : List Refusal) → settles flow lists ds rs ≡ true → AreRefusals flow ds rs
+settles-AreRefusals : (flow : Flow) (lists : List (List Fact)) → AreInductive flow (listed lists) → (ds : List Demand) (rs : List Refusal) → settles flow lists ds rs ≡ true → AreRefusals flow ds rs
 settles-AreRefusals flow lists flows [] [] h = none
 settles-AreRefusals flow lists flows [] (r ∷ rs) h = absurd (let k : ⊥ = cc in k)
 settles-AreRefusals flow lists flows (d ∷ ds) [] h =
@@ -145,7 +145,7 @@ refine lists keeps (end_by e) = lists
 
 abbrev pub sweep_edges : List (List Fact) → ℕ → List Edge → List (List Fact)
 sweep_edges lists i [] = lists
-sweep_edges lists i (e ∷ edges) = sweep_edges (refine lists (λ f. held_behind e f (listed lists i f)) e.target) i edges
+sweep_edges lists i (e ∷ edges) = sweep_edges (refine lists (λ f. held_after_edge e f (listed lists i f)) e.target) i edges
 
 abbrev pub sweep_points : List (List Fact) → List (ℕ × Point) → List (List Fact)
 sweep_points lists [] = lists

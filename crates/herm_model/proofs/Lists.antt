@@ -1,7 +1,7 @@
 -- Lemmas on lists that compute on the first element.
 use Rattle.std.proofs.Common.{◌≡◌, ℕ, zero, suc, ◌+◌, length, List, [], ◌∷◌, ◌++◌, map, flat_map, filter, find, Bool, true, false, cond, Some, option_map, slice_get, ◌&&◌, ◌||◌, ◌⊎◌, inl, inr, IsTrue, refl, sym, ap, subst, arith, true≢false}
 use Rattle.herm_model.specs.Statements.{Differ}
-use Rattle.herm_model.specs.Lists.{IsIn, every, numbered, total}
+use Rattle.herm_model.specs.Lists.{IsIn, all_pass, numbered, total}
 
 abbrev is_cons : {X : Type 0} → List X → Bool
 is_cons [] = false
@@ -129,12 +129,12 @@ slice_get-map f [] j = refl
 slice_get-map f (x ∷ xs) zero = refl
 slice_get-map f (x ∷ xs) (suc j) = slice_get-map f xs j
 
-pub every-in : {X : Type 0} (test : X → Bool) (x : X) (xs : List X) → IsTrue (every test xs) → IsIn x xs → IsTrue (test x)
+pub every-in : {X : Type 0} (test : X → Bool) (x : X) (xs : List X) → IsTrue (all_pass test xs) → IsIn x xs → IsTrue (test x)
 every-in test x [] h i = absurd i
 every-in test x (z ∷ xs) h (inl e) = subst (λ w. IsTrue (test w)) (sym e) (and-both (test z) _ h).0
 every-in test x (z ∷ xs) h (inr i) = every-in test x xs (and-both (test z) _ h).1 i
 
-pub in-every : {X : Type 0} (test : X → Bool) (xs : List X) → ((x : X) → IsIn x xs → IsTrue (test x)) → IsTrue (every test xs)
+pub in-every : {X : Type 0} (test : X → Bool) (xs : List X) → ((x : X) → IsIn x xs → IsTrue (test x)) → IsTrue (all_pass test xs)
 in-every test [] h = refl
 in-every test (z ∷ xs) h = both-and (test z) _ (h z (inl refl)) (in-every test xs (λ x i. h x (inr i)))
 

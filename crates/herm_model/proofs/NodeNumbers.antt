@@ -5,7 +5,7 @@ use Rattle.std.proofs.lemmas.List.{map-append}
 use Rattle.herm_model.proofs.Lists.{in-map_from}
 use Rattle.herm_model.specs.Statements.{Form, Statement, simple, choosing, repeating, leaving, trying, Block, no_statements, statement, Blocks, no_blocks, block, Handlers, no_handlers, handler, numbers_of, numbers_of_block, numbers_of_blocks, numbers_of_handlers, Process}
 use Rattle.herm_model.specs.Nodes.{Node, Surroundings, nodes, nodes_in, nodes_of_choices, nodes_of_catches, process_nodes}
-use Rattle.herm_model.specs.FlowLaws.{Rise, forms_of, forms_of_block, forms_of_blocks, forms_of_handlers}
+use Rattle.herm_model.specs.laws.FlowLaws.{Rise, forms_of, forms_of_block, forms_of_blocks, forms_of_handlers}
 
 -- the numbers rise from low on, and stay below high
 abbrev RisesWithin : ℕ → ℕ → List Node → Type 0

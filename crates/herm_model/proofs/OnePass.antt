@@ -6,10 +6,11 @@ use Rattle.herm_model.specs.Paths.{Fact}
 use Rattle.herm_model.specs.Types.{TypeTable}
 use Rattle.herm_model.specs.Statements.{Form}
 use Rattle.herm_model.specs.Outcomes.{Outcome, same_outcome, ok, raised, normal_outcomes, exceptions}
-use Rattle.herm_model.specs.Nodes.{Target, node, end, end_by, Surroundings, Node, start_of_block, nodes_in, Exit, paired}
+use Rattle.herm_model.specs.Nodes.{Surroundings, Node, start_of_block, nodes_in, Exit, paired}
+use Rattle.herm_model.specs.Targets.{Target, node, end, end_by}
 use Rattle.herm_model.specs.StatementTable.{needs}
-use Rattle.herm_model.specs.Control.{Edge, edge, Point, point, Flow, flow_of, Hop, held_behind, held_at_start, edge_at, edge_from, Leads, Holds}
-use Rattle.herm_model.specs.Refusals.{Demand, demands_at, demands, Refusal, AreRefusals, none, missing, holds, Labels, label_at, Flows}
+use Rattle.herm_model.specs.ControlPaths.{Edge, edge, Point, point, Flow, flow_of, Hop, held_after_edge, held_at_start, edge_at, edge_from, IsControlPath, Holds}
+use Rattle.herm_model.specs.Refusals.{Demand, demands_at, demands, Refusal, AreRefusals, none, missing, holds, Labels, label_at, AreInductive}
 use Rattle.herm_model.specs.StraightLines.{line, straight, GoesOn, held_on, lacking_along}
 use Rattle.herm_model.proofs.Lists.{in-append_cases, in-map_from}
 use Rattle.herm_model.proofs.Walks.{flows-Holds}
@@ -76,7 +77,7 @@ module _ (types : TypeTable) (variables : List ℕ) where
   next-label lab held form [] from f same h = absurd (true≢false (sym h))
   next-label lab held form (next ∷ forms) from f same h = sym (same 1 f) ∙ h
 
-  line-flows : (lab : Labels) (forms : List Form) (held : Fact → Bool) (number from : ℕ) → AllGoOn forms → ((k : ℕ) (f : Fact) → lab (from + k) f ≡ held_in held forms k f) → (k : ℕ) (p : Point) (e : Edge) (f : Fact) → slice_get (points_of forms number from) k ≡ Some p → IsIn e p.edges → label_at lab e.target f ≡ true → held_behind e f (lab (from + k) f) ≡ true
+  line-flows : (lab : Labels) (forms : List Form) (held : Fact → Bool) (number from : ℕ) → AllGoOn forms → ((k : ℕ) (f : Fact) → lab (from + k) f ≡ held_in held forms k f) → (k : ℕ) (p : Point) (e : Edge) (f : Fact) → slice_get (points_of forms number from) k ≡ Some p → IsIn e p.edges → label_at lab e.target f ≡ true → held_after_edge e f (lab (from + k) f) ≡ true
   line-flows lab [] held number from on same k p e f is member label = cc
   line-flows lab (form ∷ forms) held number from on same zero p e f is member label =
       by (first-edge form t e (normal_outcomes form) (on form (inl refl)) (subst (λ (q : Point). IsIn e q.edges) (sym point-is) member))
@@ -87,24 +88,24 @@ module _ (types : TypeTable) (variables : List ℕ) where
       point-is : point types variables (first form forms number from) ≡ p
       point-is = cc
 
-      by : (e ≡ onward form t) ⊎ ((x : ℕ) × (e.target ≡ end_by x)) → held_behind e f (lab (from + zero) f) ≡ true
+      by : (e ≡ onward form t) ⊎ ((x : ℕ) × (e.target ≡ end_by x)) → held_after_edge e f (lab (from + zero) f) ≡ true
       by (inl is) =
-          subst (λ (d : Edge). held_behind d f (lab (from + zero) f) ≡ true) (sym is)
-          (subst (λ b. held_behind (onward form t) f b ≡ true) (sym (same 0 f))
+          subst (λ (d : Edge). held_after_edge d f (lab (from + zero) f) ≡ true) (sym is)
+          (subst (λ b. held_after_edge (onward form t) f b ≡ true) (sym (same 0 f))
           (next-label lab held form forms from f same (subst (λ (d : Edge). label_at lab d.target f ≡ true) is label)))
       by (inr ends) = absurd (true≢false (sym (subst (λ u. label_at lab u f ≡ true) ends.1 label)))
   line-flows lab (form ∷ forms) held number from on same (suc k) p e f is member label =
       let shift : (from + 1) + k ≡ from + suc k = omega arith in
-      subst (λ i. held_behind e f (lab i f) ≡ true) shift
+      subst (λ i. held_after_edge e f (lab i f) ≡ true) shift
       (line-flows lab forms (held_on types variables form held) (number + 1) (from + 1) (λ g h. on g (inr h))
       (λ j g. let there : (from + 1) + j ≡ from + suc j = omega arith in ap (λ i. lab i g) there ∙ same (suc j) g) k p e f is member label)
 
-  line-Flows : (forms : List Form) → AllGoOn forms → Flows (flow_of types (straight variables forms)) (held_in held_at_start forms)
+  line-Flows : (forms : List Form) → AllGoOn forms → AreInductive (flow_of types (straight variables forms)) (held_in held_at_start forms)
   line-Flows forms on = record {
     begins = λ f label. begin forms f label;
     goes_on = λ i p e f is member label.
         let here : 0 + i ≡ i = omega arith in
-        subst (λ j. held_behind e f (held_in held_at_start forms j f) ≡ true) here
+        subst (λ j. held_after_edge e f (held_in held_at_start forms j f) ≡ true) here
         (line-flows (held_in held_at_start forms) forms held_at_start 1 0 on
         (λ k g. let there : 0 + k ≡ k = omega arith in ap (λ j. held_in held_at_start forms j g) there) i p e f is member label);
   }
@@ -126,18 +127,18 @@ module _ (types : TypeTable) (variables : List ℕ) where
   abbrev reported : ℕ → List Hop → (Fact → Bool) → List Fact → List Refusal
   reported number hops held fs = map (λ f. record { number = number; fact = f; path = hops }) (filter (λ f. not (held f)) fs)
 
-  one-statement : (flow : Flow) (i number : ℕ) (hops : List Hop) (held : Fact → Bool) → ((f : Fact) → Leads flow f hops (node i) (held f)) → ((f : Fact) → held f ≡ true → Holds flow f i) → (fs : List Fact) → AreRefusals flow (demanded i number fs) (reported number hops held fs)
+  one-statement : (flow : Flow) (i number : ℕ) (hops : List Hop) (held : Fact → Bool) → ((f : Fact) → IsControlPath flow f hops (node i) (held f)) → ((f : Fact) → held f ≡ true → Holds flow f i) → (fs : List Fact) → AreRefusals flow (demanded i number fs) (reported number hops held fs)
   one-statement flow i number hops held leads sure [] = none
   one-statement flow i number hops held leads sure (f ∷ fs) = go (held f) refl (one-statement flow i number hops held leads sure fs)
     where
       go : (b : Bool) → held f ≡ b → AreRefusals flow (demanded i number fs) (reported number hops held fs)
           → AreRefusals flow (demanded i number (f ∷ fs)) (map (λ f. record { number = number; fact = f; path = hops }) (cond (not b) (f ∷ filter (λ f. not (held f)) fs) (filter (λ f. not (held f)) fs)))
       go true is rest = holds (record { at = i; number = number; fact = f }) (demanded i number fs) _ (sure f is) rest
-      go false is rest = missing (record { at = i; number = number; fact = f }) (demanded i number fs) hops _ (subst (λ b. Leads flow f hops (node i) b) is (leads f)) rest
+      go false is rest = missing (record { at = i; number = number; fact = f }) (demanded i number fs) hops _ (subst (λ b. IsControlPath flow f hops (node i) b) is (leads f)) rest
 
   -- the statements from one on, where a path has led to it
-  along : (flow : Flow) (lab : Labels) → Flows flow lab → (forms : List Form) (number from : ℕ) (hops : List Hop) (held : Fact → Bool) → AllGoOn forms
-      → ((f : Fact) → Leads flow f hops (start_of_block (line forms) from end) (held f))
+  along : (flow : Flow) (lab : Labels) → AreInductive flow lab → (forms : List Form) (number from : ℕ) (hops : List Hop) (held : Fact → Bool) → AllGoOn forms
+      → ((f : Fact) → IsControlPath flow f hops (start_of_block (line forms) from end) (held f))
       → ((k : ℕ) (f : Fact) → lab (from + k) f ≡ held_in held forms k f)
       → ((k : ℕ) → slice_get flow.points (from + k) ≡ slice_get (points_of forms number from) k)
       → AreRefusals flow (flat_map demands_at (numbered from (points_of forms number from))) (lacking_along types variables forms number hops held)
@@ -171,9 +172,9 @@ module _ (types : TypeTable) (variables : List ℕ) where
           ∙ ap (λ b. cond b (find (λ (d : Edge). same_outcome d.outcome ok) (point types variables (first form forms number from)).edges) None) (eq-eqb number number refl)
           ∙ first-found form (start_of_block (line forms) (from + 1) end) (normal_outcomes form) (on form (inl refl))
 
-      next_leads : (f : Fact) → Leads flow f (hops ++ record { number = number; outcome = ok } ∷ []) (start_of_block (line forms) (suc from) end) (held_on types variables form held f)
+      next_leads : (f : Fact) → IsControlPath flow f (hops ++ record { number = number; outcome = ok } ∷ []) (start_of_block (line forms) (suc from) end) (held_on types variables form held f)
       next_leads f =
-          subst (λ i. Leads flow f (hops ++ record { number = number; outcome = ok } ∷ []) (start_of_block (line forms) i end) (held_on types variables form held f)) (sym place)
+          subst (λ i. IsControlPath flow f (hops ++ record { number = number; outcome = ok } ∷ []) (start_of_block (line forms) i end) (held_on types variables form held f)) (sym place)
           (walk-more flow f hops (record { number = number; outcome = ok }) flow.entry (node from) (held_at_start f) (held f) (onward form (start_of_block (line forms) (from + 1) end)) (leads f) taken)
 
       next_same : (k : ℕ) (f : Fact) → lab (suc from + k) f ≡ held_in (held_on types variables form held) forms k f

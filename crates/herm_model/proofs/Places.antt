@@ -3,7 +3,8 @@ use Rattle.std.proofs.Common.{◌≡◌, ◌≢◌, ◌⊎◌, inl, inr, ◌<◌
 use Rattle.std.proofs.lemmas.Bool.{eq-eqb, eqb-true, ltb-true}
 use Rattle.herm_model.specs.Lists.{total, range, list_of}
 use Rattle.herm_model.specs.Paths.{Path, are_apart}
-use Rattle.herm_model.specs.Values.{Kind, Cell, cell, Parts, no_parts, gap, part, part_at, place, set_part, size, opens, inside, cell_at, has_place, behind_gaps, readable_of, read_at, change_readable, change_behind, change_from, change_at, a_variant, a_record, a_callmessage, change_inside, change_part, set_at, names_of, names_in, count, count_in, copy_from, copy_in}
+use Rattle.herm_model.specs.Values.{Kind, Cell, cell, Parts, no_parts, gap, part, part_at, place, set_part, size, opens, inside, cell_at, has_place, behind_gaps, readable_of, read_at, change_readable, change_behind, change_from, change_at, a_variant, a_record, a_callmessage, change_inside, change_part, set_at}
+use Rattle.herm_model.specs.CellNames.{names_of, names_in, count, count_in, copy_from, copy_in}
 use Rattle.herm_model.specs.Finalising.{waits, finalised, finalised_in, pending, pending_in}
 use Rattle.herm_model.proofs.Lists.{not_true, total-append}
 use Rattle.herm_model.proofs.Renaming.{map-append}

@@ -1,9 +1,9 @@
 -- What comes before a fact is closed, and so are the facts of a full value with those of its path.
 use Rattle.std.proofs.Common.{◌≡◌, ℕ, suc, List, [], ◌∷◌, ◌++◌, Bool, true, false, cond, ◌||◌, ◌⊎◌, inl, inr, IsTrue, Option, Some, None, slice_get, option_map, is_some, is_none, ◌+◌, arith, refl, sym, ap, subst, subst₂, ◌∙◌, append_assoc, append-nil, true≢false}
 use Rattle.std.proofs.Math.Bool.{or-false, or_assoc}
-use Rattle.herm_model.specs.Lists.{IsIn, numbered, with_some, list_of}
+use Rattle.herm_model.specs.Lists.{IsIn, numbered, map_or, list_of}
 use Rattle.herm_model.specs.Paths.{Path, Fact, init, case, path_of, parent}
-use Rattle.herm_model.specs.Types.{Mode, by_in, by_inout, by_out, Parameter, filled, if_filled, Shape, fields, callmessage, TypeTable, part_of, part_type, is_variant, is_cases, type_below, type_at, enters_component, passes_component, full_parts, Leads, steps, is_within_depth, greatest_depth}
+use Rattle.herm_model.specs.Types.{Mode, by_in, by_inout, by_out, Parameter, filled, if_filled, Shape, fields, callmessage, TypeTable, part_of, part_type, is_variant, is_cases, type_below, type_at, enters_component, passes_component, full_parts, IsPartPath, part_paths, is_within_depth, greatest_depth}
 use Rattle.herm_model.specs.Facts.{facts_from, facts_to, prefixes, with_prefixes, IsClosed, full_facts}
 use Rattle.herm_model.proofs.Steps.{full-named, steps-listed, steps-lead}
 use Rattle.herm_model.proofs.Beginnings.{Begins}
@@ -34,7 +34,7 @@ filled-get i u k (p ∷ ps) h = by p.mode (filled-get i u (suc k) ps) h
     by by_inout again (inr x) = further (again x)
     by by_out again x = further (again x)
 
-pub full-part : (o : Option Shape) (i u : ℕ) → IsIn (i, u) (list_of full_parts o) → with_some None (λ s. part_type s i) o ≡ Some u
+pub full-part : (o : Option Shape) (i u : ℕ) → IsIn (i, u) (list_of full_parts o) → map_or None (λ s. part_type s i) o ≡ Some u
 full-part (Some (fields ts)) i u h = let r = numbered-get i u 0 ts h in ap (slice_get ts) (r.1 ∙ omega arith) ∙ r.2
 full-part (Some (callmessage ps raises)) i u h = let r = filled-get i u 0 ps h in ap (λ j. option_map (λ p. p.content) (slice_get ps j)) (r.1 ∙ omega arith) ∙ r.2
 full-part o i u h = absurd h
@@ -150,12 +150,12 @@ module _ (table : TypeTable) where
       by again (inr b) = mid again (in-append_cases f (component at t i) (onward at t w i (p ++ r)) b)
 
   -- steps through full parts pass no component
-  pub full-open : (o : Option Shape) (i u : ℕ) → IsIn (i, u) (list_of full_parts o) → with_some false (λ s. is_cases s) o ≡ false
+  pub full-open : (o : Option Shape) (i u : ℕ) → IsIn (i, u) (list_of full_parts o) → map_or false (λ s. is_cases s) o ≡ false
   full-open (Some (fields ts)) i u h = refl
   full-open (Some (callmessage ps raises)) i u h = refl
   full-open o i u h = absurd h
 
-  pub leads-begins : (parts : Shape → List (ℕ × ℕ)) (t : ℕ) (q r : List ℕ) → Leads parts table t (q ++ r) → Leads parts table t q
+  pub leads-begins : (parts : Shape → List (ℕ × ℕ)) (t : ℕ) (q r : List ℕ) → IsPartPath parts table t (q ++ r) → IsPartPath parts table t q
   leads-begins parts t [] [] h = h
   leads-begins parts t [] (i ∷ r) h = there (slice_get table t) h.1
     where
@@ -165,7 +165,7 @@ module _ (table : TypeTable) where
   leads-begins parts t (i ∷ q) r h = (h.0, h.1, leads-begins parts h.0 q r h.2)
 
   -- behind a full value's path every fact on the way is that there is a value
-  full-facts_from : (at : Path) (t : ℕ) (p : List ℕ) (f : Fact) → Leads full_parts table t p → IsIn f (facts_from table at (Some t) false p) → (q : List ℕ) × Begins q p × (f ≡ init (at ++ q))
+  full-facts_from : (at : Path) (t : ℕ) (p : List ℕ) (f : Fact) → IsPartPath full_parts table t p → IsIn f (facts_from table at (Some t) false p) → (q : List ℕ) × Begins q p × (f ≡ init (at ++ q))
   full-facts_from at t [] f l (inl e) = ([], ([], refl), e ∙ ap init (sym (append-nil at)))
   full-facts_from at t [] f l (inr h) = absurd h
   full-facts_from at t (i ∷ p) f l h =
@@ -180,12 +180,12 @@ module _ (table : TypeTable) where
     abbrev FullSet : Path → ℕ → Fact → Type 0
     FullSet p t f = IsIn f (facts_to table variables p) ⊎ IsIn f (full_facts table t p)
 
-    longer-full : (v t : ℕ) (p q : List ℕ) (f : Fact) → type_at table variables (v ∷ p) ≡ Some t → passes_component table variables (v ∷ p) ≡ false → IsTrue (is_within_depth greatest_depth table t) → Leads full_parts table t q → IsIn f (facts_to table variables ((v ∷ p) ++ q)) → FullSet (v ∷ p) t f
+    longer-full : (v t : ℕ) (p q : List ℕ) (f : Fact) → type_at table variables (v ∷ p) ≡ Some t → passes_component table variables (v ∷ p) ≡ false → IsTrue (is_within_depth greatest_depth table t) → IsPartPath full_parts table t q → IsIn f (facts_to table variables ((v ∷ p) ++ q)) → FullSet (v ∷ p) t f
     longer-full v t p q f e n w l h = by (split (v ∷ []) (slice_get variables v) false p q f h)
       where
         listed : (r : List ℕ) × Begins r q × (f ≡ init ((v ∷ p) ++ r)) → IsIn f (full_facts table t (v ∷ p))
         listed r = subst (λ g. IsIn g (full_facts table t (v ∷ p))) (sym r.2)
-            (in-map (λ s. init ((v ∷ p) ++ s)) r.0 (steps full_parts table t) (steps-listed full_parts table full-named greatest_depth t w r.0 (leads-begins full_parts t r.0 r.1.0 (subst (Leads full_parts table t) r.1.1 l))))
+            (in-map (λ s. init ((v ∷ p) ++ s)) r.0 (part_paths full_parts table t) (steps-listed full_parts table full-named greatest_depth t w r.0 (leads-begins full_parts t r.0 r.1.0 (subst (IsPartPath full_parts table t) r.1.1 l))))
 
         by : IsIn f (facts_from table (v ∷ []) (slice_get variables v) false p) ⊎ IsIn f (facts_from table (v ∷ p) (type_below table (slice_get variables v) p) (enters_component table (slice_get variables v) p) q) → FullSet (v ∷ p) t f
         by (inl a) = inl a
@@ -195,5 +195,5 @@ module _ (table : TypeTable) where
     full-closed [] t e n w f g h k = absurd (true≢false (ap is_none e))
     full-closed (v ∷ p) t e n w f g (inl h) k = inl (to-closed variables (v ∷ p) f g h k)
     full-closed (v ∷ p) t e n w f g (inr h) k =
-        let r = in-map_from (λ s. init ((v ∷ p) ++ s)) f (steps full_parts table t) h in
+        let r = in-map_from (λ s. init ((v ∷ p) ++ s)) f (part_paths full_parts table t) h in
         longer-full v t p r.0 g e n w (steps-lead full_parts table greatest_depth t r.0 r.1) (subst (λ x. IsIn g (facts_to table variables x)) (ap path_of r.2) (before-path variables f g k))

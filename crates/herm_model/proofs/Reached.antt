@@ -5,9 +5,9 @@ use Rattle.herm_model.specs.Lists.{IsIn}
 use Rattle.herm_model.specs.Paths.{Fact, init}
 use Rattle.herm_model.specs.Statements.{Differ}
 use Rattle.herm_model.specs.Outcomes.{Outcome, ok, is_true, is_false, turn, done, component, arm, raised, same_outcome}
-use Rattle.herm_model.specs.Nodes.{Target, node}
-use Rattle.herm_model.specs.Control.{Edge, Point, Flow, Hop, Standing, held_behind, held_at_start, walk, edge_at, edge_from, IsReached}
-use Rattle.herm_model.specs.FlowLaws.{EdgesDiffer, IsLedTo, begins, goes_on}
+use Rattle.herm_model.specs.Targets.{Target, node}
+use Rattle.herm_model.specs.ControlPaths.{Edge, Point, Flow, Hop, Standing, held_after_edge, held_at_start, walk, edge_at, edge_from, IsReached}
+use Rattle.herm_model.specs.laws.FlowLaws.{EdgesDiffer, IsLedTo, begins, goes_on}
 use Rattle.herm_model.proofs.Lists.{in-map}
 use Rattle.herm_model.proofs.FactTests.{got-IsIn}
 use Rattle.herm_model.proofs.Walks.{edge_from-IsEdgeOf, IsEdgeOf, same_here, same_held}
@@ -23,9 +23,9 @@ walk-IsLedTo flow f (hop ∷ hops) here there held value led leads =
   where
     go : (o : Option Edge) → edge_from flow here hop ≡ o
         → ((here : Target) (held : Bool) → IsLedTo flow here → walk flow f hops here held ≡ Some (record { here = there; held = value }) → IsLedTo flow there)
-        → option_and_then (λ (e : Edge). walk flow f hops e.target (held_behind e f held)) o ≡ Some (record { here = there; held = value }) → IsLedTo flow there
+        → option_and_then (λ (e : Edge). walk flow f hops e.target (held_after_edge e f held)) o ≡ Some (record { here = there; held = value }) → IsLedTo flow there
     go None is later leads = absurd (let k : ⊥ = cc in k)
-    go (Some e) is later leads = later e.target (held_behind e f held) (hop-IsLedTo flow here e led (edge_from-IsEdgeOf flow here hop e is)) leads
+    go (Some e) is later leads = later e.target (held_after_edge e f held) (hop-IsLedTo flow here e led (edge_from-IsEdgeOf flow here hop e is)) leads
 
 -- outcomes that are the same are equal, and each is the same as itself
 pub same_outcome-is : (o q : Outcome) → same_outcome o q ≡ true → o ≡ q
@@ -78,20 +78,20 @@ abbrev pub standing_at : Target → Bool → Option Standing
 standing_at t held = Some (record { here = t; held = held })
 
 -- one hop more at the end of a walk
-pub walk-more : (flow : Flow) (f : Fact) (hops : List Hop) (hop : Hop) (here there : Target) (held value : Bool) (e : Edge) → walk flow f hops here held ≡ standing_at there value → edge_from flow there hop ≡ Some e → walk flow f (hops ++ hop ∷ []) here held ≡ standing_at e.target (held_behind e f value)
+pub walk-more : (flow : Flow) (f : Fact) (hops : List Hop) (hop : Hop) (here there : Target) (held value : Bool) (e : Edge) → walk flow f hops here held ≡ standing_at there value → edge_from flow there hop ≡ Some e → walk flow f (hops ++ hop ∷ []) here held ≡ standing_at e.target (held_after_edge e f value)
 walk-more flow f [] hop here there held value e leads is =
     let moved : edge_from flow here hop ≡ Some e = subst (λ t. edge_from flow t hop ≡ Some e) (sym (same_here _ _ leads)) is in
-    ap (option_and_then (λ (d : Edge). standing_at d.target (held_behind d f held))) moved
-    ∙ ap (λ v. standing_at e.target (held_behind e f v)) (same_held _ _ leads)
+    ap (option_and_then (λ (d : Edge). standing_at d.target (held_after_edge d f held))) moved
+    ∙ ap (λ v. standing_at e.target (held_after_edge e f v)) (same_held _ _ leads)
 walk-more flow f (first ∷ hops) hop here there held value e leads is =
     go (edge_from flow here first) (λ here held. walk-more flow f hops hop here there held value e) leads
   where
     go : (o : Option Edge)
-        → ((here : Target) (held : Bool) → walk flow f hops here held ≡ standing_at there value → edge_from flow there hop ≡ Some e → walk flow f (hops ++ hop ∷ []) here held ≡ standing_at e.target (held_behind e f value))
-        → option_and_then (λ (d : Edge). walk flow f hops d.target (held_behind d f held)) o ≡ standing_at there value
-        → option_and_then (λ (d : Edge). walk flow f (hops ++ hop ∷ []) d.target (held_behind d f held)) o ≡ standing_at e.target (held_behind e f value)
+        → ((here : Target) (held : Bool) → walk flow f hops here held ≡ standing_at there value → edge_from flow there hop ≡ Some e → walk flow f (hops ++ hop ∷ []) here held ≡ standing_at e.target (held_after_edge e f value))
+        → option_and_then (λ (d : Edge). walk flow f hops d.target (held_after_edge d f held)) o ≡ standing_at there value
+        → option_and_then (λ (d : Edge). walk flow f (hops ++ hop ∷ []) d.target (held_after_edge d f held)) o ≡ standing_at e.target (held_after_edge e f value)
     go None later leads = absurd (let k : ⊥ = cc in k)
-    go (Some d) later leads = later d.target (held_behind d f held) leads is
+    go (Some d) later leads = later d.target (held_after_edge d f held) leads is
 
 led-IsReached : (flow : Flow) → EdgesDiffer flow → (t : Target) → IsLedTo flow t → IsReached flow t
 led-IsReached flow differ _ begins = ([], held_at_start (init (0 ∷ [])), refl)
@@ -101,7 +101,7 @@ led-IsReached flow differ _ (goes_on i p e led at member) = more (led-IsReached 
     more r =
         let taken = hop-taken flow differ i p e at (got-IsIn flow.points i p at) member in (
           r.0 ++ hop_by p e ∷ [],
-          held_behind e (init (0 ∷ [])) r.1,
+          held_after_edge e (init (0 ∷ [])) r.1,
           walk-more flow (init (0 ∷ [])) r.0 (hop_by p e) flow.entry (node i) (held_at_start (init (0 ∷ []))) r.1 e r.2 taken,
         )
 

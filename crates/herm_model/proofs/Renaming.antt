@@ -2,7 +2,9 @@
 use Rattle.std.proofs.Common.{◌≡◌, ℕ, zero, suc, ◌+◌, max, List, [], ◌∷◌, ◌++◌, map, Bool, true, false, cond, not, ◌&&◌, ◌||◌, Option, Some, None, option_map, is_some, refl, sym, ap, ap₂, ◌∙◌}
 use Rattle.herm_model.specs.Lists.{list_of}
 use Rattle.herm_model.specs.Paths.{Path, Fact, init, case}
-use Rattle.herm_model.specs.Values.{Scalar, a_callmessage, a_record, Kind, a_scalar, a_variant, Cell, cell, Parts, no_parts, gap, gaps, part, part_at, place, set_part, size, joined, opens, inside, cell_at, has_value, change_inside, change_part, set_at, behind_gaps, readable_of, read_at, change_readable, change_behind, change_from, change_at, is_component, tells, names_of, names_in, count, count_in, copy_from, copy_in, rename, rename_in, deeper, polymorph_depth, depth_in}
+use Rattle.herm_model.specs.Values.{Scalar, a_callmessage, a_record, Kind, a_scalar, a_variant, Cell, cell, Parts, no_parts, gap, gaps, part, part_at, place, set_part, size, joined, opens, inside, cell_at, has_value, change_inside, change_part, set_at, behind_gaps, readable_of, read_at, change_readable, change_behind, change_from, change_at, deeper, polymorph_depth, depth_in}
+use Rattle.herm_model.specs.CellNames.{names_of, names_in, count, count_in, copy_from, copy_in, rename, rename_in}
+use Rattle.herm_model.specs.FactsOfValues.{is_component, satisfies}
 use Rattle.herm_model.specs.Tables.{scalars_of, key_of, same_key, has_key, place_of_key, has_distinct_keys, without_part}
 use Rattle.herm_model.specs.Finalising.{waits, finalised, finalised_in, pending, pending_in, cells_at, clear_all}
 use Rattle.herm_model.specs.Texts.{opening, closing, text_of, parts_text}
@@ -59,7 +61,7 @@ module _ {N M : Type 0} (f : N → M) where
   is_component-rename (Some (cell n (a_variant d) ps)) c = refl
   is_component-rename (Some (cell n k ps)) c = refl
 
-  pub tells-rename : (ps : Parts N) (g : Fact) → tells (rename_in f ps) g ≡ tells ps g
+  pub tells-rename : (ps : Parts N) (g : Fact) → satisfies (rename_in f ps) g ≡ satisfies ps g
   tells-rename ps (init p) = has_value-rename ps p
   tells-rename ps (case p c) = ap (λ o. is_component o c) (read_at-rename p ps) ∙ is_component-rename (read_at p ps) c
 

@@ -1,7 +1,7 @@
 -- The steps of a type are those that lead; the test of copyable types is the smallest set.
 use Rattle.std.proofs.Common.{◌≡◌, ℕ, zero, suc, List, [], ◌∷◌, ◌++◌, ap₂, ◌&&◌, map, flat_map, Bool, false, inl, inr, IsTrue, Option, Some, None, is_some, slice_get, refl, sym, ap, subst}
-use Rattle.herm_model.specs.Lists.{IsIn, every, with_some, list_of}
-use Rattle.herm_model.specs.Types.{Mode, by_in, by_inout, by_out, Parameter, Shape, fields, cases, callmessage, TypeTable, named_types, is_within_depth, filled, if_filled, full_parts, held_parts, all_parts, Leads, steps_within}
+use Rattle.herm_model.specs.Lists.{IsIn, all_pass, map_or, list_of}
+use Rattle.herm_model.specs.Types.{Mode, by_in, by_inout, by_out, Parameter, Shape, fields, cases, callmessage, TypeTable, named_types, is_within_depth, filled, if_filled, full_parts, held_parts, all_parts, IsPartPath, part_paths_within}
 use Rattle.herm_model.proofs.Lists.{cons-not_nil, cons-head, cons-tail, not_true, and-both, both-and, in-every, in-map, in-map_from, in-flat_map, in-flat_map_from, every-in, numbered-in}
 
 -- a choice of parts takes them from the types that the shape names
@@ -43,20 +43,20 @@ pub within-known : (table : TypeTable) (n u : ℕ) → IsTrue (is_within_depth n
 within-known table zero u w = not_true w
 within-known table (suc n) u w = there (slice_get table u) w
   where
-    there : (o : Option Shape) → IsTrue (with_some false (λ s. every (is_within_depth n table) (named_types s)) o) → IsTrue (is_some o)
+    there : (o : Option Shape) → IsTrue (map_or false (λ s. all_pass (is_within_depth n table) (named_types s)) o) → IsTrue (is_some o)
     there None w = not_true w
     there (Some s) w = refl
 
 module _ (parts : Shape → List (ℕ × ℕ)) (table : TypeTable) where
   abbrev pub LeadsOf : Option Shape → List ℕ → Type 0
   LeadsOf o [] = IsTrue (is_some o)
-  LeadsOf o (i ∷ p) = (u : ℕ) × IsIn (i, u) (list_of parts o) × Leads parts table u p
+  LeadsOf o (i ∷ p) = (u : ℕ) × IsIn (i, u) (list_of parts o) × IsPartPath parts table u p
 
   abbrev below : (ℕ → List (List ℕ)) → Option Shape → List (List ℕ)
-  below next o = with_some [] (λ s. [] ∷ flat_map (λ part. map (part.0 ∷◌) (next part.1)) (parts s)) o
+  below next o = map_or [] (λ s. [] ∷ flat_map (λ part. map (part.0 ∷◌) (next part.1)) (parts s)) o
 
   -- what is listed leads
-  below-leads : (next : ℕ → List (List ℕ)) (o : Option Shape) → ((u : ℕ) (q : List ℕ) → IsIn q (next u) → Leads parts table u q) → (p : List ℕ) → IsIn p (below next o) → LeadsOf o p
+  below-leads : (next : ℕ → List (List ℕ)) (o : Option Shape) → ((u : ℕ) (q : List ℕ) → IsIn q (next u) → IsPartPath parts table u q) → (p : List ℕ) → IsIn p (below next o) → LeadsOf o p
   below-leads next None again p h = absurd h
   below-leads next (Some s) again [] h = refl
   below-leads next (Some s) again (i ∷ p) (inl e) = cons-not_nil i p e
@@ -65,26 +65,26 @@ module _ (parts : Shape → List (ℕ × ℕ)) (table : TypeTable) where
       let q = in-map_from (r.0.0 ∷◌) (i ∷ p) (next r.0.1) r.2 in
       (r.0.1, subst (λ j. IsIn (j, r.0.1) (parts s)) (sym (cons-head q.2)) r.1, again r.0.1 p (subst (λ l. IsIn l (next r.0.1)) (sym (cons-tail q.2)) q.1))
 
-  pub steps-lead : (n t : ℕ) (p : List ℕ) → IsIn p (steps_within parts n table t) → Leads parts table t p
+  pub steps-lead : (n t : ℕ) (p : List ℕ) → IsIn p (part_paths_within parts n table t) → IsPartPath parts table t p
   steps-lead zero t p h = absurd h
-  steps-lead (suc n) t [] h = below-leads (steps_within parts n table) (slice_get table t) (steps-lead n) [] h
-  steps-lead (suc n) t (i ∷ p) h = below-leads (steps_within parts n table) (slice_get table t) (steps-lead n) (i ∷ p) h
+  steps-lead (suc n) t [] h = below-leads (part_paths_within parts n table) (slice_get table t) (steps-lead n) [] h
+  steps-lead (suc n) t (i ∷ p) h = below-leads (part_paths_within parts n table) (slice_get table t) (steps-lead n) (i ∷ p) h
 
   -- what leads is listed
-  below-listed : (named : IsOfNamed parts) (next : ℕ → List (List ℕ)) (within : ℕ → Bool) (o : Option Shape) → IsTrue (with_some false (λ s. every within (named_types s)) o) → ((u : ℕ) → IsTrue (within u) → (q : List ℕ) → Leads parts table u q → IsIn q (next u)) → (p : List ℕ) → LeadsOf o p → IsIn p (below next o)
+  below-listed : (named : IsOfNamed parts) (next : ℕ → List (List ℕ)) (within : ℕ → Bool) (o : Option Shape) → IsTrue (map_or false (λ s. all_pass within (named_types s)) o) → ((u : ℕ) → IsTrue (within u) → (q : List ℕ) → IsPartPath parts table u q → IsIn q (next u)) → (p : List ℕ) → LeadsOf o p → IsIn p (below next o)
   below-listed named next within None w again p h = not_true w
   below-listed named next within (Some s) w again [] h = inl refl
   below-listed named next within (Some s) w again (i ∷ p) h =
       inr (in-flat_map (λ (part : ℕ × ℕ). map (part.0 ∷◌) (next part.1)) (i, h.0) (i ∷ p) (parts s) h.1
       (in-map (i ∷◌) p (next h.0) (again h.0 (every-in within h.0 (named_types s) w (named s i h.0 h.1)) p h.2)))
 
-  pub steps-listed : (named : IsOfNamed parts) (n t : ℕ) → IsTrue (is_within_depth n table t) → (p : List ℕ) → Leads parts table t p → IsIn p (steps_within parts n table t)
+  pub steps-listed : (named : IsOfNamed parts) (n t : ℕ) → IsTrue (is_within_depth n table t) → (p : List ℕ) → IsPartPath parts table t p → IsIn p (part_paths_within parts n table t)
   steps-listed named zero t w p h = not_true w
-  steps-listed named (suc n) t w [] h = below-listed named (steps_within parts n table) (is_within_depth n table) (slice_get table t) w (steps-listed named n) [] h
-  steps-listed named (suc n) t w (i ∷ p) h = below-listed named (steps_within parts n table) (is_within_depth n table) (slice_get table t) w (steps-listed named n) (i ∷ p) h
+  steps-listed named (suc n) t w [] h = below-listed named (part_paths_within parts n table) (is_within_depth n table) (slice_get table t) w (steps-listed named n) [] h
+  steps-listed named (suc n) t w (i ∷ p) h = below-listed named (part_paths_within parts n table) (is_within_depth n table) (slice_get table t) w (steps-listed named n) (i ∷ p) h
 
   -- one more than enough gives the same
-  below-same : (named : IsOfNamed parts) (next other : ℕ → List (List ℕ)) (within : ℕ → Bool) (o : Option Shape) → IsTrue (with_some false (λ s. every within (named_types s)) o) → ((u : ℕ) → IsTrue (within u) → next u ≡ other u) → below next o ≡ below other o
+  below-same : (named : IsOfNamed parts) (next other : ℕ → List (List ℕ)) (within : ℕ → Bool) (o : Option Shape) → IsTrue (map_or false (λ s. all_pass within (named_types s)) o) → ((u : ℕ) → IsTrue (within u) → next u ≡ other u) → below next o ≡ below other o
   below-same named next other within None w again = refl
   below-same named next other within (Some s) w again = ap ([] ∷◌) (same (parts s) (λ i u h. again u (every-in within u (named_types s) w (named s i u h))))
     where
@@ -92,11 +92,11 @@ module _ (parts : Shape → List (ℕ × ℕ)) (table : TypeTable) where
       same [] each = refl
       same (p ∷ ps) each = ap₂ ◌++◌ (ap (map (p.0 ∷◌)) (each p.0 p.1 (inl refl))) (same ps (λ i u h. each i u (inr h)))
 
-  pub steps-same : (named : IsOfNamed parts) (n m t : ℕ) → IsTrue (is_within_depth n table t) → IsTrue (is_within_depth m table t) → steps_within parts n table t ≡ steps_within parts m table t
+  pub steps-same : (named : IsOfNamed parts) (n m t : ℕ) → IsTrue (is_within_depth n table t) → IsTrue (is_within_depth m table t) → part_paths_within parts n table t ≡ part_paths_within parts m table t
   steps-same named zero m t w v = not_true w
   steps-same named (suc n) zero t w v = not_true v
-  steps-same named (suc n) (suc m) t w v = below-same named (steps_within parts n table) (steps_within parts m table) (λ u. is_within_depth n table u && is_within_depth m table u) (slice_get table t) (both_within (slice_get table t) w v) (λ u h. steps-same named n m u (and-both (is_within_depth n table u) _ h).0 (and-both (is_within_depth n table u) _ h).1)
+  steps-same named (suc n) (suc m) t w v = below-same named (part_paths_within parts n table) (part_paths_within parts m table) (λ u. is_within_depth n table u && is_within_depth m table u) (slice_get table t) (both_within (slice_get table t) w v) (λ u h. steps-same named n m u (and-both (is_within_depth n table u) _ h).0 (and-both (is_within_depth n table u) _ h).1)
     where
-      both_within : (o : Option Shape) → IsTrue (with_some false (λ s. every (is_within_depth n table) (named_types s)) o) → IsTrue (with_some false (λ s. every (is_within_depth m table) (named_types s)) o) → IsTrue (with_some false (λ s. every (λ u. is_within_depth n table u && is_within_depth m table u) (named_types s)) o)
+      both_within : (o : Option Shape) → IsTrue (map_or false (λ s. all_pass (is_within_depth n table) (named_types s)) o) → IsTrue (map_or false (λ s. all_pass (is_within_depth m table) (named_types s)) o) → IsTrue (map_or false (λ s. all_pass (λ u. is_within_depth n table u && is_within_depth m table u) (named_types s)) o)
       both_within None w v = w
       both_within (Some s) w v = in-every (λ u. is_within_depth n table u && is_within_depth m table u) (named_types s) (λ x i. both-and (is_within_depth n table x) _ (every-in (is_within_depth n table) x (named_types s) w i) (every-in (is_within_depth m table) x (named_types s) v i))

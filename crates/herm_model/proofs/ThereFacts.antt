@@ -1,15 +1,16 @@
 -- The facts of typed statements, of messages and of control paths are facts that there are; calls and what they declare.
 use Rattle.std.proofs.Common.{◌≡◌, ℕ, List, [], ◌∷◌, map, Bool, true, false, cond, ◌⊎◌, inl, inr, nat_eq, Option, Some, None, is_some, option_and_then, refl, sym, ap, subst, ◌∙◌, true≢false}
 use Rattle.std.proofs.lemmas.Bool.{eqb-true}
-use Rattle.herm_model.specs.Lists.{IsIn, some_of, with_some, list_of}
+use Rattle.herm_model.specs.Lists.{IsIn, any_pass, map_or, list_of}
 use Rattle.herm_model.specs.Paths.{Path, Fact, init, case, path_of, same_fact, is_at_or_below}
 use Rattle.herm_model.specs.Types.{Raised, inport, callmessage, TypeTable}
 use Rattle.herm_model.specs.Facts.{said_at, message_facts, message_of, IsFactOf}
 use Rattle.herm_model.specs.Statements.{Process, Differ}
 use Rattle.herm_model.specs.Outcomes.{disconnected, outcomes}
-use Rattle.herm_model.specs.Nodes.{Target, Node, Exit, exits, process_nodes}
+use Rattle.herm_model.specs.Nodes.{Node, Exit, exits, process_nodes}
+use Rattle.herm_model.specs.Targets.{Target}
 use Rattle.herm_model.specs.Calls.{call_raises, kept_for}
-use Rattle.herm_model.specs.Control.{Edge, edge, Point, point, flow_of, Hop, held_behind, held_at_start, walk, edge_from, Leads}
+use Rattle.herm_model.specs.ControlPaths.{Edge, edge, Point, point, flow_of, Hop, held_after_edge, held_at_start, walk, edge_from, IsControlPath}
 use Rattle.herm_model.specs.WellFormedTables.{IsFieldPath, IsOfField, IsOfFullField, field_type, field_below, IsWellFormedTable}
 use Rattle.herm_model.specs.TypedPrograms.{IsTypedProcess}
 use Rattle.herm_model.specs.laws.TypedFactLaws.{FullFactsAreThere, DeclaredFactsAreThere, ListedFactsAreThere, TypedFormsHaveTheirFacts, HeldFactsAreThere, TypedCallsDeclare, CallmessagesTravelFull}
@@ -32,7 +33,7 @@ listed-there exceptions table port message declared well h f i = declared-facts 
 
 pub declared-there : DeclaredFactsAreThere
 declared-there exceptions table variables port message declared p well h e n f i =
-    let r = in-map_from (said_at p) f (message_facts table message declared) (subst (λ o. IsIn f (with_some [] (λ s. list_of (λ m. map (said_at p) (message_facts table m.0 m.1)) (message_of s)) o)) h i) in
+    let r = in-map_from (said_at p) f (message_facts table message declared) (subst (λ o. IsIn f (map_or [] (λ s. list_of (λ m. map (said_at p) (message_facts table m.0 m.1)) (message_of s)) o)) h i) in
     subst (IsFactOf table variables) (sym r.2) (said-fact table variables p message r.0 e n (message-facts table message declared (well.facts_of_fields port (inport message declared) h) r.0 r.1))
 
 pub form-facts : TypedFormsHaveTheirFacts
@@ -45,10 +46,10 @@ form-facts exceptions table variables processes form well typed =
     }
 
 -- what is held behind an edge was held before it, or is made
-behind-there : (e : Edge) (f : Fact) (before : Bool) → held_behind e f before ≡ true → IsIn f e.makes ⊎ (before ≡ true)
-behind-there e f before h = by (some_of (same_fact f) e.makes) refl (some_of (λ p. is_at_or_below p (path_of f)) e.kills) h
+behind-there : (e : Edge) (f : Fact) (before : Bool) → held_after_edge e f before ≡ true → IsIn f e.makes ⊎ (before ≡ true)
+behind-there e f before h = by (any_pass (same_fact f) e.makes) refl (any_pass (λ p. is_at_or_below p (path_of f)) e.kills) h
   where
-    by : (made : Bool) → some_of (same_fact f) e.makes ≡ made → (gone : Bool) → cond made true (cond gone false before) ≡ true → IsIn f e.makes ⊎ (before ≡ true)
+    by : (made : Bool) → any_pass (same_fact f) e.makes ≡ made → (gone : Bool) → cond made true (cond gone false before) ≡ true → IsIn f e.makes ⊎ (before ≡ true)
     by true m gone h = inl (listed-IsIn f e.makes m)
     by false m true h = absurd (true≢false (sym h))
     by false m false h = inr h
@@ -72,9 +73,9 @@ module _ (exceptions : ℕ) (table : TypeTable) (processes : List Process) (p : 
     where
       go : (o : Option Edge) → edge_from (flow_of table p) here hop ≡ o
           → ((here : Target) (before : Bool) → (before ≡ true → IsFactOf table p.variables f) → walk (flow_of table p) f hops here before ≡ standing_at there after → after ≡ true → IsFactOf table p.variables f)
-          → option_and_then (λ (e : Edge). walk (flow_of table p) f hops e.target (held_behind e f before)) o ≡ standing_at there after → IsFactOf table p.variables f
+          → option_and_then (λ (e : Edge). walk (flow_of table p) f hops e.target (held_after_edge e f before)) o ≡ standing_at there after → IsFactOf table p.variables f
       go None is later leads = absurd (let k : ⊥ = cc in k)
-      go (Some e) is later leads = later e.target (held_behind e f before) (λ b. behind (behind-there e f before b)) leads h
+      go (Some e) is later leads = later e.target (held_after_edge e f before) (λ b. behind (behind-there e f before b)) leads h
         where
           behind : IsIn f e.makes ⊎ (before ≡ true) → IsFactOf table p.variables f
           behind (inl made) = edge-there here e (edge_from-IsEdgeOf (flow_of table p) here hop e is) f made
@@ -83,7 +84,7 @@ module _ (exceptions : ℕ) (table : TypeTable) (processes : List Process) (p : 
   start-there : (f : Fact) → held_at_start f ≡ true → IsFactOf table p.variables f
   start-there f h = subst (IsFactOf table p.variables) (sym (same_fact-is f (init (0 ∷ [])) h)) (ap is_some (typed.port).3, refl)
 
-  held-there : (hops : List Hop) (there : Target) (f : Fact) → Leads (flow_of table p) f hops there true → IsFactOf table p.variables f
+  held-there : (hops : List Hop) (there : Target) (f : Fact) → IsControlPath (flow_of table p) f hops there true → IsFactOf table p.variables f
   held-there hops there f leads = walk-there f hops (flow_of table p).entry there (held_at_start f) true (start-there f) leads refl
 
 pub held-facts : HeldFactsAreThere

@@ -4,7 +4,7 @@ use Rattle.herm_model.specs.Lists.{IsIn, list_of}
 use Rattle.herm_model.specs.Paths.{Path, are_apart}
 use Rattle.herm_model.specs.Types.{Mode, by_in, by_inout, by_out, Parameter, Raised, TypeTable, callmessage, is_within_depth, greatest_depth}
 use Rattle.herm_model.specs.Expressions.{Atom, literal, path}
-use Rattle.herm_model.specs.FlowLaws.{Rise}
+use Rattle.herm_model.specs.laws.FlowLaws.{Rise}
 use Rattle.herm_model.specs.Calls.{kept_for, is_returned, arguments_by, argument_path}
 use Rattle.herm_model.specs.TypedStatements.{AreApart, IsTarget, IsArgument, AreArguments}
 use Rattle.herm_model.specs.laws.ArgumentLaws.{AreTargetsOf, types_by, types_at, TypedArgumentsFit}

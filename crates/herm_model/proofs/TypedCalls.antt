@@ -1,6 +1,6 @@
 -- What typed calls and returns say of their arguments and parameters.
 use Rattle.std.proofs.Common.{◌≡◌, ℕ, zero, suc, ◌+◌, List, [], ◌∷◌, ◌++◌, Bool, true, false, cond, inl, inr, nat_eq, Some, None, option_map, slice_get, option_and_then, IsTrue, IsFalse, refl, sym, ap, subst, ◌∙◌, arith}
-use Rattle.herm_model.specs.Lists.{IsIn, with_some, list_of}
+use Rattle.herm_model.specs.Lists.{IsIn, map_or, list_of}
 use Rattle.herm_model.specs.Paths.{Path}
 use Rattle.herm_model.specs.Types.{Mode, by_in, by_inout, by_out, Parameter, Raised, Shape, outport, callmessage, TypeTable, part_type, part_of, type_at, passes_component, is_variant, is_cases}
 use Rattle.herm_model.specs.Expressions.{Atom, literal, path}
@@ -62,8 +62,8 @@ module _ (table : TypeTable) (variables : List ℕ) where
       → (type_at table variables (m ++ i ∷ []) ≡ Some p.content) × IsFalse (passes_component table variables (m ++ i ∷ []))
   parameter-path [] t i ps rs p m h e = none-not_some (m.0).0
   parameter-path (v ∷ m) t i ps rs p s h e = (
-    at-append table variables v m (i ∷ []) ∙ ap (λ o. part_of table o i) (s.0).0 ∙ ap (with_some None (λ s. part_type s i)) h ∙ ap (option_map (λ (p : Parameter). p.content)) e,
-    passes-append table variables v m (i ∷ []) ∙ falses-or _ _ s.1 (falses-or (is_variant table (type_at table variables (v ∷ m))) _ (ap (is_variant table) (s.0).0 ∙ ap (with_some false (λ s. is_cases s)) h) refl),
+    at-append table variables v m (i ∷ []) ∙ ap (λ o. part_of table o i) (s.0).0 ∙ ap (map_or None (λ s. part_type s i)) h ∙ ap (option_map (λ (p : Parameter). p.content)) e,
+    passes-append table variables v m (i ∷ []) ∙ falses-or _ _ s.1 (falses-or (is_variant table (type_at table variables (v ∷ m))) _ (ap (is_variant table) (s.0).0 ∙ ap (map_or false (λ s. is_cases s)) h) refl),
   )
 
   -- a given argument has a type, and one that comes back is a target

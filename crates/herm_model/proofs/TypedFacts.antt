@@ -1,8 +1,8 @@
 -- Facts of full values and of messages are facts that there are.
 use Rattle.std.proofs.Common.{◌≡◌, ℕ, zero, suc, ◌<◌, List, [], ◌∷◌, ◌++◌, flat_map, Bool, true, false, cond, ◌⊎◌, inl, inr, Option, Some, None, is_some, slice_get, option_and_then, IsTrue, IsFalse, refl, sym, ap, subst, ◌∙◌, arith}
-use Rattle.herm_model.specs.Lists.{IsIn, with_some, list_of}
+use Rattle.herm_model.specs.Lists.{IsIn, map_or, list_of}
 use Rattle.herm_model.specs.Paths.{Path, Fact, init, case}
-use Rattle.herm_model.specs.Types.{Shape, fields, inport, TypeTable, part_type, part_of, type_below, type_at, is_cases, is_variant, enters_component, passes_component, full_parts, steps, greatest_depth}
+use Rattle.herm_model.specs.Types.{Shape, fields, inport, TypeTable, part_type, part_of, type_below, type_at, is_cases, is_variant, enters_component, passes_component, full_parts, part_paths, greatest_depth}
 use Rattle.herm_model.specs.Facts.{with_prefixes, full_facts, said_at, message_facts, component_count, IsFactOf}
 use Rattle.herm_model.specs.StatementTable.{present, full, room_for, closed}
 use Rattle.herm_model.specs.WellFormedTables.{field_type, field_below, IsFieldPath, IsOfField, IsOfFullField, DeclaresFields}
@@ -36,9 +36,9 @@ module _ (table : TypeTable) where
       at_shape n None s e again = none-field q e
       at_shape n (Some (fields ts)) s e again =
           let r = again (slice_get ts i) e in
-          let part : part_of table (Some n) i ≡ slice_get ts i = ap (with_some None (λ s. part_type s i)) s in (
+          let part : part_of table (Some n) i ≡ slice_get ts i = ap (map_or None (λ s. part_type s i)) s in (
             ap (λ o. type_below table o q) part ∙ r.0,
-            falses-or (is_variant table (Some n)) _ (ap (with_some false (λ s. is_cases s)) s) (ap (λ o. enters_component table o q) part ∙ r.1),
+            falses-or (is_variant table (Some n)) _ (ap (map_or false (λ s. is_cases s)) s) (ap (λ o. enters_component table o q) part ∙ r.1),
           )
       at_shape n (Some s') s e again = none-field q e
 
@@ -82,7 +82,7 @@ module _ (table : TypeTable) where
 
     pub full-facts : (p : Path) (t : ℕ) → type_at table variables p ≡ Some t → IsFalse (passes_component table variables p) → AllAre table variables (full_facts table t p)
     full-facts p t e n g i =
-        let r = in-map_from (λ q. init (p ++ q)) g (steps full_parts table t) i in
+        let r = in-map_from (λ q. init (p ++ q)) g (part_paths full_parts table t) i in
         let l = leads-typed table r.0 t (steps-lead full_parts table greatest_depth t r.0 r.1) in
         subst (IsFactOf table variables) (sym r.2) (below-fact p t r.0 e n l.0 l.1)
 
@@ -110,10 +110,10 @@ module _ (table : TypeTable) where
     said-fact x message (init (suc v ∷ q)) e n h = not_true (typed-before table None q h.0)
     said-fact x message (case [] c) e n h = let z : ⊥ = omega arith in absurd z
     said-fact [] message (case (zero ∷ q) c) e n h = none-not_some e
-    said-fact (v ∷ p) message (case (zero ∷ q) c) e n h = subst (λ o. c < with_some 0 (λ t. with_some 0 component_count (slice_get table t)) o) (sym (at-append table variables v p q ∙ ap (λ o. type_below table o q) e)) h
+    said-fact (v ∷ p) message (case (zero ∷ q) c) e n h = subst (λ o. c < map_or 0 (λ t. map_or 0 component_count (slice_get table t)) o) (sym (at-append table variables v p q ∙ ap (λ o. type_below table o q) e)) h
     said-fact x message (case (suc v ∷ q) c) e n h = by (type_below table None q) refl h
       where
-        by : (o : Option ℕ) → type_below table None q ≡ o → c < with_some 0 (λ t. with_some 0 component_count (slice_get table t)) o → IsFactOf table variables (said_at x (case (suc v ∷ q) c))
+        by : (o : Option ℕ) → type_below table None q ≡ o → c < map_or 0 (λ t. map_or 0 component_count (slice_get table t)) o → IsFactOf table variables (said_at x (case (suc v ∷ q) c))
         by None z l = let k : ⊥ = omega arith in absurd k
         by (Some t) z l = not_true (typed-before table None q (is-some _ z))
 
@@ -131,7 +131,7 @@ module _ (table : TypeTable) where
       where
         of_field : (f : Fact) → IsOfField table message f → IsFactOf table (message ∷ []) f
         of_field (init p) h = let r = field-path p h.0 h.1 in path-fact (message ∷ []) p h.0 r.0 r.1
-        of_field (case p c) h = let r = field-path p h.0 h.2 in subst (λ o. c < with_some 0 (λ t. with_some 0 component_count (slice_get table t)) o) (sym r.0) (subst (λ o. c < with_some 0 component_count o) (sym h.3) h.4)
+        of_field (case p c) h = let r = field-path p h.0 h.2 in subst (λ o. c < map_or 0 (λ t. map_or 0 component_count (slice_get table t)) o) (sym r.0) (subst (λ o. c < map_or 0 component_count o) (sym h.3) h.4)
 
         by : (f : Fact) → IsOfField table message f ⊎ IsOfFullField table message declared f → IsFactOf table (message ∷ []) f
         by f (inl h) = of_field f h

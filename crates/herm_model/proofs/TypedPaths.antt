@@ -1,9 +1,9 @@
 -- Paths that have types: longer and shorter ones, and the facts to them.
 use Rattle.std.proofs.Common.{◌≡◌, ℕ, zero, suc, ◌<◌, List, [], ◌∷◌, ◌++◌, length, Bool, true, false, cond, ◌||◌, ◌⊎◌, inl, inr, Option, Some, None, is_some, slice_get, IsTrue, IsFalse, refl, sym, ap, subst, subst₂, ◌∙◌, arith, true≢false}
 use Rattle.std.proofs.Math.Bool.{or-false, or_assoc}
-use Rattle.herm_model.specs.Lists.{IsIn, with_some, list_of}
+use Rattle.herm_model.specs.Lists.{IsIn, map_or, list_of}
 use Rattle.herm_model.specs.Paths.{Path, Fact, init, case, parent}
-use Rattle.herm_model.specs.Types.{Shape, fields, cases, callmessage, TypeTable, part_type, part_of, type_below, type_at, is_cases, is_variant, enters_component, passes_component, full_parts, Leads}
+use Rattle.herm_model.specs.Types.{Shape, fields, cases, callmessage, TypeTable, part_type, part_of, type_below, type_at, is_cases, is_variant, enters_component, passes_component, full_parts, IsPartPath}
 use Rattle.herm_model.specs.Facts.{facts_from, facts_to, prefixes, with_prefixes, component_count, IsFactOf}
 use Rattle.herm_model.proofs.Lists.{not_true, in-append_cases}
 use Rattle.herm_model.proofs.Options.{none-not_some}
@@ -50,17 +50,17 @@ module _ (table : TypeTable) where
   typed-before (Some t) p h = refl
 
   -- a component of a variant that has a type
-  component-there : (t : Option ℕ) (i : ℕ) → IsTrue (is_variant table t) → IsTrue (is_some (part_of table t i)) → i < with_some 0 (λ u. with_some 0 component_count (slice_get table u)) t
+  component-there : (t : Option ℕ) (i : ℕ) → IsTrue (is_variant table t) → IsTrue (is_some (part_of table t i)) → i < map_or 0 (λ u. map_or 0 component_count (slice_get table u)) t
   component-there None i v h = not_true v
   component-there (Some t) i v h = by (slice_get table t) v h
     where
-      by : (o : Option Shape) → IsTrue (with_some false (λ s. is_cases s) o) → IsTrue (is_some (with_some None (λ s. part_type s i) o)) → i < with_some 0 component_count o
+      by : (o : Option Shape) → IsTrue (map_or false (λ s. is_cases s) o) → IsTrue (is_some (map_or None (λ s. part_type s i) o)) → i < map_or 0 component_count o
       by None v h = not_true v
       by (Some (cases ts)) v h = let r = some-of (slice_get ts i) h in slice_get-below ts i r.0 r.1
       by (Some s) v h = not_true v
 
   -- steps through parts that a full value has lead to a type, and through no component
-  pub leads-typed : (q : List ℕ) (t : ℕ) → Leads full_parts table t q → IsTrue (is_some (type_below table (Some t) q)) × IsFalse (enters_component table (Some t) q)
+  pub leads-typed : (q : List ℕ) (t : ℕ) → IsPartPath full_parts table t q → IsTrue (is_some (type_below table (Some t) q)) × IsFalse (enters_component table (Some t) q)
   leads-typed [] t l = (refl, refl)
   leads-typed (i ∷ q) t l =
       let again = leads-typed q l.0 l.2 in
@@ -69,7 +69,7 @@ module _ (table : TypeTable) where
         falses-or (is_variant table (Some t)) _ (no_variant (slice_get table t) l.0 l.1) (subst (λ o. IsFalse (enters_component table o q)) (sym part) again.1),
       )
     where
-      no_variant : (o : Option Shape) (u : ℕ) → IsIn (i, u) (list_of full_parts o) → IsFalse (with_some false (λ s. is_cases s) o)
+      no_variant : (o : Option Shape) (u : ℕ) → IsIn (i, u) (list_of full_parts o) → IsFalse (map_or false (λ s. is_cases s) o)
       no_variant (Some (fields ts)) u h = refl
       no_variant (Some (callmessage ps raises)) u h = refl
       no_variant o u h = absurd h
@@ -107,7 +107,7 @@ module _ (table : TypeTable) where
         here false f (inr k) = absurd k
 
         component : (b : Bool) → is_variant table t ≡ b → IsIn g (cond b (case (v ∷ at) i ∷ []) []) → IsFactOf table variables g
-        component true is (inl k) = subst (IsFactOf table variables) (sym k) (subst (λ o. i < with_some 0 (λ u. with_some 0 component_count (slice_get table u)) o) (sym e) (component-there t i is (typed-before (part_of table t i) p h)))
+        component true is (inl k) = subst (IsFactOf table variables) (sym k) (subst (λ o. i < map_or 0 (λ u. map_or 0 component_count (slice_get table u)) o) (sym e) (component-there t i is (typed-before (part_of table t i) p h)))
         component true is (inr k) = absurd k
         component false is k = absurd k
 
@@ -141,7 +141,7 @@ module _ (table : TypeTable) where
     case-typed : (p : Path) (c : ℕ) → IsFactOf table variables (case p c) → IsTrue (is_some (type_at table variables p))
     case-typed p c h = by (type_at table variables p) h
       where
-        by : (o : Option ℕ) → c < with_some 0 (λ t. with_some 0 component_count (slice_get table t)) o → IsTrue (is_some o)
+        by : (o : Option ℕ) → c < map_or 0 (λ t. map_or 0 component_count (slice_get table t)) o → IsTrue (is_some o)
         by None l = let z : ⊥ = omega arith in absurd z
         by (Some t) l = refl
 

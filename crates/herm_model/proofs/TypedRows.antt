@@ -1,10 +1,10 @@
 -- What a typed form needs, makes and takes away are facts and paths that there are.
 use Rattle.std.proofs.Common.{◌≡◌, ℕ, zero, suc, ◌<◌, List, [], ◌∷◌, ◌++◌, map, flat_map, length, ◌⊎◌, inl, inr, Option, Some, None, slice_get, refl, sym, ap, subst, ◌∙◌, arith}
-use Rattle.herm_model.specs.Lists.{IsIn, with_some, list_of}
+use Rattle.herm_model.specs.Lists.{IsIn, map_or, list_of}
 use Rattle.herm_model.specs.Paths.{Path, Fact, init, case}
 use Rattle.herm_model.specs.Types.{Raised, inport, callmessage, TypeTable, type_at}
 use Rattle.herm_model.specs.Facts.{said_at, message_facts, message_of, declared_facts, component_count, IsFactOf}
-use Rattle.herm_model.specs.Expressions.{Expression, literal, copy, negated, inverted, operation, size_of, decimal, length_of, Atom, path, paths_read, paths_among}
+use Rattle.herm_model.specs.Expressions.{Expression, literal, copy, negation, logical_not, operation, size_of, decimal, length_of, Atom, path, paths_read, paths_among}
 use Rattle.herm_model.specs.Statements.{Form, Assign, Move, New, Discard, Unite, Dissolve, Reveal, Case, Wrap, Unwrap, Insert, Remove, Get, For, Connect, Send, Receive, Select, Call, Return, ReturnBy, Create, If, While, Raise, Leave, Arm, Process}
 use Rattle.herm_model.specs.Outcomes.{Outcome, ok, turn, component, arm, raised, outcomes}
 use Rattle.herm_model.specs.Calls.{shape_at, parameters_of, raises_of, call_raises, kept_for, is_given, is_returned, returned_places, arguments_by, argument_path}
@@ -89,7 +89,7 @@ module _ (exceptions : ℕ) (table : TypeTable) (well : IsWellFormedTable except
   set-each ps h = whole-each ps (λ p i. ((h p i).0, ((h p i).1.0).0))
 
   pub known-case : (v : Path) (t c u : ℕ) → IsLookedAt table variables v t → IsComponent table t c u → IsFactOf table variables (case v c)
-  known-case v t c u l h = subst (λ o. c < with_some 0 (λ t. with_some 0 component_count (slice_get table t)) o) (sym l.0) (subst (λ o. c < with_some 0 component_count o) (sym h.1) (below (h.0) c h.2))
+  known-case v t c u l h = subst (λ o. c < map_or 0 (λ t. map_or 0 component_count (slice_get table t)) o) (sym l.0) (subst (λ o. c < map_or 0 component_count o) (sym h.1) (below (h.0) c h.2))
     where
       below : (ts : List ℕ) (c : ℕ) → slice_get ts c ≡ Some u → c < length ts
       below [] c e = none-not_some e
@@ -99,7 +99,7 @@ module _ (exceptions : ℕ) (table : TypeTable) (well : IsWellFormedTable except
   -- what travels through a port
   declared-at : (port message : ℕ) (declared : List Fact) (x : Path) → HasShape table port (inport message declared) → IsTarget table variables x message → Are (declared_facts table port x)
   declared-at port message declared x h target =
-      subst (λ o. Are (with_some [] (λ s. list_of (λ m. map (said_at x) (message_facts table m.0 m.1)) (message_of s)) o)) (sym h) mapped
+      subst (λ o. Are (map_or [] (λ s. list_of (λ m. map (said_at x) (message_facts table m.0 m.1)) (message_of s)) o)) (sym h) mapped
     where
       mapped : Are (map (said_at x) (message_facts table message declared))
       mapped g i =
@@ -117,8 +117,8 @@ module _ (exceptions : ℕ) (table : TypeTable) (well : IsWellFormedTable except
   read-typed (literal l) t h p i = absurd i
   read-typed (copy q) t h p (inl e) = (t, ap (type_at table variables) e ∙ (h.0).0)
   read-typed (copy q) t h p (inr i) = absurd i
-  read-typed (negated e) t h p i = read-typed e h.1 h.3 p i
-  read-typed (inverted e) t h p i = read-typed e h.1 h.3 p i
+  read-typed (negation e) t h p i = read-typed e h.1 h.3 p i
+  read-typed (logical_not e) t h p i = read-typed e h.1 h.3 p i
   read-typed (operation o left right) t h p i = by (in-append_cases p (paths_read left) (paths_read right) i) (read-typed left h.1 h.5 p) (read-typed right h.1 h.6 p)
     where
       by : IsIn p (paths_read left) ⊎ IsIn p (paths_read right) → (IsIn p (paths_read left) → (u : ℕ) × (type_at table variables p ≡ Some u)) → (IsIn p (paths_read right) → (u : ℕ) × (type_at table variables p ≡ Some u)) → (u : ℕ) × (type_at table variables p ≡ Some u)
@@ -196,7 +196,7 @@ module _ (exceptions : ℕ) (table : TypeTable) (well : IsWellFormedTable except
 
     -- an arm's component is one of the variant's
     case-made : (v : Path) (cs : List ℕ) → IsTypedForm table variables exceptions processes (Case v cs) → (o : Outcome) → IsIn o (outcomes table variables (Case v cs)) → Are (at_component (λ c. case v c ∷ []) o)
-    case-made v cs h (component c) i = all-one table variables (case v c) (subst (λ o. c < with_some 0 (λ t. with_some 0 component_count (slice_get table t)) o) (sym (h.2).0) (subst (λ o. c < with_some 0 component_count o) (sym h.3) ((h.5 c).0 (arm_of (in-append_cases (component c) (map component cs) [] i)))))
+    case-made v cs h (component c) i = all-one table variables (case v c) (subst (λ o. c < map_or 0 (λ t. map_or 0 component_count (slice_get table t)) o) (sym (h.2).0) (subst (λ o. c < map_or 0 component_count o) (sym h.3) ((h.5 c).0 (arm_of (in-append_cases (component c) (map component cs) [] i)))))
       where
         arm_of : IsIn (component c) (map component cs) ⊎ IsIn (component c) [] → IsIn c cs
         arm_of (inl a) = let r = in-map_from component (component c) cs a in let same : c ≡ r.0 = cc r.2 in subst (λ d. IsIn d cs) (sym same) r.1

@@ -1,17 +1,18 @@
 -- Types of values do not depend on the names of cells; a full value has its type.
 use Rattle.std.proofs.Common.{◌≡◌, ℕ, List, [], ◌∷◌, map, length, false, ◌&&◌, Option, Some, None, slice_get, nat_le, nat_lt, IsTrue, refl, sym, ap, ap₂, subst}
-use Rattle.herm_model.specs.Lists.{with_some}
+use Rattle.herm_model.specs.Lists.{map_or}
 use Rattle.herm_model.specs.Types.{Mode, by_in, by_inout, by_out, Parameter, TypeTable, Shape, polymorph, fields, rows, callmessage}
-use Rattle.herm_model.specs.Values.{Kind, a_record, a_callmessage, Cell, cell, Parts, no_parts, gap, gaps, part, rename, rename_in}
+use Rattle.herm_model.specs.Values.{Kind, a_record, a_callmessage, Cell, cell, Parts, no_parts, gap, gaps, part}
+use Rattle.herm_model.specs.CellNames.{rename, rename_in}
 use Rattle.herm_model.specs.Typed.{Degree, whole, partly, Content, a_value, nothing, Layout, exactly, many, unfit, parameter_content, layout, layout_at, is_bounded, greatest_rows, greatest_polymorph, IsOf, Fits}
 use Rattle.herm_model.proofs.Renaming.{size-rename, depth_in-rename, has_distinct_keys-rename}
 
 -- the layout of a kind in the shape of a type, if there is one
 abbrev pub layout_of : Degree → Option Shape → Kind → Layout
-layout_of d o k = with_some unfit (λ s. layout d s k) o
+layout_of d o k = map_or unfit (λ s. layout d s k) o
 
 module _ {N M : Type 0} (f : N → M) where
-  is_bounded-rename : (o : Option Shape) (ps : Parts N) → with_some false (λ s. is_bounded s (rename_in f ps)) o ≡ with_some false (λ s. is_bounded s ps) o
+  is_bounded-rename : (o : Option Shape) (ps : Parts N) → map_or false (λ s. is_bounded s (rename_in f ps)) o ≡ map_or false (λ s. is_bounded s ps) o
   is_bounded-rename (Some (rows row key)) ps = ap₂ ◌&&◌ (ap (λ n. nat_le n greatest_rows) (size-rename f ps)) (has_distinct_keys-rename f key ps)
   is_bounded-rename (Some polymorph) ps = ap (λ n. nat_lt n greatest_polymorph) (depth_in-rename f ps)
   is_bounded-rename o ps = refl
@@ -60,7 +61,7 @@ parameters d qs = exactly (map (λ q. parameter_content d q.mode q.content) qs)
 
 -- a full value has its type, also where some of its parts may be missing
 module _ {N : Type 0} (table : TypeTable) where
-  parts-typed : (o : Option Shape) (k : Kind) (ps : Parts N) → ((ts : List ℕ) → Fits table (exactly (map (a_value whole) ts)) ps → Fits table (exactly (map (a_value partly) ts)) ps) → ((qs : List Parameter) → Fits table (parameters whole qs) ps → Fits table (parameters partly qs) ps) → Fits table (with_some unfit (λ s. layout whole s k) o) ps → Fits table (with_some unfit (λ s. layout partly s k) o) ps
+  parts-typed : (o : Option Shape) (k : Kind) (ps : Parts N) → ((ts : List ℕ) → Fits table (exactly (map (a_value whole) ts)) ps → Fits table (exactly (map (a_value partly) ts)) ps) → ((qs : List Parameter) → Fits table (parameters whole qs) ps → Fits table (parameters partly qs) ps) → Fits table (map_or unfit (λ s. layout whole s k) o) ps → Fits table (map_or unfit (λ s. layout partly s k) o) ps
   parts-typed None k ps f g h = h
   parts-typed (Some (fields ts)) a_record ps f g h = f ts h
   parts-typed (Some (callmessage qs raises)) (a_callmessage caller call) ps f g h = g qs h

@@ -1,7 +1,7 @@
 -- Well made values are told by their texts, also where more follows that cannot go on with them.
 use Rattle.std.proofs.Common.{◌≡◌, ◌≢◌, ℕ, List, [], ◌∷◌, ◌++◌, map, Bool, true, false, cond, ◌&&◌, ◌||◌, nat_eq, pos, negsuc, IsTrue, IsFalse, refl, sym, ap, ap₂, subst, ◌∙◌, arith, append_assoc, true≢false}
 use Rattle.std.specs.Bool.{⊤}
-use Rattle.herm_model.specs.Lists.{every}
+use Rattle.herm_model.specs.Lists.{all_pass}
 use Rattle.herm_model.specs.Values.{Scalar, a_boolean, an_integer, a_text, a_tag, Kind, a_scalar, a_record, a_variant, a_table, a_polymorph, a_callmessage, an_inport, an_outport, cell, Parts, no_parts, gap, part, Value}
 use Rattle.herm_model.specs.Texts.{numeral, opening, closing, text_of, parts_text, is_digit}
 use Rattle.herm_model.specs.WellMade.{is_without_places, is_one_part, suits_kind, is_well_made, are_well_made, may_go_on}
@@ -241,7 +241,7 @@ mutual
       let c = value-split a b (parts_text ps (44 ∷ []) ++ X) (parts_text qs (44 ∷ []) ++ Y) i.0 j.0 (free-parts ps X x) (free-parts qs Y y) (part-step (separator first) (text_of a) (text_of b) (parts_text ps (44 ∷ [])) (parts_text qs (44 ∷ [])) X Y e) in
       let t = parts-split ps qs false X Y i.1 j.1 x y u v c.1 in (ap₂ part c.0 t.0, t.1)
 
-pub lists-split : (xs ys : List Value) → IsTrue (every is_well_made xs) → IsTrue (every is_well_made ys) → map text_of xs ≡ map text_of ys → xs ≡ ys
+pub lists-split : (xs ys : List Value) → IsTrue (all_pass is_well_made xs) → IsTrue (all_pass is_well_made ys) → map text_of xs ≡ map text_of ys → xs ≡ ys
 lists-split [] [] h g e = refl
 lists-split [] (y ∷ ys) h g e = cons-not_nil (text_of y) (map text_of ys) (sym e)
 lists-split (x ∷ xs) [] h g e = cons-not_nil (text_of x) (map text_of xs) e

@@ -1,11 +1,11 @@
 -- What is held along walks: labels that flow, and walks that carry different facts.
 use Rattle.std.proofs.Common.{◌≡◌, ℕ, List, [], ◌∷◌, Bool, true, false, cond, nat_eq, find, Option, Some, None, slice_get, option_and_then, refl, sym, ap, ◌∙◌, subst}
-use Rattle.herm_model.specs.Lists.{IsIn, some_of}
+use Rattle.herm_model.specs.Lists.{IsIn, any_pass}
 use Rattle.herm_model.specs.Paths.{Fact, same_fact, is_at_or_below, path_of}
 use Rattle.herm_model.specs.Outcomes.{same_outcome}
-use Rattle.herm_model.specs.Nodes.{Target, node, end, end_by}
-use Rattle.herm_model.specs.Control.{Edge, Point, Flow, Hop, Standing, held_behind, held_at_start, walk, edge_at, edge_from, Holds}
-use Rattle.herm_model.specs.Refusals.{Labels, label_at, Flows}
+use Rattle.herm_model.specs.Targets.{Target, node, end, end_by}
+use Rattle.herm_model.specs.ControlPaths.{Edge, Point, Flow, Hop, Standing, held_after_edge, held_at_start, walk, edge_at, edge_from, Holds}
+use Rattle.herm_model.specs.Refusals.{Labels, label_at, AreInductive}
 use Rattle.herm_model.proofs.Lists.{found-in}
 
 -- an edge that a hop takes is one of the point's
@@ -17,8 +17,8 @@ edge_at-IsIn hop p e h = go (nat_eq p.number hop.number) h
     go false h = cc
 
 -- what is held before an edge in more cases is held behind it in more cases
-held-rises : (e : Edge) (f : Fact) (low held : Bool) → (low ≡ true → held ≡ true) → held_behind e f low ≡ true → held_behind e f held ≡ true
-held-rises e f low held h behind = go (some_of (same_fact f) e.makes) (some_of (λ p. is_at_or_below p (path_of f)) e.kills) behind
+held-rises : (e : Edge) (f : Fact) (low held : Bool) → (low ≡ true → held ≡ true) → held_after_edge e f low ≡ true → held_after_edge e f held ≡ true
+held-rises e f low held h behind = go (any_pass (same_fact f) e.makes) (any_pass (λ p. is_at_or_below p (path_of f)) e.kills) behind
   where
     go : (made gone : Bool) → cond made true (cond gone false low) ≡ true → cond made true (cond gone false held) ≡ true
     go true gone b = refl
@@ -50,14 +50,14 @@ pub same_held : (s t : Standing) → Some s ≡ Some t → s.held ≡ t.held
 same_held s t h = let e : s ≡ t = cc in ap (λ (u : Standing). u.held) e
 
 -- one edge keeps that the label's facts are held
-edge_flows : (flow : Flow) (labels : Labels) → Flows flow labels → (f : Fact) (here : Target) (held : Bool) (e : Edge) → (label_at labels here f ≡ true → held ≡ true) → IsEdgeOf flow here e → label_at labels e.target f ≡ true → held_behind e f held ≡ true
+edge_flows : (flow : Flow) (labels : Labels) → AreInductive flow labels → (f : Fact) (here : Target) (held : Bool) (e : Edge) → (label_at labels here f ≡ true → held ≡ true) → IsEdgeOf flow here e → label_at labels e.target f ≡ true → held_after_edge e f held ≡ true
 edge_flows flow labels flows f here held e before of label =
     held-rises e f (labels of.at f) held
     (λ h. before (subst (λ t. label_at labels t f ≡ true) (sym of.here-is) h))
     (flows.goes_on of.at of.point e f of.point-is of.edge label)
 
 -- along a walk that begins where the label's facts are held, they are held
-pub walk_flows : (flow : Flow) (labels : Labels) → Flows flow labels → (f : Fact) (hops : List Hop) (here there : Target) (held value : Bool) → (label_at labels here f ≡ true → held ≡ true) → walk flow f hops here held ≡ Some (record { here = there; held = value }) → label_at labels there f ≡ true → value ≡ true
+pub walk_flows : (flow : Flow) (labels : Labels) → AreInductive flow labels → (f : Fact) (hops : List Hop) (here there : Target) (held value : Bool) → (label_at labels here f ≡ true → held ≡ true) → walk flow f hops here held ≡ Some (record { here = there; held = value }) → label_at labels there f ≡ true → value ≡ true
 walk_flows flow labels flows f [] here there held value before leads label =
     sym (same_held _ _ leads) ∙ before (subst (λ t. label_at labels t f ≡ true) (sym (same_here _ _ leads)) label)
 walk_flows flow labels flows f (hop ∷ hops) here there held value before leads label =
@@ -65,13 +65,13 @@ walk_flows flow labels flows f (hop ∷ hops) here there held value before leads
   where
     go : (o : Option Edge) → edge_from flow here hop ≡ o
         → ((here : Target) (held : Bool) → (label_at labels here f ≡ true → held ≡ true) → walk flow f hops here held ≡ Some (record { here = there; held = value }) → label_at labels there f ≡ true → value ≡ true)
-        → option_and_then (λ (e : Edge). walk flow f hops e.target (held_behind e f held)) o ≡ Some (record { here = there; held = value }) → value ≡ true
+        → option_and_then (λ (e : Edge). walk flow f hops e.target (held_after_edge e f held)) o ≡ Some (record { here = there; held = value }) → value ≡ true
     go None is later leads = absurd (let k : ⊥ = cc in k)
     go (Some e) is later leads =
-        later e.target (held_behind e f held) (edge_flows flow labels flows f here held e before (edge_from-IsEdgeOf flow here hop e is)) leads label
+        later e.target (held_after_edge e f held) (edge_flows flow labels flows f here held e before (edge_from-IsEdgeOf flow here hop e is)) leads label
 
 -- labels that flow are held on every path
-pub flows-Holds : (flow : Flow) (labels : Labels) → Flows flow labels → (i : ℕ) (f : Fact) → labels i f ≡ true → Holds flow f i
+pub flows-Holds : (flow : Flow) (labels : Labels) → AreInductive flow labels → (i : ℕ) (f : Fact) → labels i f ≡ true → Holds flow f i
 flows-Holds flow labels flows i f label hops held leads =
     walk_flows flow labels flows f hops flow.entry (node i) (held_at_start f) held (flows.begins f) leads label
 
@@ -83,7 +83,7 @@ walk-common flow f g (hop ∷ hops) here there before after other leads =
   where
     go : (o : Option Edge)
         → ((t : Target) (before other : Bool) → walk flow f hops t before ≡ Some (record { here = there; held = after }) → (last : Bool) × (walk flow g hops t other ≡ Some (record { here = there; held = last })))
-        → option_and_then (λ (e : Edge). walk flow f hops e.target (held_behind e f before)) o ≡ Some (record { here = there; held = after })
-        → (last : Bool) × (option_and_then (λ (e : Edge). walk flow g hops e.target (held_behind e g other)) o ≡ Some (record { here = there; held = last }))
+        → option_and_then (λ (e : Edge). walk flow f hops e.target (held_after_edge e f before)) o ≡ Some (record { here = there; held = after })
+        → (last : Bool) × (option_and_then (λ (e : Edge). walk flow g hops e.target (held_after_edge e g other)) o ≡ Some (record { here = there; held = last }))
     go None later leads = absurd (let k : ⊥ = cc in k)
-    go (Some e) later leads = later e.target (held_behind e f before) (held_behind e g other) leads
+    go (Some e) later leads = later e.target (held_after_edge e f before) (held_after_edge e g other) leads

@@ -1,7 +1,8 @@
 -- Values that have a type are well made, and names make no difference.
 use Rattle.std.proofs.Common.{◌≡◌, ℕ, [], ◌∷◌, Bool, true, false, ◌&&◌, Option, Some, None, slice_get, nat_lt, IsTrue, refl, ap₂}
 use Rattle.herm_model.specs.Types.{Shape, boolean, integer, text, polymorph, names, fields, cases, rows, inport, outport, callmessage, TypeTable}
-use Rattle.herm_model.specs.Values.{a_boolean, an_integer, a_text, a_tag, Kind, a_scalar, a_record, a_variant, a_table, a_polymorph, a_callmessage, an_inport, an_outport, Cell, cell, Parts, no_parts, gap, part, rename, rename_in}
+use Rattle.herm_model.specs.Values.{a_boolean, an_integer, a_text, a_tag, Kind, a_scalar, a_record, a_variant, a_table, a_polymorph, a_callmessage, an_inport, an_outport, Cell, cell, Parts, no_parts, gap, part}
+use Rattle.herm_model.specs.CellNames.{rename, rename_in}
 use Rattle.herm_model.specs.Typed.{Degree, whole, a_value, nothing, Layout, exactly, many, unfit, leaf_if, one_whole, is_integer, is_text, layout_at, IsOf, Fits}
 use Rattle.herm_model.specs.WellMade.{is_without_places, is_one_part, is_without_gaps, suits_kind, is_well_made, are_well_made}
 use Rattle.herm_model.proofs.Lists.{both-and}

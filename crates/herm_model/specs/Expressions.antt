@@ -12,7 +12,7 @@ pub data Literal : Type 0 where
 
 -- An operator between two operands. Language reference, "Expressions".
 pub data Operator : Type 0 where
-  either both : Operator
+  logical_or logical_and : Operator
   equal unequal less at_most greater at_least : Operator
   plus minus times divided modulo : Operator
   concatenated : Operator
@@ -23,8 +23,8 @@ pub data Operator : Type 0 where
 pub data Expression : Type 0 where
   literal : Literal → Expression
   copy : Path → Expression
-  negated : Expression → Expression
-  inverted : Expression → Expression
+  negation : Expression → Expression
+  logical_not : Expression → Expression
   operation : Operator → (left right : Expression) → Expression
   size_of : Path → Expression
   decimal : Expression → Expression
@@ -39,8 +39,8 @@ pub data Atom : Type 0 where
 abbrev pub paths_read : Expression → List Path
 paths_read (literal l) = []
 paths_read (copy p) = p ∷ []
-paths_read (negated e) = paths_read e
-paths_read (inverted e) = paths_read e
+paths_read (negation e) = paths_read e
+paths_read (logical_not e) = paths_read e
 paths_read (operation o left right) = paths_read left ++ paths_read right
 paths_read (size_of p) = p ∷ []
 paths_read (decimal e) = paths_read e
@@ -54,8 +54,8 @@ paths_among (path p ∷ atoms) = p ∷ paths_among atoms
 
 -- whether an operator's result may lie outside the 64 bits, or have no value
 abbrev pub is_arithmetic : Operator → Bool
-is_arithmetic either = false
-is_arithmetic both = false
+is_arithmetic logical_or = false
+is_arithmetic logical_and = false
 is_arithmetic equal = false
 is_arithmetic unequal = false
 is_arithmetic less = false
@@ -79,8 +79,8 @@ is_joining _ = false
 abbrev pub can_overflow : Expression → Bool
 can_overflow (literal l) = false
 can_overflow (copy p) = false
-can_overflow (negated e) = true
-can_overflow (inverted e) = can_overflow e
+can_overflow (negation e) = true
+can_overflow (logical_not e) = can_overflow e
 can_overflow (operation o left right) = is_arithmetic o || (can_overflow left || can_overflow right)
 can_overflow (size_of p) = false
 can_overflow (decimal e) = can_overflow e
@@ -90,8 +90,8 @@ can_overflow (length_of e) = can_overflow e
 abbrev pub can_deplete : Expression → Bool
 can_deplete (literal l) = false
 can_deplete (copy p) = false
-can_deplete (negated e) = can_deplete e
-can_deplete (inverted e) = can_deplete e
+can_deplete (negation e) = can_deplete e
+can_deplete (logical_not e) = can_deplete e
 can_deplete (operation o left right) = is_joining o || (can_deplete left || can_deplete right)
 can_deplete (size_of p) = false
 can_deplete (decimal e) = can_deplete e

@@ -1,8 +1,8 @@
 -- Facts of paths and of types: what comes before a fact, full values, declared facts, sets of facts.
 use Rattle.std.specs.Prelude.{ℕ, List, [], ◌∷◌, ◌++◌, map, Bool, false, not, ◌||◌, Option, Some, None, slice_get, flat_map, filter, cond, length, is_some, ◌<◌, IsTrue, IsFalse}
-use Rattle.herm_model.specs.Lists.{with_some, list_of, IsIn}
+use Rattle.herm_model.specs.Lists.{map_or, list_of, IsIn}
 use Rattle.herm_model.specs.Paths.{Path, Fact, init, case, same_fact, parent}
-use Rattle.herm_model.specs.Types.{TypeTable, Shape, cases, inport, type_at, passes_component, part_of, is_variant, steps, full_parts}
+use Rattle.herm_model.specs.Types.{TypeTable, Shape, cases, inport, type_at, passes_component, part_of, is_variant, part_paths, full_parts}
 
 -- The facts by which there is a value at the end of these steps from the path at, whose type is t: init of each path
 -- down to the first variant on the way, and then the component at each variant on the way.
@@ -42,7 +42,7 @@ without_repeats (f ∷ fs) = f ∷ filter (λ g. not (same_fact f g)) (without_r
 -- The facts of a full value of a type at a path, parents first: init of the path, and those of each field of a
 -- record and of each in and inout parameter of a callmessage. Language reference, "Facts".
 abbrev pub full_facts : TypeTable → ℕ → Path → List Fact
-full_facts table t p = map (λ q. init (p ++ q)) (steps full_parts table t)
+full_facts table t p = map (λ q. init (p ++ q)) (part_paths full_parts table t)
 
 -- a fact of variable 0, said of the value at a path
 abbrev pub said_at : Path → Fact → Fact
@@ -65,7 +65,7 @@ message_of s = None
 
 -- the facts at which messages of this inport type travel, for a message at a path
 abbrev pub declared_facts : TypeTable → ℕ → Path → List Fact
-declared_facts table port p = with_some [] (λ s. list_of (λ m. map (said_at p) (message_facts table m.0 m.1)) (message_of s)) (slice_get table port)
+declared_facts table port p = map_or [] (λ s. list_of (λ m. map (said_at p) (message_facts table m.0 m.1)) (message_of s)) (slice_get table port)
 
 -- how many components a variant has
 abbrev pub component_count : Shape → ℕ
@@ -76,4 +76,4 @@ component_count s = 0
 -- a variant's path and a component of it. Language reference, "Facts".
 abbrev pub IsFactOf : TypeTable → List ℕ → Fact → Type 0
 IsFactOf table variables (init p) = IsTrue (is_some (type_at table variables p)) × IsFalse (passes_component table variables p)
-IsFactOf table variables (case p c) = c < with_some 0 (λ t. with_some 0 component_count (slice_get table t)) (type_at table variables p)
+IsFactOf table variables (case p c) = c < map_or 0 (λ t. map_or 0 component_count (slice_get table t)) (type_at table variables p)

@@ -1,6 +1,6 @@
 -- What becomes of the cells of a value that is finalised, and which paths an edge or a send drops.
 use Rattle.std.specs.Prelude.{ℕ, zero, suc, List, [], ◌∷◌, ◌++◌, Bool, true, false, cond, not, ◌&&◌, flat_map, slice_get}
-use Rattle.herm_model.specs.Lists.{some_of, numbered, with_some, list_of}
+use Rattle.herm_model.specs.Lists.{any_pass, numbered, map_or, list_of}
 use Rattle.herm_model.specs.Paths.{Path, Fact, init, same_fact}
 use Rattle.herm_model.specs.Types.{TypeTable, greatest_depth, held_parts}
 use Rattle.herm_model.specs.Values.{Kind, an_inport, a_callmessage, Cell, cell, Parts, no_parts, gap, part, cell_at, clear_at}
@@ -42,7 +42,7 @@ is_left is_here is_kept p = is_here p && not (is_kept p)
 -- of its fields or parameters in order, down to so many types. Language reference, "Excess".
 abbrev pub excess_from : (Path → Bool) → ℕ → TypeTable → Path → ℕ → List Path
 excess_from left zero table p t = []
-excess_from left (suc n) table p t = cond (left p) (p ∷ []) (with_some [] (λ s. flat_map (λ part. excess_from left n table (p ++ part.0 ∷ []) part.1) (held_parts s)) (slice_get table t))
+excess_from left (suc n) table p t = cond (left p) (p ∷ []) (map_or [] (λ s. flat_map (λ part. excess_from left n table (p ++ part.0 ∷ []) part.1) (held_parts s)) (slice_get table t))
 
 -- What a statement drops of the value at a path of this type, where it leaves with what is kept.
 abbrev pub excess_at : TypeTable → (Path → Bool) → (Path → Bool) → Path → ℕ → List Path
@@ -54,7 +54,7 @@ excess table variables is_here is_kept = flat_map (λ v. excess_at table is_here
 
 -- there is a value at the path by these facts
 abbrev pub keeps : List Fact → Path → Bool
-keeps facts p = some_of (same_fact (init p)) facts
+keeps facts p = any_pass (same_fact (init p)) facts
 
 -- the cells at these paths, in order
 abbrev pub cells_at : {N : Type 0} → List Path → Parts N → List (Cell N)

@@ -7,14 +7,14 @@ IsIn x [] = ⊥
 IsIn x (y ∷ ys) = (x ≡ y) ⊎ IsIn x ys
 
 -- each element passes the test
-abbrev pub every : {X : Type 0} → (X → Bool) → List X → Bool
-every test [] = true
-every test (x ∷ xs) = test x && every test xs
+abbrev pub all_pass : {X : Type 0} → (X → Bool) → List X → Bool
+all_pass test [] = true
+all_pass test (x ∷ xs) = test x && all_pass test xs
 
 -- some element passes the test
-abbrev pub some_of : {X : Type 0} → (X → Bool) → List X → Bool
-some_of test [] = false
-some_of test (x ∷ xs) = test x || some_of test xs
+abbrev pub any_pass : {X : Type 0} → (X → Bool) → List X → Bool
+any_pass test [] = false
+any_pass test (x ∷ xs) = test x || any_pass test xs
 
 -- the elements with their places, from a first place on
 abbrev pub numbered : {X : Type 0} → ℕ → List X → List (ℕ × X)
@@ -22,13 +22,13 @@ numbered i [] = []
 numbered i (x ∷ xs) = (i, x) ∷ numbered (suc i) xs
 
 -- what a function makes of what an option holds, or a value for none
-abbrev pub with_some : {X Y : Type 0} → Y → (X → Y) → Option X → Y
-with_some y f None = y
-with_some y f (Some x) = f x
+abbrev pub map_or : {X Y : Type 0} → Y → (X → Y) → Option X → Y
+map_or y f None = y
+map_or y f (Some x) = f x
 
 -- the list that a function makes of what an option holds
 abbrev pub list_of : {X Y : Type 0} → (X → List Y) → Option X → List Y
-list_of f o = with_some [] f o
+list_of f o = map_or [] f o
 
 -- the two lists of numbers are equal
 abbrev pub same_numbers : List ℕ → List ℕ → Bool

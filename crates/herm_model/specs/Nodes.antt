@@ -1,20 +1,10 @@
 -- Nodes: the flat list that a process's body is, and where each outcome leads.
-use Rattle.std.specs.Prelude.{ℕ, ◌+◌, List, [], ◌∷◌, ◌++◌, map, cond, nat_eq}
+use Rattle.std.specs.Prelude.{ℕ, ◌+◌, List, [], ◌∷◌, ◌++◌, map}
 use Rattle.herm_model.specs.Types.{TypeTable}
 use Rattle.herm_model.specs.Statements.{Form, Leave, Statement, simple, choosing, repeating, leaving, trying, Block, no_statements, statement, Blocks, no_blocks, block, Handlers, no_handlers, handler, numbers_of, numbers_of_block, nodes_of, nodes_of_block, Process}
 use Rattle.herm_model.specs.Outcomes.{Outcome, raised, normal_outcomes, exceptions}
-
--- Where an outcome leads: to the node at a place of the list, to the process's normal end, or to its end by
--- an exception. Language reference, "Control".
-pub data Target : Type 0 where
-  node : ℕ → Target
-  end : Target
-  end_by : (exception : ℕ) → Target
-
--- a handler within reach: its exception, and where its block begins
-pub record Catch : Type 0 where
-  pub exception : ℕ
-  pub target : Target
+use Rattle.herm_model.specs.Targets.{Target, node, end}
+use Rattle.herm_model.specs.Handlers.{Catch, caught}
 
 -- What the text around a statement decides: where control goes behind the statement; the handlers within
 -- reach, the nearest first; and where control goes behind the nearest loop.
@@ -100,12 +90,6 @@ process_nodes p = nodes_in p.body 1 0 (record { behind = end; catches = []; exit
 
 abbrev pub entry_of : Process → Target
 entry_of p = start_of_block p.body 0 end
-
--- Where an exception leads: to the nearest handler for it within reach, or else to the end by it.
--- Language reference, "Exceptions".
-abbrev pub caught : List Catch → ℕ → Target
-caught [] e = end_by e
-caught (c ∷ catches) e = cond (nat_eq c.exception e) c.target (caught catches e)
 
 -- an outcome, with where it leads
 pub record Exit : Type 0 where

@@ -4,8 +4,8 @@ use Rattle.herm_model.specs.Lists.{IsIn, numbered}
 use Rattle.herm_model.specs.Paths.{Fact}
 use Rattle.herm_model.specs.Types.{TypeTable}
 use Rattle.herm_model.specs.Statements.{Process}
-use Rattle.herm_model.specs.Nodes.{Target, node, end, end_by}
-use Rattle.herm_model.specs.Control.{Edge, Point, Flow, flow_of, Hop, held_behind, held_at_start, IsReached, Holds, LacksBy}
+use Rattle.herm_model.specs.Targets.{Target, node, end, end_by}
+use Rattle.herm_model.specs.ControlPaths.{Edge, Point, Flow, flow_of, Hop, held_after_edge, held_at_start, IsReached, Holds, LacksBy}
 
 -- a fact that the point at a place needs
 pub record Demand : Type 0 where
@@ -53,9 +53,9 @@ label_at labels (end_by e) f = false
 
 -- Labels flow where the entry's label has facts of the start alone, and along each edge each fact of the label
 -- that it leads to is held behind the edge, given that the facts of the label before are.
-pub record Flows (flow : Flow) (labels : Labels) : Type 0 where
+pub record AreInductive (flow : Flow) (labels : Labels) : Type 0 where
   pub begins : (f : Fact) → label_at labels flow.entry f ≡ true → held_at_start f ≡ true
-  pub goes_on : (i : ℕ) (p : Point) (e : Edge) (f : Fact) → slice_get flow.points i ≡ Some p → IsIn e p.edges → label_at labels e.target f ≡ true → held_behind e f (labels i f) ≡ true
+  pub goes_on : (i : ℕ) (p : Point) (e : Edge) (f : Fact) → slice_get flow.points i ≡ Some p → IsIn e p.edges → label_at labels e.target f ≡ true → held_after_edge e f (labels i f) ≡ true
 
 -- The labels of the points that a path reaches have exactly the facts that hold there.
 -- Language reference, "Held".

@@ -5,9 +5,9 @@ use Rattle.herm_model.specs.Paths.{Fact}
 use Rattle.herm_model.specs.Types.{TypeTable}
 use Rattle.herm_model.specs.Statements.{Form, simple, Block, no_statements, statement, Process}
 use Rattle.herm_model.specs.Outcomes.{ok, normal_outcomes}
-use Rattle.herm_model.specs.Nodes.{end}
+use Rattle.herm_model.specs.Targets.{end}
 use Rattle.herm_model.specs.StatementTable.{needs}
-use Rattle.herm_model.specs.Control.{edge, Hop, held_behind, held_at_start}
+use Rattle.herm_model.specs.ControlPaths.{edge, Hop, held_after_edge, held_at_start}
 use Rattle.herm_model.specs.Refusals.{Refusal, IsMissing}
 
 -- the forms one after another
@@ -24,7 +24,7 @@ GoesOn form = normal_outcomes form ≡ ok ∷ []
 
 -- what is held behind the normal outcome of a form
 abbrev pub held_on : TypeTable → List ℕ → Form → (Fact → Bool) → Fact → Bool
-held_on types variables form held f = held_behind (edge types variables form (record { outcome = ok; target = end })) f (held f)
+held_on types variables form held f = held_after_edge (edge types variables form (record { outcome = ok; target = end })) f (held f)
 
 -- the needs of a statement that are not held, each with the path so far
 abbrev pub lacking : TypeTable → List ℕ → Form → ℕ → List Hop → (Fact → Bool) → List Refusal

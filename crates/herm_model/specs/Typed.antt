@@ -1,6 +1,6 @@
 -- Which values a type has: whole ones, and those with some of their parts.
 use Rattle.std.specs.Prelude.{ℕ, ◌^◌, List, [], ◌∷◌, map, Bool, true, false, ◌&&◌, ◌||◌, ℤ, pos, negsuc, Option, Some, None, length, slice_get, nat_eq, nat_lt, nat_le, IsTrue, ⊤}
-use Rattle.herm_model.specs.Lists.{with_some, every}
+use Rattle.herm_model.specs.Lists.{map_or, all_pass}
 use Rattle.herm_model.specs.Types.{Mode, by_in, by_inout, by_out, TypeTable, Shape, boolean, integer, text, polymorph, names, fields, cases, rows, inport, outport, callmessage}
 use Rattle.herm_model.specs.Values.{a_boolean, an_integer, a_text, a_tag, Kind, a_scalar, a_record, a_variant, a_table, a_polymorph, a_callmessage, an_inport, an_outport, Cell, cell, Parts, no_parts, gap, part, size, depth_in}
 use Rattle.herm_model.specs.Tables.{has_distinct_keys}
@@ -19,7 +19,7 @@ greatest_text = 4096
 
 -- at most 4,096 such bytes; Language reference, "Limits"
 abbrev pub is_text : List ℕ → Bool
-is_text bytes = nat_le (length bytes) greatest_text && every is_text_byte bytes
+is_text bytes = nat_le (length bytes) greatest_text && all_pass is_text_byte bytes
 
 abbrev pub greatest_rows : ℕ
 greatest_rows = 4096
@@ -79,7 +79,7 @@ layout d s k = unfit
 
 -- the layout at a type's number
 abbrev pub layout_at : Degree → TypeTable → ℕ → Kind → Layout
-layout_at d table t k = with_some unfit (λ s. layout d s k) (slice_get table t)
+layout_at d table t k = map_or unfit (λ s. layout d s k) (slice_get table t)
 
 -- a table's rows are at most 4,096 and differ in their keys; polymorphs nest at most 16 deep
 abbrev pub is_bounded : {N : Type 0} → Shape → Parts N → Bool
@@ -88,7 +88,7 @@ is_bounded polymorph ps = nat_lt (depth_in ps) greatest_polymorph
 is_bounded s ps = true
 
 abbrev pub is_bounded_at : {N : Type 0} → TypeTable → ℕ → Parts N → Bool
-is_bounded_at table t ps = with_some false (λ s. is_bounded s ps) (slice_get table t)
+is_bounded_at table t ps = map_or false (λ s. is_bounded s ps) (slice_get table t)
 
 -- nothing may stand at the place
 abbrev pub MayBeEmpty : Content → Type 0

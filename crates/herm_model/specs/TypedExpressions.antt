@@ -1,9 +1,10 @@
 -- Typed expressions: which operands each operation takes, and the type of what it gives.
 use Rattle.std.specs.Prelude.{ℕ, Bool, true, false, ◌&&◌, ◌||◌, List, [], ◌∷◌, Option, Some, None, slice_get, nat_lt, IsTrue, IsFalse, ◌≡◌}
-use Rattle.herm_model.specs.Lists.{with_some}
+use Rattle.herm_model.specs.Lists.{map_or}
 use Rattle.herm_model.specs.Paths.{Path}
-use Rattle.herm_model.specs.Types.{Mode, by_in, by_inout, by_out, TypeTable, Shape, boolean, integer, text, names, rows, callmessage, part_of, is_variant, type_at, IsCopyable}
-use Rattle.herm_model.specs.Expressions.{Literal, Operator, either, both, equal, unequal, less, at_most, greater, at_least, plus, minus, times, divided, modulo, concatenated, Expression, literal, copy, negated, inverted, operation, size_of, decimal, length_of}
+use Rattle.herm_model.specs.Types.{Mode, by_in, by_inout, by_out, TypeTable, Shape, boolean, integer, text, names, rows, callmessage, part_of, is_variant, type_at}
+use Rattle.herm_model.specs.Copyable.{IsCopyable}
+use Rattle.herm_model.specs.Expressions.{Literal, Operator, logical_or, logical_and, equal, unequal, less, at_most, greater, at_least, plus, minus, times, divided, modulo, concatenated, Expression, literal, copy, negation, logical_not, operation, size_of, decimal, length_of}
 use Rattle.herm_model.specs.Typed.{is_integer, is_text}
 
 abbrev pub is_boolean_shape : Shape → Bool
@@ -34,8 +35,8 @@ is_ordered_shape s = false
 
 -- whether an operator takes operands of a type of this shape; Language reference, "Expressions"
 abbrev pub takes : Operator → Shape → Bool
-takes either = is_boolean_shape
-takes both = is_boolean_shape
+takes logical_or = is_boolean_shape
+takes logical_and = is_boolean_shape
 takes equal = is_scalar_shape
 takes unequal = is_scalar_shape
 takes less = is_ordered_shape
@@ -51,8 +52,8 @@ takes concatenated = is_text_shape
 
 -- the shape of what an operator gives; Language reference, "Expressions"
 abbrev pub shape_given : Operator → Shape
-shape_given either = boolean
-shape_given both = boolean
+shape_given logical_or = boolean
+shape_given logical_and = boolean
 shape_given equal = boolean
 shape_given unequal = boolean
 shape_given less = boolean
@@ -73,12 +74,12 @@ is_out_mode by_out = true
 
 -- the part at a place is a parameter that the caller does not fill
 abbrev pub is_out_parameter : Shape → ℕ → Bool
-is_out_parameter (callmessage ps raises) i = with_some false (λ p. is_out_mode p.mode) (slice_get ps i)
+is_out_parameter (callmessage ps raises) i = map_or false (λ p. is_out_mode p.mode) (slice_get ps i)
 is_out_parameter s i = false
 
 abbrev pub is_out_part : TypeTable → Option ℕ → ℕ → Bool
 is_out_part table None i = false
-is_out_part table (Some t) i = with_some false (λ s. is_out_parameter s i) (slice_get table t)
+is_out_part table (Some t) i = map_or false (λ s. is_out_parameter s i) (slice_get table t)
 
 -- whether some step is to an `out` parameter anywhere behind a component
 abbrev pub enters_out : TypeTable → Bool → Option ℕ → List ℕ → Bool
@@ -115,8 +116,8 @@ module _ (table : TypeTable) where
     -- a copy of what is at a path of the type, which is copyable
     IsTyped (copy p) t = IsPathOf p t × IsCopyable table t
     -- the minus of an integer, and `not` of a boolean
-    IsTyped (negated e) t = HasShape t integer × (u : ℕ) × HasShape u integer × IsTyped e u
-    IsTyped (inverted e) t = HasShape t boolean × (u : ℕ) × HasShape u boolean × IsTyped e u
+    IsTyped (negation e) t = HasShape t integer × (u : ℕ) × HasShape u integer × IsTyped e u
+    IsTyped (logical_not e) t = HasShape t boolean × (u : ℕ) × HasShape u boolean × IsTyped e u
     -- an operator on two operands of one type that it takes
     IsTyped (operation o left right) t = HasShape t (shape_given o) × (u : ℕ) × (s : Shape) × HasShape u s × IsTrue (takes o s) × IsTyped left u × IsTyped right u
     -- the size of a table

@@ -4,8 +4,9 @@ use Rattle.herm_model.specs.Lists.{IsIn}
 use Rattle.herm_model.specs.Paths.{Fact}
 use Rattle.herm_model.specs.Types.{inport, TypeTable, all_parts, variable_paths}
 use Rattle.herm_model.specs.Statements.{Statement, simple, choosing, repeating, leaving, trying, Block, no_statements, statement, Blocks, no_blocks, block, Handlers, no_handlers, handler, numbers_of_block, Process, Differ, IsWellFormedBlock}
-use Rattle.herm_model.specs.Nodes.{node, Node, process_nodes}
-use Rattle.herm_model.specs.Control.{flow_of, IsReached}
+use Rattle.herm_model.specs.Nodes.{Node, process_nodes}
+use Rattle.herm_model.specs.Targets.{node}
+use Rattle.herm_model.specs.ControlPaths.{flow_of, IsReached}
 use Rattle.herm_model.specs.TypedExpressions.{HasShape}
 use Rattle.herm_model.specs.WellFormedTables.{IsType, IsWellFormedTable}
 use Rattle.herm_model.specs.TypedStatements.{port_type, IsTypedForm}

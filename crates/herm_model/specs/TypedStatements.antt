@@ -2,7 +2,8 @@
 use Rattle.std.specs.Prelude.{ℕ, ◌<◌, ◌↔◌, List, [], ◌∷◌, map, length, Bool, true, false, Option, Some, slice_get, option_and_then, IsTrue, IsFalse, ⊤, ◌≡◌}
 use Rattle.herm_model.specs.Lists.{IsIn}
 use Rattle.herm_model.specs.Paths.{Path, Fact, are_apart}
-use Rattle.herm_model.specs.Types.{Mode, by_in, by_inout, by_out, Parameter, Raised, Shape, boolean, polymorph, fields, cases, rows, inport, outport, callmessage, TypeTable, passes_component, IsCopyable}
+use Rattle.herm_model.specs.Types.{Mode, by_in, by_inout, by_out, Parameter, Raised, Shape, boolean, polymorph, fields, cases, rows, inport, outport, callmessage, TypeTable, passes_component}
+use Rattle.herm_model.specs.Copyable.{IsCopyable}
 use Rattle.herm_model.specs.Expressions.{Atom, literal, path}
 use Rattle.herm_model.specs.Statements.{Form, Assign, Move, New, Discard, Unite, Dissolve, Reveal, Case, Wrap, Unwrap, Insert, Remove, Get, For, Connect, Send, Receive, Select, Call, Return, ReturnBy, Create, If, While, Raise, Leave, Arm, Process, Differ}
 use Rattle.herm_model.specs.StatementTable.{set_by_call}

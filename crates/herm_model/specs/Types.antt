@@ -1,6 +1,6 @@
 -- Types by shape and number, their parts, depth and paths.
-use Rattle.std.specs.Prelude.{ℕ, zero, suc, List, [], ◌∷◌, map, Bool, true, false, ◌||◌, ◌&&◌, is_some, Option, Some, None, option_map, slice_get, flat_map, ◌≡◌, IsTrue}
-use Rattle.herm_model.specs.Lists.{with_some, numbered, every, list_of, IsIn}
+use Rattle.std.specs.Prelude.{ℕ, zero, suc, List, [], ◌∷◌, map, Bool, true, false, ◌||◌, is_some, Option, Some, None, option_map, slice_get, flat_map, IsTrue}
+use Rattle.herm_model.specs.Lists.{map_or, numbered, all_pass, list_of, IsIn}
 use Rattle.herm_model.specs.Paths.{Path, Fact}
 
 -- how a parameter of a callmessage travels
@@ -58,7 +58,7 @@ named_types s = []
 -- names. Language reference, "Limits".
 abbrev pub is_within_depth : ℕ → TypeTable → ℕ → Bool
 is_within_depth zero table t = false
-is_within_depth (suc n) table t = with_some false (λ s. every (is_within_depth n table) (named_types s)) (slice_get table t)
+is_within_depth (suc n) table t = map_or false (λ s. all_pass (is_within_depth n table) (named_types s)) (slice_get table t)
 
 -- the greatest depth of a type
 abbrev pub greatest_depth : ℕ
@@ -74,7 +74,7 @@ part_type s i = None
 -- the type of the part at a place, where there is such a type and such a part
 abbrev pub part_of : TypeTable → Option ℕ → ℕ → Option ℕ
 part_of table None i = None
-part_of table (Some t) i = with_some None (λ s. part_type s i) (slice_get table t)
+part_of table (Some t) i = map_or None (λ s. part_type s i) (slice_get table t)
 
 -- the type at the end of these steps from a type
 abbrev pub type_below : TypeTable → Option ℕ → List ℕ → Option ℕ
@@ -93,7 +93,7 @@ is_cases s = false
 
 abbrev pub is_variant : TypeTable → Option ℕ → Bool
 is_variant table None = false
-is_variant table (Some t) = with_some false (λ s. is_cases s) (slice_get table t)
+is_variant table (Some t) = map_or false (λ s. is_cases s) (slice_get table t)
 
 -- whether some step is from a variant to one of its components
 abbrev pub enters_component : TypeTable → Option ℕ → List ℕ → Bool
@@ -136,47 +136,20 @@ all_parts (callmessage ps raises) = numbered 0 (map (λ p. p.content) ps)
 all_parts s = []
 
 -- Parts are chosen by one of the three functions above. These steps lead from the type through chosen parts alone.
-abbrev pub Leads : (Shape → List (ℕ × ℕ)) → TypeTable → ℕ → List ℕ → Type 0
-Leads parts table t [] = IsTrue (is_some (slice_get table t))
-Leads parts table t (i ∷ p) = (u : ℕ) × IsIn (i, u) (list_of parts (slice_get table t)) × Leads parts table u p
+abbrev pub IsPartPath : (Shape → List (ℕ × ℕ)) → TypeTable → ℕ → List ℕ → Type 0
+IsPartPath parts table t [] = IsTrue (is_some (slice_get table t))
+IsPartPath parts table t (i ∷ p) = (u : ℕ) × IsIn (i, u) (list_of parts (slice_get table t)) × IsPartPath parts table u p
 
 -- the steps through chosen parts from a type, of at most so many types on the way: the type itself, and then those
 -- that begin with each part in order
-abbrev pub steps_within : (Shape → List (ℕ × ℕ)) → ℕ → TypeTable → ℕ → List (List ℕ)
-steps_within parts zero table t = []
-steps_within parts (suc n) table t = with_some [] (λ s. [] ∷ flat_map (λ part. map (part.0 ∷◌) (steps_within parts n table part.1)) (parts s)) (slice_get table t)
+abbrev pub part_paths_within : (Shape → List (ℕ × ℕ)) → ℕ → TypeTable → ℕ → List (List ℕ)
+part_paths_within parts zero table t = []
+part_paths_within parts (suc n) table t = map_or [] (λ s. [] ∷ flat_map (λ part. map (part.0 ∷◌) (part_paths_within parts n table part.1)) (parts s)) (slice_get table t)
 
 -- all of them; a law says that they are those that lead, where the type's depth is within the limit
-abbrev pub steps : (Shape → List (ℕ × ℕ)) → TypeTable → ℕ → List (List ℕ)
-steps parts table t = steps_within parts greatest_depth table t
+abbrev pub part_paths : (Shape → List (ℕ × ℕ)) → TypeTable → ℕ → List (List ℕ)
+part_paths parts table t = part_paths_within parts greatest_depth table t
 
 -- each variable's paths through chosen parts, by variables and then by parts
 abbrev pub variable_paths : (Shape → List (ℕ × ℕ)) → TypeTable → List ℕ → List Path
-variable_paths parts table variables = flat_map (λ v. map (v.0 ∷◌) (steps parts table v.1)) (numbered 0 variables)
-
--- a type whose values are one cell and may be copied
-abbrev pub is_plain : Shape → Bool
-is_plain boolean = true
-is_plain integer = true
-is_plain text = true
-is_plain (names count) = true
-is_plain (outport port) = true
-is_plain s = false
-
--- a type that is copyable where all its parts are
-abbrev pub is_composed : Shape → Bool
-is_composed (fields ts) = true
-is_composed (cases ts) = true
-is_composed (rows row key) = true
-is_composed s = false
-
--- The smallest set that has the scalars and the outports, and a record, variant or table where it has all its parts.
--- Language reference, "Copyable types".
-pub data IsCopyable (table : TypeTable) : ℕ → Type 0 where
-  plain : (t : ℕ) (s : Shape) → slice_get table t ≡ Some s → IsTrue (is_plain s) → IsCopyable table t
-  composed : (t : ℕ) (s : Shape) → slice_get table t ≡ Some s → IsTrue (is_composed s) → ((u : ℕ) → IsIn u (named_types s) → IsCopyable table u) → IsCopyable table t
-
--- the same as a test, for types of at most this depth; a law says so
-abbrev pub is_copyable_within : ℕ → TypeTable → ℕ → Bool
-is_copyable_within zero table t = false
-is_copyable_within (suc n) table t = with_some false (λ s. is_plain s || (is_composed s && every (is_copyable_within n table) (named_types s))) (slice_get table t)
+variable_paths parts table variables = flat_map (λ v. map (v.0 ∷◌) (part_paths parts table v.1)) (numbered 0 variables)

@@ -1,6 +1,6 @@
 -- Values as trees of cells, and their parts by path.
-use Rattle.std.specs.Prelude.{ℕ, zero, suc, ◌+◌, max, List, [], ◌∷◌, ◌++◌, Bool, true, false, cond, ℤ, Option, Some, None, is_some, nat_eq, nat_lt, IsTrue, ◌↔◌, ⊤}
-use Rattle.herm_model.specs.Paths.{Path, Fact, init, case}
+use Rattle.std.specs.Prelude.{ℕ, zero, suc, max, List, [], ◌∷◌, Bool, true, false, cond, ℤ, Option, Some, None, is_some, nat_lt, ⊤}
+use Rattle.herm_model.specs.Paths.{Path}
 
 -- what a cell without parts holds; a text is its bytes, a tag the place of an enumeration's name
 pub data Scalar : Type 0 where
@@ -186,72 +186,6 @@ change_from (j ∷ k ∷ p) f i ps = change_behind i j (change_readable (change_
 -- in a known component. Language reference, "Values".
 abbrev pub change_at : {N : Type 0} → Path → (Cell N → Cell N) → Parts N → Parts N
 change_at p f ps = change_from p f 0 ps
-
--- whether the cell is a variant with this component
-abbrev pub is_component : {N : Type 0} → Option (Cell N) → ℕ → Bool
-is_component None c = false
-is_component (Some (cell n (a_variant d) ps)) c = nat_eq d c
-is_component (Some (cell n k ps)) c = false
-
--- What a fact says of the variables' values. Language reference, "Facts".
-abbrev pub tells : {N : Type 0} → Parts N → Fact → Bool
-tells ps (init p) = has_value ps p
-tells ps (case p c) = is_component (read_at p ps) c
-
--- The values have exactly these facts: a value where there is init and nowhere else, reached through records and
--- callmessages, and the component of each case. Language reference, "Facts".
-pub record HasExactly {N : Type 0} (ps : Parts N) (facts : Fact → Type 0) : Type 0 where
-  pub values : (p : Path) → IsTrue (has_value ps p) ↔ facts (init p)
-  pub components : (p : Path) (c : ℕ) → facts (case p c) → IsTrue (tells ps (case p c))
-
--- The names of a value's cells in the order of a walk: depth first, its own cell before its parts.
--- Language reference, "Values".
-abbrev mutual
-  pub names_of : {N : Type 0} → Cell N → List N
-  names_of (cell n k ps) = n ∷ names_in ps
-
-  pub names_in : {N : Type 0} → Parts N → List N
-  names_in no_parts = []
-  names_in (gap ps) = names_in ps
-  names_in (part c ps) = names_of c ++ names_in ps
-
--- how many cells a value has
-abbrev mutual
-  pub count : {N : Type 0} → Cell N → ℕ
-  count (cell n k ps) = suc (count_in ps)
-
-  pub count_in : {N : Type 0} → Parts N → ℕ
-  count_in no_parts = 0
-  count_in (gap ps) = count_in ps
-  count_in (part c ps) = count c + count_in ps
-
--- A copy: the same tree, whose cells take the names of the serials from s on in the order of a walk.
--- Language reference, "Values".
-abbrev mutual
-  pub copy_from : {N M : Type 0} → (ℕ → M) → ℕ → Cell N → Cell M
-  copy_from name s (cell n k ps) = cell (name s) k (copy_in name (suc s) ps)
-
-  pub copy_in : {N M : Type 0} → (ℕ → M) → ℕ → Parts N → Parts M
-  copy_in name s no_parts = no_parts
-  copy_in name s (gap ps) = gap (copy_in name s ps)
-  copy_in name s (part c ps) = part (copy_from name s c) (copy_in name (s + count c) ps)
-
--- the same tree with each name changed
-abbrev mutual
-  pub rename : {N M : Type 0} → (N → M) → Cell N → Cell M
-  rename f (cell n k ps) = cell (f n) k (rename_in f ps)
-
-  pub rename_in : {N M : Type 0} → (N → M) → Parts N → Parts M
-  rename_in f no_parts = no_parts
-  rename_in f (gap ps) = gap (rename_in f ps)
-  rename_in f (part c ps) = part (rename f c) (rename_in f ps)
-
--- the value that a cell is, without names
-abbrev pub forget : {N : Type 0} → Cell N → Value
-forget c = rename (λ n. tt) c
-
-abbrev pub forget_in : {N : Type 0} → Parts N → Parts ⊤
-forget_in ps = rename_in (λ n. tt) ps
 
 -- one more for a polymorph
 abbrev pub deeper : Kind → ℕ → ℕ

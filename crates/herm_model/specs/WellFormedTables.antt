@@ -1,13 +1,14 @@
 -- Well-formed tables: the rules that definitions of types keep, over numbers in place of names.
 use Rattle.std.specs.Prelude.{ℕ, ◌<◌, ◌≤◌, List, [], ◌∷◌, ◌++◌, map, length, Bool, true, false, Option, Some, None, is_some, slice_get, option_and_then, IsTrue, ◌⊎◌, ⊤, ◌≡◌}
-use Rattle.herm_model.specs.Lists.{IsIn, every, list_of}
+use Rattle.herm_model.specs.Lists.{IsIn, all_pass, list_of}
 use Rattle.herm_model.specs.Paths.{Path, Fact, init, case}
-use Rattle.herm_model.specs.Types.{by_in, Parameter, Raised, Shape, boolean, integer, text, polymorph, fields, cases, rows, inport, outport, callmessage, TypeTable, predefined, named_types, is_within_depth, greatest_depth, all_parts, steps, IsCopyable}
+use Rattle.herm_model.specs.Types.{by_in, Parameter, Raised, Shape, boolean, integer, text, polymorph, fields, cases, rows, inport, outport, callmessage, TypeTable, predefined, named_types, is_within_depth, greatest_depth, all_parts, part_paths}
+use Rattle.herm_model.specs.Copyable.{IsCopyable}
 use Rattle.herm_model.specs.Facts.{full_facts}
 use Rattle.herm_model.specs.Calls.{is_returned}
 use Rattle.herm_model.specs.Outcomes.{disconnected}
 use Rattle.herm_model.specs.Statements.{Differ}
-use Rattle.herm_model.specs.FlowLaws.{Rise}
+use Rattle.herm_model.specs.laws.FlowLaws.{Rise}
 use Rattle.herm_model.specs.TypedExpressions.{is_scalar_shape, HasShape}
 
 -- so many exceptions are predefined; those of the program follow
@@ -28,7 +29,7 @@ is_definable s = true
 
 -- The predefined types come first, and then those that are defined. Language reference, "Predefined types".
 abbrev pub BeginsPredefined : TypeTable → Type 0
-BeginsPredefined table = (defined : TypeTable) × (table ≡ predefined ++ defined) × IsTrue (every is_definable defined)
+BeginsPredefined table = (defined : TypeTable) × (table ≡ predefined ++ defined) × IsTrue (all_pass is_definable defined)
 
 -- The first type reaches the second by the names in shapes. Language reference, "Rules of definitions".
 pub data Reaches (table : TypeTable) : ℕ → ℕ → Type 0 where
@@ -139,7 +140,7 @@ pub record IsWellFormedTable (exceptions : ℕ) (table : TypeTable) : Type 0 whe
   pub exceptions_differ : OfEachShape table RaisesDifferent
   pub acyclic : (t : ℕ) → Reaches table t t → ⊥
   pub shallow : (t : ℕ) → IsType table t → IsTrue (is_within_depth greatest_depth table t)
-  pub few_paths : (t : ℕ) → IsType table t → length (steps all_parts table t) ≤ greatest_paths
+  pub few_paths : (t : ℕ) → IsType table t → length (part_paths all_parts table t) ≤ greatest_paths
   pub keys : OfEachShape table (HasKey table)
   pub outports : OfEachShape table (LeadsToInport table)
   pub inputs_copyable : OfEachShape table (CopiesInputs table)

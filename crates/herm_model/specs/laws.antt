@@ -7,3 +7,7 @@ pub mod TypedFactLaws
 pub mod ExcessLaws
 pub mod TypedExampleLaws
 pub mod ArgumentLaws
+pub mod FlowLaws
+pub mod TextLaws
+pub mod TypeLaws
+pub mod ValueLaws

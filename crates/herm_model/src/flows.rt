@@ -1,6 +1,6 @@
 // Laws of nodes, the statement table, control paths and labels.
 
-ghost use Rattle.herm_model.specs.FlowLaws.{AcceptedMeansHeld, BeginsFirst, BeginsThere, EdgesLeadThere, ExactLabelsRefuse, ExitsAreOutcomes, FlowingLabelsHold, HeldFactsAreClosed, HoldingFactsAreClosed, MakesAreClosed, NeedsAreClosed, NeedsDiffer, NodesAreStatements, NumbersAreInRange, NumbersRise, OutcomesDiffer, PathsAreCommon, PathsFollowEdges, RefusalsAreDetermined};
+ghost use Rattle.herm_model.specs.laws.FlowLaws.{AcceptedMeansHeld, BeginsFirst, BeginsThere, EdgesLeadThere, ExactLabelsRefuse, ExitsAreOutcomes, FlowingLabelsHold, HeldFactsAreClosed, HoldingFactsAreClosed, MakesAreClosed, NeedsAreClosed, NeedsDiffer, NodesAreStatements, NumbersAreInRange, NumbersRise, OutcomesDiffer, PathsAreCommon, PathsFollowEdges, RefusalsAreDetermined};
 ghost use Rattle.herm_model.specs.StraightLines.{OnePassFindsMissing};
 
 /// The nodes of a process are its statements other than `try`, in the order of the text. Their numbers rise, so that

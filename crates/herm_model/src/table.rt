@@ -1,6 +1,6 @@
 // Laws of the statement table, computed at one statement of each form.
 
-ghost use Rattle.herm_model.specs.TableExamples.{AssignRow, CallRow, CaseRow, ComponentRow, ConnectRow, CreateRow, DiscardRow, DissolveRow, ForRow, GetRow, IfRow, InsertRow, LeaveRow, MessageRow, MoveRow, NewPortRow, NewRow, RaiseRow, ReceiveRow, RemoveRow, ReturnByNothingRow, ReturnByRow, ReturnRow, RevealRow, SelectRow, SendRow, UniteRow, UnwrapRow, WhileRow, WrapRow};
+ghost use Rattle.herm_model.specs.examples.TableExamples.{AssignRow, CallRow, CaseRow, ComponentRow, ConnectRow, CreateRow, DiscardRow, DissolveRow, ForRow, GetRow, IfRow, InsertRow, LeaveRow, MessageRow, MoveRow, NewPortRow, NewRow, RaiseRow, ReceiveRow, RemoveRow, ReturnByNothingRow, ReturnByRow, ReturnRow, RevealRow, SelectRow, SendRow, UniteRow, UnwrapRow, WhileRow, WrapRow};
 
 /// What the forms that make, move and take apart values need, make and take away.
 pub fn values_are_set_and_moved()

@@ -3,8 +3,8 @@
 ghost use Rattle.std.specs.Prelude.{◌≡◌, [], ◌∷◌, map, true, false, pos, negsuc, codes};
 ghost use Rattle.herm_model.specs.Values.{a_boolean, an_integer, a_text, a_tag, a_table, a_polymorph, a_callmessage, an_inport, an_outport, cell};
 ghost use Rattle.herm_model.specs.Texts.{scalar_text, text_of};
-ghost use Rattle.herm_model.specs.ExampleTypes.{bare, two, pair, a_whole, a_call, with_part, without_first};
-ghost use Rattle.herm_model.specs.TextLaws.{TellsValues, WritesDecimals, WritesIntegers};
+ghost use Rattle.herm_model.specs.examples.ExampleTypes.{bare, two, pair, a_whole, a_call, with_part, without_first};
+ghost use Rattle.herm_model.specs.laws.TextLaws.{TellsValues, WritesDecimals, WritesIntegers};
 
 /// The text of a value determines it among the values of its type, also where more text follows that does not begin
 /// with a digit.

@@ -3,15 +3,15 @@
 ghost use Rattle.std.specs.Prelude.{◌≡◌, [], ◌∷◌, ◌++◌, map, replicate, true, false};
 ghost use Rattle.herm_model.specs.Types.{predefined, fields, inport, outport};
 ghost use Rattle.herm_model.specs.WellFormedTables.{Reaches};
-ghost use Rattle.herm_model.specs.Examples.{calls, denies, on_busy};
-ghost use Rattle.herm_model.specs.judged.TypedExamples.{item_types, items_in_a_table, keeping_types, ring_main, ring_node, ring_types, sender, sender_types, two_senders, with_statements, with_variables};
+ghost use Rattle.herm_model.specs.examples.RefusedProcesses.{calls, denies, on_busy};
+ghost use Rattle.herm_model.specs.examples.TypedExamples.{item_types, items_in_a_table, keeping_types, ring_main, ring_node, ring_types, sender, sender_types, two_senders, with_statements, with_variables};
 ghost use Rattle.herm_model.specs.TypedPrograms.{IsTypedProgram};
 ghost use Rattle.herm_model.specs.tests.BodyTests.{broken_process_rules, few_variable_paths, few_statements, keeps_process_rule, port, variables_known};
-ghost use Rattle.herm_model.specs.judged.BodyExamples.{body_examples};
-ghost use Rattle.herm_model.specs.judged.TableRuleExamples.{table_examples};
+ghost use Rattle.herm_model.specs.examples.BodyExamples.{body_examples};
+ghost use Rattle.herm_model.specs.examples.TableRuleExamples.{table_examples};
 ghost use Rattle.herm_model.specs.laws.TypedExampleLaws.{AreTyped, BreakTheirFormAlone, BreakTheseRules, BreakTheseTableRules};
-ghost use Rattle.herm_model.specs.judged.TypedStatementExamples.{typed_statements};
-ghost use Rattle.herm_model.specs.judged.UntypedStatementExamples.{untyped_statements};
+ghost use Rattle.herm_model.specs.examples.TypedStatementExamples.{typed_statements};
+ghost use Rattle.herm_model.specs.examples.UntypedStatementExamples.{untyped_statements};
 
 /// Tables that are well formed, and for each rule of definitions tables that break it.
 pub fn tables_break_their_rules()

@@ -2,10 +2,11 @@
 
 ghost use Rattle.std.specs.Prelude.{◌≡◌, [], ◌∷◌, map, true, false, Some, None};
 ghost use Rattle.herm_model.specs.Paths.{init, case, same_path, same_fact};
-ghost use Rattle.herm_model.specs.Types.{predefined, is_within_depth, is_copyable_within, type_at, passes_component, steps, full_parts, held_parts, all_parts};
+ghost use Rattle.herm_model.specs.Types.{predefined, is_within_depth, type_at, passes_component, part_paths, full_parts, held_parts, all_parts};
+ghost use Rattle.herm_model.specs.Copyable.{is_copyable_within};
 ghost use Rattle.herm_model.specs.Facts.{facts_to, prefixes, full_facts, declared_facts, without_repeats};
-ghost use Rattle.herm_model.specs.ExampleTypes.{example_types};
-ghost use Rattle.herm_model.specs.TypeLaws.{ListsWhatLeads, IsSameWithin, ListsNoneTwice, GreaterDepthHolds, TestsCopyable, PrefixesAreClosed, FactsToAreClosed, FullFactsAreClosed, MessageFactsAreClosed, MeetsAreClosed, TestsEquality};
+ghost use Rattle.herm_model.specs.examples.ExampleTypes.{example_types};
+ghost use Rattle.herm_model.specs.laws.TypeLaws.{ListsWhatLeads, IsSameWithin, ListsNoneTwice, GreaterDepthHolds, TestsCopyable, PrefixesAreClosed, FactsToAreClosed, FullFactsAreClosed, MessageFactsAreClosed, MeetsAreClosed, TestsEquality};
 
 /// The listed paths of a type that full asks for, those that hold values of their own, and all of them are the ones that
 /// lead through such parts, where they are listed with a bound on the type's depth.
@@ -60,9 +61,9 @@ pub fn paths_of_types_example()
     ensures empty_call { map (λ n. is_within_depth n example_types 18) (0 ∷ 1 ∷ []) ≡ false ∷ true ∷ [] }
     ensures endless { is_within_depth 32 example_types 17 ≡ false }
     ensures start { is_within_depth 5 predefined 7 ≡ true }
-    ensures full { steps full_parts example_types 11 ≡ [] ∷ (0 ∷ []) ∷ (1 ∷ []) ∷ (1 ∷ 0 ∷ []) ∷ (1 ∷ 1 ∷ []) ∷ [] }
-    ensures held { steps held_parts example_types 11 ≡ [] ∷ (0 ∷ []) ∷ (1 ∷ []) ∷ (1 ∷ 0 ∷ []) ∷ (1 ∷ 1 ∷ []) ∷ (2 ∷ []) ∷ (2 ∷ 0 ∷ []) ∷ (2 ∷ 1 ∷ []) ∷ [] }
-    ensures all { steps all_parts example_types 9 ≡ [] ∷ (0 ∷ []) ∷ (1 ∷ []) ∷ (1 ∷ 0 ∷ []) ∷ (1 ∷ 1 ∷ []) ∷ [] }
+    ensures full { part_paths full_parts example_types 11 ≡ [] ∷ (0 ∷ []) ∷ (1 ∷ []) ∷ (1 ∷ 0 ∷ []) ∷ (1 ∷ 1 ∷ []) ∷ [] }
+    ensures held { part_paths held_parts example_types 11 ≡ [] ∷ (0 ∷ []) ∷ (1 ∷ []) ∷ (1 ∷ 0 ∷ []) ∷ (1 ∷ 1 ∷ []) ∷ (2 ∷ []) ∷ (2 ∷ 0 ∷ []) ∷ (2 ∷ 1 ∷ []) ∷ [] }
+    ensures all { part_paths all_parts example_types 9 ≡ [] ∷ (0 ∷ []) ∷ (1 ∷ []) ∷ (1 ∷ 0 ∷ []) ∷ (1 ∷ 1 ∷ []) ∷ [] }
     ensures copyable { map (is_copyable_within 32 example_types) (0 ∷ 3 ∷ 4 ∷ 5 ∷ 6 ∷ 8 ∷ 9 ∷ 10 ∷ 11 ∷ 15 ∷ 16 ∷ []) ≡ true ∷ false ∷ false ∷ true ∷ true ∷ true ∷ true ∷ true ∷ false ∷ true ∷ false ∷ [] }
 {}
 

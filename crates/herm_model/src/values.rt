@@ -3,13 +3,15 @@
 ghost use Rattle.std.specs.Prelude.{◌≡◌, ℕ, List, [], ◌∷◌, map, true, false, Option, Some, None, pos};
 ghost use Rattle.herm_model.specs.Paths.{Path, init, case};
 ghost use Rattle.herm_model.specs.Facts.{full_facts, declared_facts};
-ghost use Rattle.herm_model.specs.Values.{Name, an_integer, a_scalar, a_record, a_variant, a_table, a_polymorph, a_callmessage, an_inport, Cell, cell, Parts, no_parts, gap, part, cell_at, read_at, put_at, clear_at, change_at, has_place, has_value, tells, names_of, count, copy_from, polymorph_depth};
+ghost use Rattle.herm_model.specs.Values.{Name, an_integer, a_scalar, a_record, a_variant, a_table, a_polymorph, a_callmessage, an_inport, Cell, cell, Parts, no_parts, gap, part, cell_at, read_at, put_at, clear_at, change_at, has_place, has_value, polymorph_depth};
+ghost use Rattle.herm_model.specs.CellNames.{names_of, count, copy_from};
+ghost use Rattle.herm_model.specs.FactsOfValues.{satisfies};
 ghost use Rattle.herm_model.specs.Tables.{same_scalar, same_key, key_of, has_key, place_of_key, has_distinct_keys, without_part};
 ghost use Rattle.herm_model.specs.Typed.{IsFull, HasType};
 ghost use Rattle.herm_model.specs.Finalising.{finalised, pending, excess, excess_at, keeps};
-ghost use Rattle.herm_model.specs.ExampleTypes.{example_types, leaf, one, two, pair, a_whole, a_call, with_part, answered, without_first, colour};
-ghost use Rattle.herm_model.specs.TypeLaws.{TestsEquality};
-ghost use Rattle.herm_model.specs.ValueLaws.{IsChangedAt, IsChangedThrough, KeepsCellsAbove, WeighsTheChange, WeighsTheFinalised, IsCopy, IsKeyed, ForgetsInParts, ForgetsInCell, FullIsTyped, FullHasFullFacts, FullFactsAreFull, ExcessIsTopmost};
+ghost use Rattle.herm_model.specs.examples.ExampleTypes.{example_types, leaf, one, two, pair, a_whole, a_call, with_part, answered, without_first, colour};
+ghost use Rattle.herm_model.specs.laws.TypeLaws.{TestsEquality};
+ghost use Rattle.herm_model.specs.laws.ValueLaws.{IsChangedAt, IsChangedThrough, KeepsCellsAbove, WeighsTheChange, WeighsTheFinalised, IsCopy, IsKeyed, ForgetsInParts, ForgetsInCell, FullIsTyped, FullHasFullFacts, FullFactsAreFull, ExcessIsTopmost};
 
 /// A change at a path leaves what is apart from it, and above it the cells that were there, with the change inside. Where
 /// there is a place at the path, it sets what stands there and its parts. A change through components changes what is read
@@ -76,7 +78,7 @@ pub fn parts_example()
     ensures through { read_at (0 ∷ 1 ∷ 1 ∷ 0 ∷ []) (change_at (0 ∷ 1 ∷ 1 ∷ []) (λ c. pair 60 7 8) (one a_whole)) ≡ Some (leaf 61 (a_scalar (an_integer (pos 7)))) }
     ensures not_through { change_at (0 ∷ 1 ∷ 0 ∷ []) (λ c. pair 60 7 8) (one a_whole) ≡ one a_whole }
     ensures places { map (has_place (two a_whole a_call)) ((0 ∷ []) ∷ (1 ∷ 2 ∷ []) ∷ (1 ∷ 3 ∷ []) ∷ (0 ∷ 1 ∷ 1 ∷ []) ∷ (2 ∷ []) ∷ []) ≡ true ∷ true ∷ false ∷ false ∷ false ∷ [] }
-    ensures facts { map (tells (two a_whole a_call)) (init (0 ∷ 1 ∷ []) ∷ init (1 ∷ 2 ∷ []) ∷ case (0 ∷ 1 ∷ []) 1 ∷ case (0 ∷ 1 ∷ []) 0 ∷ []) ≡ true ∷ false ∷ true ∷ false ∷ [] }
+    ensures facts { map (satisfies (two a_whole a_call)) (init (0 ∷ 1 ∷ []) ∷ init (1 ∷ 2 ∷ []) ∷ case (0 ∷ 1 ∷ []) 1 ∷ case (0 ∷ 1 ∷ []) 0 ∷ []) ≡ true ∷ false ∷ true ∷ false ∷ [] }
 {}
 
 /// The walk of a value, its copies and the depth of its polymorphs.

@@ -1,9 +1,9 @@
 -- Paths that part by their names part by their numbers, where their names are there.
-use Rattle.std.proofs.Common.{◌≡◌, ◌↔◌, ℕ, suc, ◌<◌, List, [], ◌∷◌, map, length, Bool, true, false, not, cond, ◌||◌, ◌⊎◌, inl, inr, nat_eq, nat_lt, Option, Some, None, is_some, slice_get, option_map, IsTrue, refl, sym, ap, subst, ◌∙◌, arith, true≢false}
+use Rattle.std.proofs.Common.{◌≡◌, ◌↔◌, ℕ, suc, ◌<◌, List, [], ◌∷◌, map, length, Bool, true, false, not, cond, ◌||◌, ◌⊎◌, inl, inr, nat_eq, nat_lt, Some, None, is_some, slice_get, option_map, IsTrue, refl, sym, ap, subst, ◌∙◌, arith, true≢false}
 use Rattle.std.specs.Str.{bytes_eq}
 use Rattle.std.proofs.lemmas.Slice.Eq.{bytes_eq-Decides}
-use Rattle.herm_model.specs.Lists.{IsIn, every, with_some, list_of}
-use Rattle.herm_model.specs.Paths.{are_apart, parent}
+use Rattle.herm_model.specs.Lists.{IsIn, all_pass, map_or, list_of}
+use Rattle.herm_model.specs.Paths.{are_apart}
 use Rattle.herm_model.specs.Types.{Parameter, Shape, fields, cases, callmessage, part_type, part_of}
 use Rattle.herm_model.specs.Calls.{is_returned, arguments_by}
 use Rattle.herm_model.specs.Statements as statements
@@ -66,7 +66,7 @@ module _ (known : NamedTable) (well : IsWellNamed known) where
   part-within t i k h =
       let s = type-shape (length known.exceptions) known.shapes well.well_formed t k in
       let v = has-some (part_of known.shapes (Some t) i) h in
-      let e : part_type s.0 i ≡ Some v.0 = subst (λ o. with_some None (λ s. part_type s i) o ≡ Some v.0) s.1 v.1 in
+      let e : part_type s.0 i ≡ Some v.0 = subst (λ o. map_or None (λ s. part_type s i) o ≡ Some v.0) s.1 v.1 in
       let n = named-parts t s.0 s.1 in
       let l : length (part_names known (Some t)) ≡ length n.0 = ap (λ o. length (list_of (λ names. names) o)) n.1 in
       let c : i < part_count s.0 = part-counted s.0 i v.0 e in
@@ -219,7 +219,7 @@ module _ (s : Scope) (well : IsWellNamed s.known) (same : length s.variables ≡
   pub all-apart : (ps : List Path) → ((p : Path) → IsIn p ps → IsTrue (is_there s.known.shapes s.types (path_number s p))) → IsTrue (all_part_ways ps) → AreApart (map (path_number s) ps)
   all-apart [] there w = tt
   all-apart (p ∷ ps) there w =
-      let c = and-both (every (part_ways p) ps) _ w in (
+      let c = and-both (all_pass (part_ways p) ps) _ w in (
         (λ y i. let h = in-map_from (path_number s) y ps i in
             subst (λ z. IsTrue (are_apart (path_number s p) z)) (sym h.2) (paths-apart p h.0 (there p (inl refl)) (there h.0 (inr h.1)) (every-in (part_ways p) h.0 ps c.0 h.1))),
         all-apart ps (λ q i. there q (inr i)) c.1,

@@ -5,7 +5,7 @@ use Rattle.herm_model.specs.Statements as model
 use Rattle.herm_model.specs.Statements.{Differ}
 use Rattle.herm_model.specs.TypedPrograms.{Placed, placed, placed_in, placed_in_blocks, placed_in_handlers}
 use Rattle.herm_model.proofs.Lists.{length-map}
-use Rattle.herm_syntax.specs.Trees.{Statement, Assign, TwoPaths, OnePath, Keyed, Unwrap, Call, Return, ReturnBy, Create, Raise, Leave, Case, For, Select, If, While, Try, Statements, NoStatement, Further, Arms, NoArm, Arm, PortArms, NoPortArm, PortArm, Otherwise, NoElse, Else}
+use Rattle.herm_syntax.specs.Trees.{Statement, Assign, Move, Unite, Dissolve, Wrap, Insert, Connect, Send, Receive, New, Discard, Reveal, Remove, Get, Unwrap, Call, Return, ReturnBy, Create, Raise, Leave, Case, For, Select, If, While, Try, Statements, NoStatement, Further, Arms, NoArm, Arm, PortArms, NoPortArm, PortArm, Otherwise, NoElse, Else}
 use Rattle.herm_naming.specs.Numbers.{Scope}
 use Rattle.herm_naming.specs.Meaning.{statement_number, block_number, arm_blocks, port_arm_blocks, otherwise_number, handlers_number}
 use Rattle.herm_naming.specs.Faults.{within, in_body, in_arms, in_port_arms, in_otherwise}
@@ -21,9 +21,19 @@ module _ (s : Scope) where
   mutual
     within-placed : (l : Bool) (x : Statement) → placed l (statement_number s x) ≡ placed_number s (l, x) ∷ map (placed_number s) (within l x)
     within-placed l (Assign x e) = refl
-    within-placed l (TwoPaths t p q) = refl
-    within-placed l (OnePath t p) = refl
-    within-placed l (Keyed f r t keys) = refl
+    within-placed l (Move y x) = refl
+    within-placed l (Unite v y) = refl
+    within-placed l (Dissolve v y) = refl
+    within-placed l (Wrap y p) = refl
+    within-placed l (Insert r t) = refl
+    within-placed l (Connect o i) = refl
+    within-placed l (Send x o) = refl
+    within-placed l (Receive x i) = refl
+    within-placed l (New x) = refl
+    within-placed l (Discard x) = refl
+    within-placed l (Reveal v) = refl
+    within-placed l (Remove r t keys) = refl
+    within-placed l (Get r t keys) = refl
     within-placed l (Unwrap p name y) = refl
     within-placed l (Call o arguments) = refl
     within-placed l (Return m) = refl

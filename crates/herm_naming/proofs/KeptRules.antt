@@ -2,11 +2,10 @@
 use Rattle.std.proofs.Common.{◌≡◌, ℕ, List, [], ◌∷◌, ◌++◌, map, flat_map, length, Bool, true, false, not, cond, ◌&&◌, inl, inr, nat_lt, Some, None, is_some, slice_get, IsTrue, refl, sym, ap, subst, ◌∙◌, arith}
 use Rattle.std.specs.Bool.{⊤}
 use Rattle.std.specs.Str.{bytes_eq}
-use Rattle.herm_model.specs.Lists.{IsIn, every}
+use Rattle.herm_model.specs.Lists.{IsIn, all_pass}
 use Rattle.herm_model.specs.Paths.{are_apart}
 use Rattle.herm_model.specs.Types.{Parameter, part_of}
 use Rattle.herm_model.specs.Expressions.{paths_among}
-use Rattle.herm_model.specs.Expressions as expressions
 use Rattle.herm_model.specs.Calls.{call_parameters, is_returned}
 use Rattle.herm_model.specs.Statements as model
 use Rattle.herm_model.specs.Statements.{Differ, IsWellFormed, IsWellFormedBlock, AreWellFormed, AreWellFormedHandlers, count_blocks}
@@ -16,10 +15,10 @@ use Rattle.herm_model.specs.tests.TableTests.{are_different}
 use Rattle.herm_model.specs.WellFormedTables.{IsType}
 use Rattle.herm_model.proofs.Lists.{not_true, and-both, every-in, in-map, in-append_left, in-append_right, length-map}
 use Rattle.herm_model.proofs.Deciding.{below-decides}
-use Rattle.herm_syntax.specs.Trees.{Letters, Path, Atom, Constant, Place, Transfer, Move, Unite, Dissolve, Wrap, Insert, Connect, Send, Receive, Touch, New, Discard, Reveal, Find, Remove, Get, Statement, Assign, TwoPaths, OnePath, Keyed, Unwrap, Call, Return, ReturnBy, Create, Raise, Leave, Case, For, Select, If, While, Try, Statements, NoStatement, Further, Arms, NoArm, Arm, PortArms, NoPortArm, PortArm, Otherwise, NoElse, Else}
+use Rattle.herm_syntax.specs.Trees.{Letters, Path, Atom, Constant, Place, Move, Unite, Dissolve, Wrap, Insert, Connect, Send, Receive, New, Discard, Reveal, Remove, Get, Statement, Assign, Unwrap, Call, Return, ReturnBy, Create, Raise, Leave, Case, For, Select, If, While, Try, Statements, NoStatement, Further, Arms, NoArm, Arm, PortArms, NoPortArm, PortArm, Otherwise, NoElse, Else}
 use Rattle.herm_meaning.specs.Names.{IsWellNamed}
 use Rattle.herm_naming.specs.Numbers.{Scope, exception_number, type_number, part_names, part_number, path_number, type_seen, without_last, component_number, atom_number, expression_number}
-use Rattle.herm_naming.specs.Meaning.{process_number, arm_names, arm_forms, transfer_form, touch_form, find_form, statement_number, block_number, arm_blocks, port_arm_blocks, otherwise_number, handlers_number}
+use Rattle.herm_naming.specs.Meaning.{process_number, arm_names, arm_forms, statement_number, block_number, arm_blocks, port_arm_blocks, otherwise_number, handlers_number}
 use Rattle.herm_naming.specs.Known.{paths_named, is_there, is_form_there, is_statement_there}
 use Rattle.herm_naming.specs.Fits.{fits_form, fits_statement}
 use Rattle.herm_naming.specs.Copies.{copies_form, copies_statement}
@@ -113,7 +112,7 @@ module _ (s : Scope) (processes : List model.Process) (ok : IsSettled s processe
       (record { there = subst (λ n. IsTrue (is_form_there s.known.shapes s.types (length s.known.exceptions) n f)) ok.each_port h; fits = k; copies = c; apart = a })
 
   named : (f : model.Form) → IsTrue (is_form_there s.known.shapes s.types (length s.known.exceptions) (length s.processes) f) → (p : List ℕ) → IsIn p (paths_named f) → IsTrue (is_there s.known.shapes s.types p)
-  named f h p i = every-in (is_there s.known.shapes s.types) p (paths_named f) (and-both (every (is_there s.known.shapes s.types) (paths_named f)) _ h).0 i
+  named f h p i = every-in (is_there s.known.shapes s.types) p (paths_named f) (and-both (all_pass (is_there s.known.shapes s.types) (paths_named f)) _ h).0 i
 
   part : (p q : Path) → IsTrue (is_there s.known.shapes s.types (path_number s p)) → IsTrue (is_there s.known.shapes s.types (path_number s q)) → IsTrue (part_ways p q) → IsTrue (are_apart (path_number s p) (path_number s q))
   part p q a b w = paths-apart s ok.well ok.same ok.known p q a b w
@@ -134,27 +133,27 @@ module _ (s : Scope) (processes : List model.Process) (ok : IsSettled s processe
   -- a statement without a fault is typed
   pub statement-right : (l : Bool) (x : Statement) → IsFaultless s l x → OfForm IsRight (statement_number s x)
   statement-right l (Assign x e) h = form-right (model.Assign (path_number s x) (expression_number s e)) h.there h.fits h.copies tt
-  statement-right l (TwoPaths Move y x) h =
+  statement-right l (Move y x) h =
       let f : model.Form = model.Move (path_number s y) (path_number s x) in
       form-right f h.there h.fits h.copies (part y x (named f h.there (path_number s y) (inl refl)) (named f h.there (path_number s x) (inr (inl refl))) h.parts)
-  statement-right l (TwoPaths Unite v y) h =
+  statement-right l (Unite v y) h =
       let f : model.Form = model.Unite (path_number s (without_last v)) (component_number s v) (path_number s y) in
       form-right f h.there h.fits h.copies (part y (without_last v) (named f h.there (path_number s y) (inr (inr (inl refl)))) (named f h.there (path_number s (without_last v)) (inl refl)) h.parts)
-  statement-right l (TwoPaths Dissolve v y) h =
+  statement-right l (Dissolve v y) h =
       let f : model.Form = model.Dissolve (path_number s (without_last v)) (component_number s v) (path_number s y) in
       form-right f h.there h.fits h.copies (part (without_last v) y (named f h.there (path_number s (without_last v)) (inl refl)) (named f h.there (path_number s y) (inr (inr (inl refl)))) h.parts)
-  statement-right l (TwoPaths Wrap y p) h =
+  statement-right l (Wrap y p) h =
       let f : model.Form = model.Wrap (path_number s y) (path_number s p) in
       form-right f h.there h.fits h.copies (part y p (named f h.there (path_number s y) (inl refl)) (named f h.there (path_number s p) (inr (inl refl))) h.parts)
-  statement-right l (TwoPaths Insert r t) h = form-right (model.Insert (path_number s r) (path_number s t)) h.there h.fits h.copies tt
-  statement-right l (TwoPaths Connect o i) h = form-right (model.Connect (path_number s o) (path_number s i)) h.there h.fits h.copies tt
-  statement-right l (TwoPaths Send x o) h = form-right (model.Send (path_number s x) (path_number s o)) h.there h.fits h.copies tt
-  statement-right l (TwoPaths Receive x i) h = form-right (model.Receive (path_number s x) (path_number s i)) h.there h.fits h.copies tt
-  statement-right l (OnePath New x) h = form-right (model.New (path_number s x)) h.there h.fits h.copies tt
-  statement-right l (OnePath Discard x) h = form-right (model.Discard (path_number s x)) h.there h.fits h.copies tt
-  statement-right l (OnePath Reveal v) h = form-right (model.Reveal (path_number s (without_last v)) (component_number s v)) h.there h.fits h.copies tt
-  statement-right l (Keyed Remove r t keys) h = form-right (model.Remove (path_number s r) (path_number s t) (map (atom_number s) keys)) h.there h.fits h.copies tt
-  statement-right l (Keyed Get r t keys) h = form-right (model.Get (path_number s r) (path_number s t) (map (atom_number s) keys)) h.there h.fits h.copies tt
+  statement-right l (Insert r t) h = form-right (model.Insert (path_number s r) (path_number s t)) h.there h.fits h.copies tt
+  statement-right l (Connect o i) h = form-right (model.Connect (path_number s o) (path_number s i)) h.there h.fits h.copies tt
+  statement-right l (Send x o) h = form-right (model.Send (path_number s x) (path_number s o)) h.there h.fits h.copies tt
+  statement-right l (Receive x i) h = form-right (model.Receive (path_number s x) (path_number s i)) h.there h.fits h.copies tt
+  statement-right l (New x) h = form-right (model.New (path_number s x)) h.there h.fits h.copies tt
+  statement-right l (Discard x) h = form-right (model.Discard (path_number s x)) h.there h.fits h.copies tt
+  statement-right l (Reveal v) h = form-right (model.Reveal (path_number s (without_last v)) (component_number s v)) h.there h.fits h.copies tt
+  statement-right l (Remove r t keys) h = form-right (model.Remove (path_number s r) (path_number s t) (map (atom_number s) keys)) h.there h.fits h.copies tt
+  statement-right l (Get r t keys) h = form-right (model.Get (path_number s r) (path_number s t) (map (atom_number s) keys)) h.there h.fits h.copies tt
   statement-right l (Unwrap p name y) h =
       let f : model.Form = model.Unwrap (path_number s p) (type_number s.known name) (path_number s y) in
       form-right f h.there h.fits h.copies (part p y (named f h.there (path_number s p) (inl refl)) (named f h.there (path_number s y) (inr (inl refl))) h.parts)
@@ -224,9 +223,19 @@ module _ (s : Scope) (processes : List model.Process) (ok : IsSettled s processe
       (λ n i. k (exception_number s.known n) (subst (λ es. IsIn (exception_number s.known n) es) (sym (handled-names s arms)) (in-map (exception_number s.known) n (arm_names arms) i)))
       (not-twice _ h.once))
   keeps-different l (Assign x e) h = tt
-  keeps-different l (TwoPaths t p q) h = tt
-  keeps-different l (OnePath t p) h = tt
-  keeps-different l (Keyed f r t keys) h = tt
+  keeps-different l (Move y x) h = tt
+  keeps-different l (Unite v y) h = tt
+  keeps-different l (Dissolve v y) h = tt
+  keeps-different l (Wrap y p) h = tt
+  keeps-different l (Insert r t) h = tt
+  keeps-different l (Connect o i) h = tt
+  keeps-different l (Send x o) h = tt
+  keeps-different l (Receive x i) h = tt
+  keeps-different l (New x) h = tt
+  keeps-different l (Discard x) h = tt
+  keeps-different l (Reveal v) h = tt
+  keeps-different l (Remove r t keys) h = tt
+  keeps-different l (Get r t keys) h = tt
   keeps-different l (Unwrap p name y) h = tt
   keeps-different l (Call o arguments) h = tt
   keeps-different l (Return m) h = tt
@@ -240,32 +249,22 @@ module _ (s : Scope) (processes : List model.Process) (ok : IsSettled s processe
   keeps-different l (If e body other) h = tt
   keeps-different l (While e body) h = tt
 
-  -- forms without blocks stand alone
-  alone : (t : Transfer) (p q : Path) → model.branching_of (transfer_form s t p q) ≡ model.goes_on
-  alone Move p q = refl
-  alone Unite p q = refl
-  alone Dissolve p q = refl
-  alone Wrap p q = refl
-  alone Insert p q = refl
-  alone Connect p q = refl
-  alone Send p q = refl
-  alone Receive p q = refl
-
-  touch-alone : (t : Touch) (p : Path) → model.branching_of (touch_form s t p) ≡ model.goes_on
-  touch-alone New p = refl
-  touch-alone Discard p = refl
-  touch-alone Reveal p = refl
-
-  find-alone : (f : Find) (r t : List ℕ) (keys : List expressions.Atom) → model.branching_of (find_form f r t keys) ≡ model.goes_on
-  find-alone Remove r t keys = refl
-  find-alone Get r t keys = refl
-
   mutual
     well-formed : (l : Bool) (x : Statement) → IsFaultless s l x → ((y : Bool × Statement) → IsIn y (within l x) → IsFaultless s y.0 y.1) → IsWellFormed (statement_number s x)
     well-formed l (Assign x e) h each = refl
-    well-formed l (TwoPaths t p q) h each = alone t p q
-    well-formed l (OnePath t p) h each = touch-alone t p
-    well-formed l (Keyed f r t keys) h each = find-alone f _ _ _
+    well-formed l (Move y x) h each = refl
+    well-formed l (Unite v y) h each = refl
+    well-formed l (Dissolve v y) h each = refl
+    well-formed l (Wrap y p) h each = refl
+    well-formed l (Insert r t) h each = refl
+    well-formed l (Connect o i) h each = refl
+    well-formed l (Send x o) h each = refl
+    well-formed l (Receive x i) h each = refl
+    well-formed l (New x) h each = refl
+    well-formed l (Discard x) h each = refl
+    well-formed l (Reveal v) h each = refl
+    well-formed l (Remove r t keys) h each = refl
+    well-formed l (Get r t keys) h each = refl
     well-formed l (Unwrap p name y) h each = refl
     well-formed l (Call o arguments) h each = refl
     well-formed l (Return m) h each = refl

@@ -1,9 +1,10 @@
 -- In a well-formed table, with variables of known types: what the tests say of paths and expressions that are there.
 use Rattle.std.proofs.Common.{◌≡◌, ℕ, List, [], ◌∷◌, map, length, Bool, true, false, not, ◌&&◌, ◌||◌, ◌⊎◌, inl, inr, nat_eq, nat_lt, Option, Some, None, is_some, slice_get, IsTrue, IsFalse, refl, sym, ap, subst, ◌∙◌, true≢false}
-use Rattle.herm_model.specs.Lists.{IsIn, with_some}
+use Rattle.herm_model.specs.Lists.{IsIn, map_or}
 use Rattle.herm_model.specs.Paths.{Path}
-use Rattle.herm_model.specs.Types.{Parameter, TypeTable, Shape, boolean, integer, text, names, fields, cases, rows, callmessage, named_types, part_type, part_of, type_below, type_at, greatest_depth, IsCopyable, is_copyable_within}
-use Rattle.herm_model.specs.Expressions.{Literal, tag, Expression, literal, copy, negated, inverted, operation, size_of, decimal, length_of, Operator, either, both, equal, unequal, less, at_most, greater, at_least, plus, minus, times, divided, modulo, concatenated, paths_read}
+use Rattle.herm_model.specs.Types.{Parameter, TypeTable, Shape, boolean, integer, text, names, fields, cases, rows, callmessage, named_types, part_type, part_of, type_below, type_at, greatest_depth}
+use Rattle.herm_model.specs.Copyable.{IsCopyable, is_copyable_within}
+use Rattle.herm_model.specs.Expressions.{Literal, tag, Expression, literal, copy, negation, logical_not, operation, size_of, decimal, length_of, Operator, logical_or, logical_and, equal, unequal, less, at_most, greater, at_least, plus, minus, times, divided, modulo, concatenated, paths_read}
 use Rattle.herm_model.specs.TypedExpressions.{is_boolean_shape, is_integer_shape, is_text_shape, takes, shape_given, HasShape, IsLiteralOf, IsPathOf, IsTyped}
 use Rattle.herm_model.specs.tests.TypingTests.{number_of_shape}
 use Rattle.herm_model.specs.WellFormedTables.{IsType, IsWellFormedTable}
@@ -77,25 +78,25 @@ module _ (exceptions : ℕ) (table : TypeTable) (well : IsWellFormedTable except
   pub may-shape : (test : Shape → Bool) (t : ℕ) → IsType table t → IsTrue (may_be table test (Some t)) → (s : Shape) × HasShape table t s × IsTrue (test s)
   may-shape test t k m =
       let h = type-shape t k in
-      (h.0, h.1, subst (λ o. IsTrue (with_some true test o)) h.1 m)
+      (h.0, h.1, subst (λ o. IsTrue (map_or true test o)) h.1 m)
 
   known-is : (t : ℕ) → IsType table t → when_known table (Some t) ≡ Some t
   known-is t k = let h = type-shape t k in by (slice_get table t) h.0 h.1
     where
-      by : (o : Option Shape) (s : Shape) → o ≡ Some s → with_some None (λ x. Some t) o ≡ Some t
+      by : (o : Option Shape) (s : Shape) → o ≡ Some s → map_or None (λ x. Some t) o ≡ Some t
       by None s e = none-not_some e
       by (Some x) s e = refl
 
   pub equal-types : (t u : ℕ) → IsType table t → IsType table u → IsTrue (may_equal table (Some t) (Some u)) → t ≡ u
   equal-types t u k l m =
-      let a : IsTrue (with_some true (λ x. with_some true (nat_eq x) (Some u)) (Some t)) =
-      subst (λ o. IsTrue (with_some true (λ x. with_some true (nat_eq x) o) (Some t))) (known-is u l)
-      (subst (λ o. IsTrue (with_some true (λ x. with_some true (nat_eq x) (when_known table (Some u))) o)) (known-is t k) m) in
+      let a : IsTrue (map_or true (λ x. map_or true (nat_eq x) (Some u)) (Some t)) =
+      subst (λ o. IsTrue (map_or true (λ x. map_or true (nat_eq x) o) (Some t))) (known-is u l)
+      (subst (λ o. IsTrue (map_or true (λ x. map_or true (nat_eq x) (when_known table (Some u))) o)) (known-is t k) m) in
       (numbers-decide t u).0 a
 
   pub copy-type : (t : ℕ) → IsType table t → IsTrue (may_copy table (Some t)) → IsCopyable table t
   copy-type t k m =
-      (copyable-decides table regular.deep t).0 (subst (λ o. IsTrue (with_some true (is_copyable_within greatest_depth table) o)) (known-is t k) m)
+      (copyable-decides table regular.deep t).0 (subst (λ o. IsTrue (map_or true (is_copyable_within greatest_depth table) o)) (known-is t k) m)
 
   pub boolean-type : IsType table 0
   boolean-type = shape-type 0 boolean regular.has_boolean
@@ -113,7 +114,7 @@ module _ (exceptions : ℕ) (table : TypeTable) (well : IsWellFormedTable except
   part-leads t i k c =
       let v = has-some (part_of table (Some t) i) c in
       let s = type-shape t k in
-      let e : part_type s.0 i ≡ Some v.0 = subst (λ o. with_some None (λ s. part_type s i) o ≡ Some v.0) s.1 v.1 in
+      let e : part_type s.0 i ≡ Some v.0 = subst (λ o. map_or None (λ s. part_type s i) o ≡ Some v.0) s.1 v.1 in
       (v.0, v.1, named-type t s.0 v.0 s.1 (part-named s.0 i v.0 e))
 
   pub when-type : (t : ℕ) (b : Bool) → IsType table t → IsTrue (not (is_known table (Some t)) || b) → IsTrue b
@@ -152,7 +153,7 @@ module _ (exceptions : ℕ) (table : TypeTable) (well : IsWellFormedTable except
     literal-type (Literal.text bytes) h f = (2, refl, text-type, (regular.has_text, f))
     literal-type (tag t i) h f = by (slice_get table t) refl h f
       where
-        by : (o : Option Shape) → slice_get table t ≡ o → IsTrue (with_some false (may_have_value i) o) → IsTrue (with_some true is_names_shape o) → (u : ℕ) × (literal_gives table (tag t i) ≡ Some u) × IsType table u × IsLiteralOf table (tag t i) u
+        by : (o : Option Shape) → slice_get table t ≡ o → IsTrue (map_or false (may_have_value i) o) → IsTrue (map_or true is_names_shape o) → (u : ℕ) × (literal_gives table (tag t i) ≡ Some u) × IsType table u × IsLiteralOf table (tag t i) u
         by None e h f = not_true h
         by (Some (names count)) e h f = (t, refl, shape-type t (names count) e, (refl, count, e, h))
         by (Some s) e h f = not_true f
@@ -165,8 +166,8 @@ module _ (exceptions : ℕ) (table : TypeTable) (well : IsWellFormedTable except
         subst (λ s. HasShape table t s) (only h.0 h.2) h.1
 
     given-shape : (o : Operator) → HasShape table (number_of_shape (shape_given o)) (shape_given o)
-    given-shape either = regular.has_boolean
-    given-shape both = regular.has_boolean
+    given-shape logical_or = regular.has_boolean
+    given-shape logical_and = regular.has_boolean
     given-shape equal = regular.has_boolean
     given-shape unequal = regular.has_boolean
     given-shape less = regular.has_boolean
@@ -209,11 +210,11 @@ module _ (exceptions : ℕ) (table : TypeTable) (well : IsWellFormedTable except
     expression-type (copy p) h =
         let r = path-type p (h.paths p (inl refl)) in
         (r.0, r.1, r.2, (seen-path p r.0 r.1 h.fits, copy-type r.0 r.2 (subst (λ o. IsTrue (may_copy table o)) r.1 (h.copies p (inl refl)))))
-    expression-type (negated e) h =
+    expression-type (negation e) h =
         let c = and-both (may_be table is_integer_shape (gives table types e)) (is_fit table types e) h.fits in
         let r = expression-type e (record { paths = h.paths; literals = h.literals; fits = c.1; copies = h.copies }) in
         (1, refl, integer-type, (regular.has_integer, r.0, operand is_integer_shape integer is-integer e r.0 r.1 r.2 c.0, r.3))
-    expression-type (inverted e) h =
+    expression-type (logical_not e) h =
         let c = and-both (may_be table is_boolean_shape (gives table types e)) (is_fit table types e) h.fits in
         let r = expression-type e (record { paths = h.paths; literals = h.literals; fits = c.1; copies = h.copies }) in
         (0, refl, boolean-type, (regular.has_boolean, r.0, operand is_boolean_shape boolean is-boolean e r.0 r.1 r.2 c.0, r.3))

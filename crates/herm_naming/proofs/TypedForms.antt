@@ -1,7 +1,7 @@
 -- A form whose names are there, whose types fit, which copies what may be copied and whose paths are apart is typed.
 use Rattle.std.proofs.Common.{◌≡◌, ℕ, List, [], ◌∷◌, ◌++◌, map, length, Bool, true, false, cond, ◌&&◌, ◌||◌, inl, inr, nat_eq, Option, Some, None, is_some, slice_get, option_and_then, IsTrue, refl, sym, ap, subst, ◌∙◌}
 use Rattle.std.specs.Bool.{⊤}
-use Rattle.herm_model.specs.Lists.{IsIn, every, some_of, with_some, list_of, range}
+use Rattle.herm_model.specs.Lists.{IsIn, all_pass, any_pass, map_or, list_of, range}
 use Rattle.herm_model.specs.Paths.{Path, Fact, are_apart}
 use Rattle.herm_model.specs.Types.{Mode, by_in, by_inout, by_out, Parameter, Raised, TypeTable, Shape, boolean, polymorph, fields, cases, rows, inport, outport, callmessage, is_cases, part_type, part_of, type_below, type_at}
 use Rattle.herm_model.specs.Expressions.{Literal, Expression, Atom, path, paths_among}
@@ -46,11 +46,11 @@ cases-is : (s : Shape) → IsTrue (is_cases s) → (ts : List ℕ) × (s ≡ cas
 cases-is (cases ts) h = (ts, refl)
 cases-is s h = not_true h
 
-arms-are : (cs : List ℕ) (s : Shape) → IsTrue (has_every_arm cs s) → (ts : List ℕ) × (s ≡ cases ts) × IsTrue (every (λ c. some_of (nat_eq c) cs) (range 0 (length ts)))
+arms-are : (cs : List ℕ) (s : Shape) → IsTrue (has_every_arm cs s) → (ts : List ℕ) × (s ≡ cases ts) × IsTrue (all_pass (λ c. any_pass (nat_eq c) cs) (range 0 (length ts)))
 arms-are cs (cases ts) h = (ts, refl, h)
 arms-are cs s h = not_true h
 
-raise-is : (e : ℕ) (s : Shape) → IsTrue (may_raise e s) → (ps : List Parameter) × (rs : List Raised) × (s ≡ callmessage ps rs) × IsTrue (some_of (λ (r : Raised). nat_eq e r.exception) rs)
+raise-is : (e : ℕ) (s : Shape) → IsTrue (may_raise e s) → (ps : List Parameter) × (rs : List Raised) × (s ≡ callmessage ps rs) × IsTrue (any_pass (λ (r : Raised). nat_eq e r.exception) rs)
 raise-is e (callmessage ps rs) h = (ps, rs, refl, h)
 raise-is e s h = not_true h
 
@@ -58,11 +58,11 @@ either-in : {A : Type 0} (a b : Bool) → IsTrue (a || b) → (IsTrue a → A) �
 either-in true b h f g = f refl
 either-in false b h f g = g h
 
-raised-in : (e : ℕ) (rs : List Raised) → IsTrue (some_of (λ (r : Raised). nat_eq e r.exception) rs) → IsIn e (map (λ (r : Raised). r.exception) rs)
+raised-in : (e : ℕ) (rs : List Raised) → IsTrue (any_pass (λ (r : Raised). nat_eq e r.exception) rs) → IsIn e (map (λ (r : Raised). r.exception) rs)
 raised-in e [] h = not_true h
 raised-in e (r ∷ rs) h = either-in (nat_eq e r.exception) _ h (λ k. inl ((numbers-decide e r.exception).0 k)) (λ k. inr (raised-in e rs k))
 
-pub member-in : (c : ℕ) (cs : List ℕ) → IsTrue (some_of (nat_eq c) cs) → IsIn c cs
+pub member-in : (c : ℕ) (cs : List ℕ) → IsTrue (any_pass (nat_eq c) cs) → IsIn c cs
 member-in c [] h = not_true h
 member-in c (d ∷ cs) h = either-in (nat_eq c d) _ h (λ k. inl ((numbers-decide c d).0 k)) (λ k. inr (member-in c cs k))
 
@@ -139,7 +139,7 @@ module _ (exceptions : ℕ) (table : TypeTable) (well : IsWellFormedTable except
     pub record AtomsPass (atoms : List Atom) : Type 0 where
       pub paths : (p : Path) → IsIn p (paths_among atoms) → IsTrue (is_there table types p)
       pub literals : (l : Literal) → IsIn l (literals_among atoms) → IsTrue (is_literal_there table l)
-      pub fits : IsTrue (every (is_fit_atom table types) atoms)
+      pub fits : IsTrue (all_pass (is_fit_atom table types) atoms)
 
     tail-pass : (a : Atom) (atoms : List Atom) → AtomsPass (a ∷ atoms) → AtomsPass atoms
     tail-pass (Atom.literal l) atoms h = record {
@@ -234,10 +234,10 @@ module _ (exceptions : ℕ) (table : TypeTable) (well : IsWellFormedTable except
         pub apart : IsApartForm table types f
 
       module _ (f : Form) (h : FormPasses f) where
-        names : IsTrue (every (is_there table types) (paths_named f)) × IsTrue (every (is_literal_there table) (literals_named f)) × IsTrue (is_other_there table types exceptions (length ports) f)
+        names : IsTrue (all_pass (is_there table types) (paths_named f)) × IsTrue (all_pass (is_literal_there table) (literals_named f)) × IsTrue (is_other_there table types exceptions (length ports) f)
         names =
-            let c = and-both (every (is_there table types) (paths_named f)) _ h.there in
-            let d = and-both (every (is_literal_there table) (literals_named f)) _ c.1 in
+            let c = and-both (all_pass (is_there table types) (paths_named f)) _ h.there in
+            let d = and-both (all_pass (is_literal_there table) (literals_named f)) _ c.1 in
             (c.0, d.0, d.1)
 
         there-path : (p : Path) → IsIn p (paths_named f) → IsTrue (is_there table types p)
@@ -264,7 +264,7 @@ module _ (exceptions : ℕ) (table : TypeTable) (well : IsWellFormedTable except
       component-type v c t ts e s h =
           let r = path-type exceptions table well types known (v ++ (c ∷ [])) h in
           let d : part_of table (Some t) c ≡ Some r.0 = sym (at-more table types v c t e) ∙ r.1 in
-          (r.0, subst (λ o. with_some None (λ s. part_type s c) o ≡ Some r.0) s d, r.2)
+          (r.0, subst (λ o. map_or None (λ s. part_type s c) o ≡ Some r.0) s d, r.2)
 
       arm-typed : (x i : Path) → IsTrue (is_there table types x) → IsTrue (is_there table types i) → IsTrue (fits_arm table types (record { target = x; port = i })) → IsReceived table types x i
       arm-typed x i hx hi f =
@@ -289,10 +289,10 @@ module _ (exceptions : ℕ) (table : TypeTable) (well : IsWellFormedTable except
       keys-of : (t : Path) (b row : ℕ) (key : List ℕ) (keys : List Atom) → type_at table types t ≡ Some b → HasShape table b (rows row key) → AtomsPass keys
           → IsTrue (may_copy_each table types (paths_among keys)) → IsTrue (fits_keys table types t keys) → (ts : List ℕ) × HasShape table row (fields ts) × AreKeysOf table types ts key keys
       keys-of t b row key keys e s h m f =
-          let c = and-both (every (is_fit_atom table types) keys) _ f in
+          let c = and-both (all_pass (is_fit_atom table types) keys) _ f in
           let k = well.keys b (rows row key) s in
           let d : IsTrue (are_keys table types (list_of field_types (slice_get table row)) key keys) =
-          subst (λ o. IsTrue (with_some true (may_have_keys table types keys) o)) s (at-type (may_have_keys table types keys) t b e c.1) in
+          subst (λ o. IsTrue (map_or true (may_have_keys table types keys) o)) s (at-type (may_have_keys table types keys) t b e c.1) in
           let g : IsTrue (are_keys table types k.0 key keys) = subst (λ o. IsTrue (are_keys table types (list_of field_types o) key keys)) k.1 d in
           (k.0, k.1, keys-typed k.0 key keys (λ i j. let q = k.3 i j in (q.0, q.2, shape-type exceptions table well q.0 q.1 q.3)) h (λ p i. every-in (λ p. may_copy table (type_at table types p)) p (paths_among keys) m i) g)
 
@@ -402,7 +402,7 @@ module _ (exceptions : ℕ) (table : TypeTable) (well : IsWellFormedTable except
             λ c. (
               λ i. let w = component-type v c a.0 k.0 a.1 d (there-path (Case v cs) h (v ++ (c ∷ [])) (inr (in-map (λ c. v ++ (c ∷ [])) c cs i))) in
                   type-below k.0 c (subst (λ o. IsTrue (is_some o)) (sym w.1) refl),
-              λ l. member-in c cs ((range-decides (λ c. some_of (nat_eq c) cs) (λ c. IsTrue (some_of (nat_eq c) cs)) (λ c. ((λ x. x), λ x. x)) (length k.0)).0 k.2 c l),
+              λ l. member-in c cs ((range-decides (λ c. any_pass (nat_eq c) cs) (λ c. IsTrue (any_pass (nat_eq c) cs)) (λ c. ((λ x. x), λ x. x)) (length k.0)).0 k.2 c l),
             ),
           )
       form-typed (Wrap y p) h =
@@ -431,7 +431,7 @@ module _ (exceptions : ℕ) (table : TypeTable) (well : IsWellFormedTable except
           let b = at (Remove r t keys) h t (inr (inl refl)) in
           let g = and-both (fits_row table types r t) _ h.fits in
           let w = row-typed r t a.0 a.1 a.2 b.0 b.1 b.2 g.0 in
-          let k = keys-of t b.0 w.0 w.1 keys b.1 w.2 (record { paths = λ p i. there-path (Remove r t keys) h p (inr (inr i)); literals = λ l i. there-literal (Remove r t keys) h l i; fits = (and-both (every (is_fit_atom table types) keys) _ g.1).0 }) h.copies g.1 in
+          let k = keys-of t b.0 w.0 w.1 keys b.1 w.2 (record { paths = λ p i. there-path (Remove r t keys) h p (inr (inr i)); literals = λ l i. there-literal (Remove r t keys) h l i; fits = (and-both (all_pass (is_fit_atom table types) keys) _ g.1).0 }) h.copies g.1 in
           (w.0, (w.1, k.0, (b.0, w.3, w.2), w.4, k.1, k.2))
       form-typed (Get r t keys) h =
           let a = at (Get r t keys) h r (inl refl) in
@@ -439,13 +439,13 @@ module _ (exceptions : ℕ) (table : TypeTable) (well : IsWellFormedTable except
           let g = and-both (fits_row table types r t) _ h.fits in
           let m = and-both (may_copy_each table types (paths_among keys)) _ h.copies in
           let w = row-typed r t a.0 a.1 a.2 b.0 b.1 b.2 g.0 in
-          let k = keys-of t b.0 w.0 w.1 keys b.1 w.2 (record { paths = λ p i. there-path (Get r t keys) h p (inr (inr i)); literals = λ l i. there-literal (Get r t keys) h l i; fits = (and-both (every (is_fit_atom table types) keys) _ g.1).0 }) m.0 g.1 in
-          (w.0, (w.1, k.0, (b.0, w.3, w.2), w.4, k.1, k.2), copy-type exceptions table well w.0 (named-row b.0 w.0 w.1 w.2) (subst (λ o. IsTrue (with_some true (may_copy_rows table) o)) w.2 (at-type (may_copy_rows table) t b.0 b.1 m.1)))
+          let k = keys-of t b.0 w.0 w.1 keys b.1 w.2 (record { paths = λ p i. there-path (Get r t keys) h p (inr (inr i)); literals = λ l i. there-literal (Get r t keys) h l i; fits = (and-both (all_pass (is_fit_atom table types) keys) _ g.1).0 }) m.0 g.1 in
+          (w.0, (w.1, k.0, (b.0, w.3, w.2), w.4, k.1, k.2), copy-type exceptions table well w.0 (named-row b.0 w.0 w.1 w.2) (subst (λ o. IsTrue (map_or true (may_copy_rows table) o)) w.2 (at-type (may_copy_rows table) t b.0 b.1 m.1)))
       form-typed (For r t) h =
           let a = at (For r t) h r (inl refl) in
           let b = at (For r t) h t (inr (inl refl)) in
           let w = row-typed r t a.0 a.1 a.2 b.0 b.1 b.2 h.fits in
-          (w.0, w.1, (b.0, w.3, w.2), w.4, copy-type exceptions table well w.0 (named-row b.0 w.0 w.1 w.2) (subst (λ o. IsTrue (with_some true (may_copy_rows table) o)) w.2 (at-type (may_copy_rows table) t b.0 b.1 h.copies)))
+          (w.0, w.1, (b.0, w.3, w.2), w.4, copy-type exceptions table well w.0 (named-row b.0 w.0 w.1 w.2) (subst (λ o. IsTrue (map_or true (may_copy_rows table) o)) w.2 (at-type (may_copy_rows table) t b.0 b.1 h.copies)))
       form-typed (Connect o i) h =
           let g = and-both (is_own table types o && is_seen table types i) _ h.fits in
           let d = and-both (is_own table types o) _ g.0 in
@@ -472,7 +472,7 @@ module _ (exceptions : ℕ) (table : TypeTable) (well : IsWellFormedTable except
             (every-in (fits_arm table types) a arms h.fits i),
       )
       form-typed (Call o arguments) h =
-          let g = and-both (is_seen table types o && every (is_fit_atom table types) arguments) _ h.fits in
+          let g = and-both (is_seen table types o && all_pass (is_fit_atom table types) arguments) _ h.fits in
           let d = and-both (is_seen table types o) _ g.0 in
           let a = at (Call o arguments) h o (inl refl) in
           let s = called-is o a.0 arguments a.1 a.2 (at-type (takes_parameters table types arguments) o a.0 a.1 g.1) in

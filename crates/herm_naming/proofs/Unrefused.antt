@@ -2,14 +2,15 @@
 use Rattle.std.proofs.Common.{◌≡◌, ℕ, zero, suc, ◌+◌, ◌<◌, ◌≤◌, List, [], ◌∷◌, ◌++◌, map, length, Bool, true, false, not, cond, ◌&&◌, ◌||◌, ◌⊎◌, inl, inr, nat_lt, Option, Some, None, is_some, slice_get, option_and_then, option_map, length-append, IsTrue, IsFalse, refl, sym, ap, ap₂, subst, ◌∙◌, arith, true≢false}
 use Rattle.std.specs.Str.{bytes_eq}
 use Rattle.std.proofs.lemmas.Slice.Eq.{bytes_eq-Decides}
-use Rattle.herm_model.specs.Lists.{IsIn, some_of, with_some}
+use Rattle.herm_model.specs.Lists.{IsIn, any_pass, map_or}
 use Rattle.herm_model.specs.Types.{TypeTable, Shape, inport, all_parts, variable_paths}
 use Rattle.herm_model.specs.Paths.{Fact}
 use Rattle.herm_model.specs.Statements as model
 use Rattle.herm_model.specs.Statements.{Differ, numbers_of_block}
-use Rattle.herm_model.specs.FlowLaws.{forms_of, forms_of_block, forms_of_blocks, forms_of_handlers}
-use Rattle.herm_model.specs.Nodes.{Node, node, process_nodes}
-use Rattle.herm_model.specs.Control.{flow_of, IsReached}
+use Rattle.herm_model.specs.laws.FlowLaws.{forms_of, forms_of_block, forms_of_blocks, forms_of_handlers}
+use Rattle.herm_model.specs.Nodes.{Node, process_nodes}
+use Rattle.herm_model.specs.Targets.{node}
+use Rattle.herm_model.specs.ControlPaths.{flow_of, IsReached}
 use Rattle.herm_model.specs.TypedExpressions.{HasShape}
 use Rattle.herm_model.specs.WellFormedTables.{IsType}
 use Rattle.herm_model.specs.TypedStatements.{port_type, IsTypedForm}
@@ -20,7 +21,7 @@ use Rattle.herm_model.proofs.Deciding.{numbers-decide, below-decides, member-dec
 use Rattle.herm_model.proofs.NodeNumbers.{process_numbers-range, process_forms}
 use Rattle.std.proofs.Common.{◌-◌}
 use Rattle.herm_model.proofs.DecidedTables.{below-type}
-use Rattle.herm_alphabet.specs.Letters.{keyword_of}
+use Rattle.herm_alphabet.specs.KeywordLetters.{keyword_of}
 use Rattle.herm_syntax.specs.Trees.{Letters, Field, Statement, Module}
 use Rattle.herm_meaning.specs.Names.{NamedTable, IsWellNamed}
 use Rattle.herm_naming.specs.Numbers.{place_of, Scope, type_number}
@@ -255,7 +256,7 @@ module _ (known : NamedTable) (all : List ProcessText) where
       not-twice-false true h = refl
       not-twice-false false h = absurd (true≢false h)
 
-      by : (o : Option Shape) → slice_get known.shapes (type_number known p.port.1) ≡ o → IsTrue (is_some o) → IsTrue (with_some true is_inport_shape o) → (message : ℕ) × (declared : List Fact) × HasShape known.shapes (type_number known p.port.1) (inport message declared)
+      by : (o : Option Shape) → slice_get known.shapes (type_number known p.port.1) ≡ o → IsTrue (is_some o) → IsTrue (map_or true is_inport_shape o) → (message : ℕ) × (declared : List Fact) × HasShape known.shapes (type_number known p.port.1) (inport message declared)
       by None e h m = not_true h
       by (Some s) e h m = let k = inport-is s m in (k.0, k.1, e ∙ ap Some k.2)
 
@@ -334,30 +335,30 @@ module _ (known : NamedTable) (all : List ProcessText) where
         large = not-either _ _ (name-none known a.before p.name (process_meaning known all p) (none-in (process_codes known all a.before p) a.none (name_code known a.before p.name (process_meaning known all p)) (inl refl))).1
 
 -- where names differ, the process `main` is the one with its name
-main-at : (known : NamedTable) (ps : List ProcessText) → Differ (map (λ (q : ProcessText). q.name) ps) → IsTrue (some_of (is_main known) ps)
+main-at : (known : NamedTable) (ps : List ProcessText) → Differ (map (λ (q : ProcessText). q.name) ps) → IsTrue (any_pass (is_main known) ps)
     → slice_get (map (λ (q : ProcessText). type_number known q.port.1) ps) (place_of main_name (map (λ (q : ProcessText). q.name) ps)) ≡ Some main_start
 main-at known [] d h = not_true h
-main-at known (q ∷ ps) d h = by (bytes_eq main_name q.name) refl (or-either (is_main known q) (some_of (is_main known) ps) h) (λ k. main-at known ps d.1 k)
+main-at known (q ∷ ps) d h = by (bytes_eq main_name q.name) refl (or-either (is_main known q) (any_pass (is_main known) ps) h) (λ k. main-at known ps d.1 k)
   where
     -- a later main would have the first one's name
-    named-main : (ps : List ProcessText) → IsTrue (some_of (is_main known) ps) → IsIn main_name (map (λ (q : ProcessText). q.name) ps)
+    named-main : (ps : List ProcessText) → IsTrue (any_pass (is_main known) ps) → IsIn main_name (map (λ (q : ProcessText). q.name) ps)
     named-main [] h = not_true h
-    named-main (r ∷ ps) h = either (or-either (is_main known r) (some_of (is_main known) ps) h) (λ k. named-main ps k)
+    named-main (r ∷ ps) h = either (or-either (is_main known r) (any_pass (is_main known) ps) h) (λ k. named-main ps k)
       where
-        either : IsTrue (is_main known r) ⊎ IsTrue (some_of (is_main known) ps) → (IsTrue (some_of (is_main known) ps) → IsIn main_name (map (λ (q : ProcessText). q.name) ps)) → IsIn main_name (map (λ (q : ProcessText). q.name) (r ∷ ps))
+        either : IsTrue (is_main known r) ⊎ IsTrue (any_pass (is_main known) ps) → (IsTrue (any_pass (is_main known) ps) → IsIn main_name (map (λ (q : ProcessText). q.name) ps)) → IsIn main_name (map (λ (q : ProcessText). q.name) (r ∷ ps))
         either (inl k) again = inl (sym ((bytes_eq-Decides r.name main_name).0 (and-both (bytes_eq r.name main_name) _ k).0))
         either (inr k) again = inr (again k)
 
-    by : (b : Bool) → bytes_eq main_name q.name ≡ b → IsTrue (is_main known q) ⊎ IsTrue (some_of (is_main known) ps)
-        → (IsTrue (some_of (is_main known) ps) → slice_get (map (λ (q : ProcessText). type_number known q.port.1) ps) (place_of main_name (map (λ (q : ProcessText). q.name) ps)) ≡ Some main_start)
+    by : (b : Bool) → bytes_eq main_name q.name ≡ b → IsTrue (is_main known q) ⊎ IsTrue (any_pass (is_main known) ps)
+        → (IsTrue (any_pass (is_main known) ps) → slice_get (map (λ (q : ProcessText). type_number known q.port.1) ps) (place_of main_name (map (λ (q : ProcessText). q.name) ps)) ≡ Some main_start)
         → slice_get (map (λ (q : ProcessText). type_number known q.port.1) (q ∷ ps)) (cond b 0 (suc (place_of main_name (map (λ (q : ProcessText). q.name) ps)))) ≡ Some main_start
     by true e (inl k) again = ap Some ((numbers-decide (type_number known q.port.1) main_start).0 (and-both (bytes_eq q.name main_name) _ k).1)
     by true e (inr k) again = absurd (d.0 (subst (λ n. IsIn n (map (λ (q : ProcessText). q.name) ps)) ((bytes_eq-Decides main_name q.name).0 e) (named-main ps k)))
     by false e (inl k) again = absurd (true≢false (sym ((bytes_eq-Decides main_name q.name).1 (sym ((bytes_eq-Decides q.name main_name).0 (and-both (bytes_eq q.name main_name) _ k).0))) ∙ e))
     by false e (inr k) again = again k
 
-main-there : {P : Type 0} (known : NamedTable) (all : List ProcessText) (nowhere : P) → main_refusals known all nowhere ≡ [] → IsTrue (some_of (is_main known) all)
-main-there {P} known all nowhere e = by (some_of (is_main known) all) e
+main-there : {P : Type 0} (known : NamedTable) (all : List ProcessText) (nowhere : P) → main_refusals known all nowhere ≡ [] → IsTrue (any_pass (is_main known) all)
+main-there {P} known all nowhere e = by (any_pass (is_main known) all) e
   where
     by : (b : Bool) → cond {A = List (Code × P)} b [] ((no_main, nowhere) ∷ []) ≡ [] → IsTrue b
     by true e = refl

@@ -1,9 +1,10 @@
 -- What statements copy, and whether it may be copied. Language reference, "Copyable types".
 use Rattle.std.specs.Prelude.{ℕ, Bool, true, ◌&&◌, List, [], ◌∷◌, ◌++◌, Option, Some}
-use Rattle.herm_model.specs.Lists.{every, with_some}
+use Rattle.herm_model.specs.Lists.{all_pass, map_or}
 use Rattle.herm_model.specs.Paths.{Path}
-use Rattle.herm_model.specs.Types.{TypeTable, Shape, rows, greatest_depth, is_copyable_within}
-use Rattle.herm_model.specs.Expressions.{Expression, literal, copy, negated, inverted, operation, size_of, decimal, length_of, paths_among}
+use Rattle.herm_model.specs.Types.{TypeTable, Shape, rows, greatest_depth}
+use Rattle.herm_model.specs.Copyable.{is_copyable_within}
+use Rattle.herm_model.specs.Expressions.{Expression, literal, copy, negation, logical_not, operation, size_of, decimal, length_of, paths_among}
 use Rattle.herm_model.specs.Calls.{call_parameters, arguments_by}
 use Rattle.herm_model.specs.Statements.{Form, Assign, Remove, Get, For, Call, If, While, Statement, simple, choosing, repeating, leaving, trying}
 use Rattle.herm_naming.specs.Fits.{is_in_mode, when_known, may_be, type_of}
@@ -12,8 +13,8 @@ use Rattle.herm_naming.specs.Fits.{is_in_mode, when_known, may_be, type_of}
 abbrev pub copied : Expression → List Path
 copied (literal l) = []
 copied (copy p) = p ∷ []
-copied (negated e) = copied e
-copied (inverted e) = copied e
+copied (negation e) = copied e
+copied (logical_not e) = copied e
 copied (operation o left right) = copied left ++ copied right
 copied (size_of p) = []
 copied (decimal e) = copied e
@@ -22,7 +23,7 @@ copied (length_of e) = copied e
 module _ (table : TypeTable) where
   -- a type may be copied
   abbrev pub may_copy : Option ℕ → Bool
-  may_copy t = with_some true (is_copyable_within greatest_depth table) (when_known table t)
+  may_copy t = map_or true (is_copyable_within greatest_depth table) (when_known table t)
 
   -- a table whose rows may be copied
   abbrev pub may_copy_rows : Shape → Bool
@@ -31,7 +32,7 @@ module _ (table : TypeTable) where
 
   module _ (types : List ℕ) where
     abbrev pub may_copy_each : List Path → Bool
-    may_copy_each ps = every (λ p. may_copy (type_of table types p)) ps
+    may_copy_each ps = all_pass (λ p. may_copy (type_of table types p)) ps
 
     -- What a form copies may be copied: paths in expressions, keys, `in` arguments, and the rows of `get` and `for`.
     -- Language reference, "Copyable types".

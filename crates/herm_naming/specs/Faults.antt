@@ -1,14 +1,14 @@
 -- The places of a process at which a name or a type can be wrong, in the order of the text, and the code at each.
 -- Language reference, "Names and types of statements".
 use Rattle.std.specs.Prelude.{Bool, true, false, not, cond, ◌&&◌, ◌||◌, nat_lt, List, [], ◌∷◌, ◌++◌, map, length, bytes_eq, Option, Some, None, is_some}
-use Rattle.herm_model.specs.Lists.{every, some_of}
+use Rattle.herm_model.specs.Lists.{all_pass, any_pass}
 use Rattle.herm_model.specs.Types.{Parameter, Shape, inport, all_parts, variable_paths}
 use Rattle.herm_model.specs.Calls.{call_parameters, is_returned}
 use Rattle.herm_model.specs.Statements.{numbers_of_block, Process}
 use Rattle.herm_model.specs.tests.TableTests.{are_different}
 use Rattle.herm_model.specs.TypedPrograms.{greatest_statements, greatest_variable_paths}
-use Rattle.herm_alphabet.specs.Letters.{keyword_of}
-use Rattle.herm_syntax.specs.Trees.{Letters, Path, Atom, Constant, Place, Transfer, Move, Unite, Dissolve, Wrap, Statement, TwoPaths, Unwrap, Call, Case, For, Select, If, While, Try, Statements, NoStatement, Further, Arms, NoArm, Arm, PortArms, NoPortArm, PortArm, Otherwise, NoElse, Else, Field}
+use Rattle.herm_alphabet.specs.KeywordLetters.{keyword_of}
+use Rattle.herm_syntax.specs.Trees.{Letters, Path, Atom, Constant, Place, Move, Unite, Dissolve, Wrap, Statement, Unwrap, Call, Case, For, Select, If, While, Try, Statements, NoStatement, Further, Arms, NoArm, Arm, PortArms, NoPortArm, PortArm, Otherwise, NoElse, Else, Field}
 use Rattle.herm_meaning.specs.Names.{NamedTable}
 use Rattle.herm_naming.specs.Numbers.{Scope, path_number, type_number, without_last}
 use Rattle.herm_naming.specs.Meaning.{arm_names, statement_number, ProcessText, scope_of, process_meaning}
@@ -35,19 +35,15 @@ set_arguments (p ∷ parameters) (Place q ∷ atoms) = cond (is_returned p.mode)
 
 abbrev pub all_part_ways : List Path → Bool
 all_part_ways [] = true
-all_part_ways (p ∷ ps) = every (part_ways p) ps && all_part_ways ps
-
-abbrev pub transfer_parts : Transfer → Path → Path → Bool
-transfer_parts Move y x = part_ways y x
-transfer_parts Unite c y = part_ways y (without_last c)
-transfer_parts Dissolve c y = part_ways (without_last c) y
-transfer_parts Wrap y p = part_ways y p
-transfer_parts _ p q = true
+all_part_ways (p ∷ ps) = all_pass (part_ways p) ps && all_part_ways ps
 
 -- A path that is moved and one that is set do not begin one another, nor do two that a call sets. Language reference,
 -- "Rules on paths".
 abbrev pub paths_part : Scope → Statement → Bool
-paths_part s (TwoPaths t p q) = transfer_parts t p q
+paths_part s (Move y x) = part_ways y x
+paths_part s (Unite c y) = part_ways y (without_last c)
+paths_part s (Dissolve c y) = part_ways (without_last c) y
+paths_part s (Wrap y p) = part_ways y p
 paths_part s (Unwrap p name y) = part_ways p y
 paths_part s (Call o arguments) = all_part_ways (set_arguments (call_parameters s.known.shapes s.types (path_number s o)) arguments)
 paths_part s _ = true
@@ -116,7 +112,7 @@ statement_codes s body = map (λ (x : Bool × Statement). statement_code s x.0 x
 
 -- it is one of the names before
 abbrev pub is_among : Letters → List Letters → Bool
-is_among name names = some_of (bytes_eq name) names
+is_among name names = any_pass (bytes_eq name) names
 
 abbrev pub is_inport_shape : Shape → Bool
 is_inport_shape (inport message declared) = true

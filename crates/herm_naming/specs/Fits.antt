@@ -1,11 +1,11 @@
 -- Where the types of a statement fit, over numbers in place of names. A type that is not known fits everywhere.
 -- Language reference, "Types that fit".
 use Rattle.std.specs.Prelude.{ℕ, Bool, true, false, not, ◌&&◌, ◌||◌, nat_eq, List, [], ◌∷◌, length, Option, Some, slice_get, option_map, option_and_then}
-use Rattle.herm_model.specs.Lists.{every, some_of, with_some, range, list_of}
+use Rattle.herm_model.specs.Lists.{all_pass, any_pass, map_or, range, list_of}
 use Rattle.herm_model.specs.Paths.{Path}
 use Rattle.herm_model.specs.Types.{Mode, by_in, by_inout, by_out, Parameter, Raised, TypeTable, Shape, polymorph, names, fields, cases, rows, inport, outport, callmessage, is_cases, type_at, passes_component}
 use Rattle.herm_model.specs.Typed.{is_integer, is_text}
-use Rattle.herm_model.specs.Expressions.{Literal, tag, Expression, literal, copy, negated, inverted, operation, size_of, decimal, length_of, Atom, path}
+use Rattle.herm_model.specs.Expressions.{Literal, tag, Expression, literal, copy, negation, logical_not, operation, size_of, decimal, length_of, Atom, path}
 use Rattle.herm_model.specs.TypedExpressions.{is_boolean_shape, is_integer_shape, is_text_shape, takes, shape_given, passes_out}
 use Rattle.herm_model.specs.tests.TypingTests.{number_of_shape}
 use Rattle.herm_model.specs.TypedStatements.{can_be_new}
@@ -30,12 +30,12 @@ is_callmessage_shape s = false
 
 -- a variant, and each of its components has an arm
 abbrev pub has_every_arm : List ℕ → Shape → Bool
-has_every_arm cs (cases ts) = every (λ c. some_of (nat_eq c) cs) (range 0 (length ts))
+has_every_arm cs (cases ts) = all_pass (λ c. any_pass (nat_eq c) cs) (range 0 (length ts))
 has_every_arm cs s = false
 
 -- a callmessage that may raise the exception
 abbrev pub may_raise : ℕ → Shape → Bool
-may_raise e (callmessage parameters raises) = some_of (λ (r : Raised). nat_eq e r.exception) raises
+may_raise e (callmessage parameters raises) = any_pass (λ (r : Raised). nat_eq e r.exception) raises
 may_raise e s = false
 
 -- the types of the fields of a record
@@ -55,7 +55,7 @@ module _ (table : TypeTable) where
 
   -- it holds of the type's shape, where the type is known
   abbrev pub may_be : (Shape → Bool) → Option ℕ → Bool
-  may_be test t = with_some true test (shape_of t)
+  may_be test t = map_or true test (shape_of t)
 
   -- the type, where it is known
   abbrev pub when_known : Option ℕ → Option ℕ
@@ -63,7 +63,7 @@ module _ (table : TypeTable) where
 
   -- the two are one type, where both are known
   abbrev pub may_equal : Option ℕ → Option ℕ → Bool
-  may_equal t u = with_some true (λ a. with_some true (nat_eq a) (when_known u)) (when_known t)
+  may_equal t u = map_or true (λ a. map_or true (nat_eq a) (when_known u)) (when_known t)
 
   -- a variant whose component may be of the type
   abbrev pub may_hold : ℕ → Option ℕ → Shape → Bool
@@ -120,8 +120,8 @@ module _ (table : TypeTable) where
     abbrev pub gives : Expression → Option ℕ
     gives (literal l) = literal_gives l
     gives (copy p) = type_of p
-    gives (negated e) = Some 1
-    gives (inverted e) = Some 0
+    gives (negation e) = Some 1
+    gives (logical_not e) = Some 0
     gives (operation o left right) = Some (number_of_shape (shape_given o))
     gives (size_of p) = Some 1
     gives (decimal e) = Some 2
@@ -131,8 +131,8 @@ module _ (table : TypeTable) where
     abbrev pub is_fit : Expression → Bool
     is_fit (literal l) = fits_literal l
     is_fit (copy p) = is_seen p
-    is_fit (negated e) = may_be is_integer_shape (gives e) && is_fit e
-    is_fit (inverted e) = may_be is_boolean_shape (gives e) && is_fit e
+    is_fit (negation e) = may_be is_integer_shape (gives e) && is_fit e
+    is_fit (logical_not e) = may_be is_boolean_shape (gives e) && is_fit e
     is_fit (operation o left right) = (may_be (takes o) (gives left) && may_be (takes o) (gives right)) && (may_equal (gives left) (gives right) && (is_fit left && is_fit right))
     is_fit (size_of p) = is_seen p && may_be is_rows_shape (type_of p)
     is_fit (decimal e) = may_be is_integer_shape (gives e) && is_fit e
@@ -195,7 +195,7 @@ module _ (table : TypeTable) where
     fits_row r t = (is_own r && is_seen t) && may_be (may_have_rows (type_of r)) (type_of t)
 
     abbrev pub fits_keys : (table : Path) → List Atom → Bool
-    fits_keys t keys = every is_fit_atom keys && may_be (may_have_keys keys) (type_of t)
+    fits_keys t keys = all_pass is_fit_atom keys && may_be (may_have_keys keys) (type_of t)
 
     abbrev pub fits_test : Expression → Bool
     fits_test e = is_fit e && may_equal (gives e) (Some 0)
@@ -219,8 +219,8 @@ module _ (table : TypeTable) where
     fits_form ports (Connect o i) = (is_own o && is_seen i) && may_be (may_lead (type_of i)) (type_of o)
     fits_form ports (Send x o) = (is_own x && is_seen o) && may_be (may_take (type_of x)) (type_of o)
     fits_form ports (Receive x i) = fits_arm (record { target = x; port = i })
-    fits_form ports (Select arms) = every fits_arm arms
-    fits_form ports (Call o arguments) = (is_seen o && every is_fit_atom arguments) && may_be (takes_parameters arguments) (type_of o)
+    fits_form ports (Select arms) = all_pass fits_arm arms
+    fits_form ports (Call o arguments) = (is_seen o && all_pass is_fit_atom arguments) && may_be (takes_parameters arguments) (type_of o)
     fits_form ports (Return m) = is_own m && may_be is_callmessage_shape (type_of m)
     fits_form ports (ReturnBy m e) = is_own m && may_be (may_raise e) (type_of m)
     fits_form ports (Create o n) = is_own o && may_be (may_lead (slice_get ports n)) (type_of o)

@@ -1,9 +1,9 @@
 -- Which names of a statement are there, over the numbers that stand for them. Language reference, "Unknown names".
 use Rattle.std.specs.Prelude.{ℕ, Bool, true, false, not, ◌&&◌, ◌||◌, nat_lt, List, [], ◌∷◌, ◌++◌, map, flat_map, length, Option, is_some, slice_get}
-use Rattle.herm_model.specs.Lists.{every, with_some}
+use Rattle.herm_model.specs.Lists.{all_pass, map_or}
 use Rattle.herm_model.specs.Paths.{Path}
 use Rattle.herm_model.specs.Types.{TypeTable, Shape, names, part_of}
-use Rattle.herm_model.specs.Expressions.{Literal, boolean, integer, text, tag, Expression, literal, copy, negated, inverted, operation, size_of, decimal, length_of, Atom, path, paths_read, paths_among}
+use Rattle.herm_model.specs.Expressions.{Literal, boolean, integer, text, tag, Expression, literal, copy, negation, logical_not, operation, size_of, decimal, length_of, Atom, path, paths_read, paths_among}
 use Rattle.herm_model.specs.Statements.{Form, Assign, Move, New, Discard, Unite, Dissolve, Reveal, Case, Wrap, Unwrap, Insert, Remove, Get, For, Connect, Send, Receive, Select, Call, Return, ReturnBy, Create, If, While, Raise, Leave, Arm, Statement, simple, choosing, repeating, leaving, trying}
 use Rattle.herm_model.specs.TypedPrograms.{handled}
 
@@ -40,8 +40,8 @@ paths_named Leave = []
 abbrev pub literals_in : Expression → List Literal
 literals_in (literal l) = l ∷ []
 literals_in (copy p) = []
-literals_in (negated e) = literals_in e
-literals_in (inverted e) = literals_in e
+literals_in (negation e) = literals_in e
+literals_in (logical_not e) = literals_in e
 literals_in (operation o left right) = literals_in left ++ literals_in right
 literals_in (size_of p) = []
 literals_in (decimal e) = literals_in e
@@ -72,14 +72,14 @@ module _ (table : TypeTable) where
   is_type t = is_some (slice_get table t)
 
   abbrev pub is_known : Option ℕ → Bool
-  is_known t = with_some false is_type t
+  is_known t = map_or false is_type t
 
   -- A value of an enumeration is there: its type is, and has it where it is an enumeration.
   abbrev pub is_literal_there : Literal → Bool
   is_literal_there (boolean b) = true
   is_literal_there (integer z) = true
   is_literal_there (text bytes) = true
-  is_literal_there (tag t i) = with_some false (may_have_value i) (slice_get table t)
+  is_literal_there (tag t i) = map_or false (may_have_value i) (slice_get table t)
 
   -- Each part is one of the type before it. Behind a type that is not known no part is judged.
   abbrev pub are_parts_there : Option ℕ → List ℕ → Bool
@@ -102,7 +102,7 @@ module _ (table : TypeTable) where
 
     -- All names of a form are there.
     abbrev pub is_form_there : Form → Bool
-    is_form_there f = every (is_there types) (paths_named f) && (every is_literal_there (literals_named f) && is_other_there f)
+    is_form_there f = all_pass (is_there types) (paths_named f) && (all_pass is_literal_there (literals_named f) && is_other_there f)
 
     -- All names of a statement are there, apart from those of the statements within it; `leave` has its loop.
     abbrev pub is_statement_there : (in_loop : Bool) → Statement → Bool
@@ -110,4 +110,4 @@ module _ (table : TypeTable) where
     is_statement_there l (choosing f _) = is_form_there f
     is_statement_there l (repeating f body) = is_form_there f
     is_statement_there l leaving = l
-    is_statement_there l (trying body handlers) = every (λ e. nat_lt e exceptions) (handled handlers)
+    is_statement_there l (trying body handlers) = all_pass (λ e. nat_lt e exceptions) (handled handlers)

@@ -6,7 +6,5 @@ pub mod Fits
 pub mod Copies
 pub mod Faults
 pub mod Refusals
-pub mod Laws
-pub mod ExampleScope
-pub mod Examples
-pub mod ProcessExamples
+pub mod laws
+pub mod examples

@@ -1,9 +1,7 @@
 -- What process modules mean: the processes of the model, every name replaced by its number.
 use Rattle.std.specs.Prelude.{ℕ, List, [], ◌∷◌, ◌++◌, map, codes}
-use Rattle.herm_model.specs.Paths as paths
-use Rattle.herm_model.specs.Expressions as expressions
 use Rattle.herm_model.specs.Statements as model
-use Rattle.herm_syntax.specs.Trees.{Letters, Path, Transfer, Move, Unite, Dissolve, Wrap, Insert, Connect, Send, Receive, Touch, New, Discard, Reveal, Find, Remove, Get, Statement, Assign, TwoPaths, OnePath, Keyed, Unwrap, Call, Return, ReturnBy, Create, Raise, Leave, Case, For, Select, If, While, Try, Statements, NoStatement, Further, Arms, NoArm, Arm, PortArms, NoPortArm, PortArm, Otherwise, NoElse, Else, Field, Module, Definitions, Process}
+use Rattle.herm_syntax.specs.Trees.{Letters, Move, Unite, Dissolve, Wrap, Insert, Connect, Send, Receive, New, Discard, Reveal, Remove, Get, Statement, Assign, Unwrap, Call, Return, ReturnBy, Create, Raise, Leave, Case, For, Select, If, While, Try, Statements, NoStatement, Further, Arms, NoArm, Arm, PortArms, NoPortArm, PortArm, Otherwise, NoElse, Else, Field, Module, Definitions, Process}
 use Rattle.herm_meaning.specs.Names.{NamedTable}
 use Rattle.herm_naming.specs.Numbers.{place_of, Scope, type_number, exception_number, part_number, path_number, type_seen, without_last, component_number, atom_number, expression_number}
 
@@ -20,34 +18,24 @@ abbrev pub arm_forms : Scope → PortArms → List model.Arm
 arm_forms s NoPortArm = []
 arm_forms s (PortArm port target body rest) = record { target = path_number s target; port = path_number s port } ∷ arm_forms s rest
 
--- The forms that stand without a block. A component is written as the last part of a path. Language reference,
--- "Statements".
-abbrev pub transfer_form : Scope → Transfer → (first second : Path) → model.Form
-transfer_form s Move y x = model.Move (path_number s y) (path_number s x)
-transfer_form s Unite c y = model.Unite (path_number s (without_last c)) (component_number s c) (path_number s y)
-transfer_form s Dissolve c y = model.Dissolve (path_number s (without_last c)) (component_number s c) (path_number s y)
-transfer_form s Wrap y p = model.Wrap (path_number s y) (path_number s p)
-transfer_form s Insert r t = model.Insert (path_number s r) (path_number s t)
-transfer_form s Connect o i = model.Connect (path_number s o) (path_number s i)
-transfer_form s Send x o = model.Send (path_number s x) (path_number s o)
-transfer_form s Receive x i = model.Receive (path_number s x) (path_number s i)
-
-abbrev pub touch_form : Scope → Touch → Path → model.Form
-touch_form s New x = model.New (path_number s x)
-touch_form s Discard x = model.Discard (path_number s x)
-touch_form s Reveal c = model.Reveal (path_number s (without_last c)) (component_number s c)
-
-abbrev pub find_form : Find → (target table : paths.Path) → List expressions.Atom → model.Form
-find_form Remove r t keys = model.Remove r t keys
-find_form Get r t keys = model.Get r t keys
-
--- A statement: each name by its number. An `if` without `else` has an empty second block. Language reference, "Statements".
+-- A statement: each name by its number. A component is written as the last part of a path, and an `if` without `else`
+-- has an empty second block. Language reference, "Statements".
 abbrev mutual
   pub statement_number : Scope → Statement → model.Statement
   statement_number s (Assign x e) = model.simple (model.Assign (path_number s x) (expression_number s e))
-  statement_number s (TwoPaths t p q) = model.simple (transfer_form s t p q)
-  statement_number s (OnePath t p) = model.simple (touch_form s t p)
-  statement_number s (Keyed f r t keys) = model.simple (find_form f (path_number s r) (path_number s t) (map (atom_number s) keys))
+  statement_number s (Move y x) = model.simple (model.Move (path_number s y) (path_number s x))
+  statement_number s (Unite c y) = model.simple (model.Unite (path_number s (without_last c)) (component_number s c) (path_number s y))
+  statement_number s (Dissolve c y) = model.simple (model.Dissolve (path_number s (without_last c)) (component_number s c) (path_number s y))
+  statement_number s (Wrap y p) = model.simple (model.Wrap (path_number s y) (path_number s p))
+  statement_number s (Insert r t) = model.simple (model.Insert (path_number s r) (path_number s t))
+  statement_number s (Connect o i) = model.simple (model.Connect (path_number s o) (path_number s i))
+  statement_number s (Send x o) = model.simple (model.Send (path_number s x) (path_number s o))
+  statement_number s (Receive x i) = model.simple (model.Receive (path_number s x) (path_number s i))
+  statement_number s (New x) = model.simple (model.New (path_number s x))
+  statement_number s (Discard x) = model.simple (model.Discard (path_number s x))
+  statement_number s (Reveal c) = model.simple (model.Reveal (path_number s (without_last c)) (component_number s c))
+  statement_number s (Remove r t keys) = model.simple (model.Remove (path_number s r) (path_number s t) (map (atom_number s) keys))
+  statement_number s (Get r t keys) = model.simple (model.Get (path_number s r) (path_number s t) (map (atom_number s) keys))
   statement_number s (Unwrap p name y) = model.simple (model.Unwrap (path_number s p) (type_number s.known name) (path_number s y))
   statement_number s (Call o arguments) = model.simple (model.Call (path_number s o) (map (atom_number s) arguments))
   statement_number s (Return m) = model.simple (model.Return (path_number s m))

@@ -84,8 +84,8 @@ atom_number s (Constant l) = model.Atom.literal (literal_number s.known l)
 atom_number s (Place p) = model.path (path_number s p)
 
 abbrev pub keyword_operator : Keyword → model.Operator
-keyword_operator KwOr = model.either
-keyword_operator KwAnd = model.both
+keyword_operator KwOr = model.logical_or
+keyword_operator KwAnd = model.logical_and
 keyword_operator KwDiv = model.divided
 keyword_operator k = model.modulo
 
@@ -109,8 +109,8 @@ operator_of symbol = model.concatenated
 
 -- `not` before an operand, else the minus
 abbrev pub sign_of : Symbol → model.Expression → model.Expression
-sign_of (Key k) e = model.inverted e
-sign_of symbol e = model.negated e
+sign_of (Key k) e = model.logical_not e
+sign_of symbol e = model.negation e
 
 abbrev pub signed : Option Symbol → model.Expression → model.Expression
 signed None e = e

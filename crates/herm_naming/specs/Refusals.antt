@@ -1,10 +1,11 @@
 -- The list of refusals of names and types, at places that the text gives.
 use Rattle.std.specs.Prelude.{ℕ, suc, Bool, true, false, not, cond, ◌&&◌, nat_eq, is_some, List, [], ◌∷◌, ◌++◌, map, length, bytes_eq, Option, Some, None, slice_get, ⊤, ◌≡◌}
-use Rattle.herm_model.specs.Lists.{every, some_of}
+use Rattle.herm_model.specs.Lists.{all_pass, any_pass}
 use Rattle.herm_model.specs.Types.{TypeTable}
 use Rattle.herm_model.specs.Statements.{Process, numbers_of_block}
-use Rattle.herm_model.specs.Nodes.{node, Node, process_nodes}
-use Rattle.herm_model.specs.Control.{flow_of, IsReached}
+use Rattle.herm_model.specs.Nodes.{Node, process_nodes}
+use Rattle.herm_model.specs.Targets.{node}
+use Rattle.herm_model.specs.ControlPaths.{flow_of, IsReached}
 use Rattle.herm_model.specs.TypedPrograms.{main_start}
 use Rattle.herm_syntax.specs.Trees.{Letters, Module}
 use Rattle.herm_meaning.specs.Names.{NamedTable}
@@ -32,7 +33,7 @@ pub record Places (P : Type 0) : Type 0 where
   pub statements : List P
 
 abbrev pub are_none : List (Option Code) → Bool
-are_none codes = every (λ (c : Option Code). not (is_some c)) codes
+are_none codes = all_pass (λ (c : Option Code). not (is_some c)) codes
 
 -- a process `main` whose port is of the type main_start
 abbrev pub is_main : NamedTable → ProcessText → Bool
@@ -70,7 +71,7 @@ module _ {P : Type 0} where
       (first rest : List (Code × P)) × RefusesProcess known all before p x first × RefusesProcesses known all (before ++ (p.name ∷ [])) ps places rest × (refusals ≡ first ++ rest)
 
   abbrev pub main_refusals : NamedTable → List ProcessText → (nowhere : P) → List (Code × P)
-  main_refusals known all nowhere = cond (some_of (is_main known) all) [] ((no_main, nowhere) ∷ [])
+  main_refusals known all nowhere = cond (any_pass (is_main known) all) [] ((no_main, nowhere) ∷ [])
 
   -- These are the refusals of the processes of these modules, in their order, and that there is no main behind them.
   -- Language reference, "Refusals".

@@ -1,8 +1,8 @@
 //! Laws of the meaning and the refusals of process modules. No function here does any work: each states a law, which the
 //! check proves.
-ghost use Rattle.herm_naming.specs.Examples.{RightValues, WrongValues, RightForms, WrongForms, KeysAndCalls, Blocks};
-ghost use Rattle.herm_naming.specs.ProcessExamples.{FirstProcess, Declarations, Nested, Main, Limits};
-ghost use Rattle.herm_naming.specs.Laws.{UnrefusedIsTyped, RefusalsAreOne};
+ghost use Rattle.herm_naming.specs.examples.StatementExamples.{RightValues, WrongValues, RightForms, WrongForms, KeysAndCalls, Blocks};
+ghost use Rattle.herm_naming.specs.examples.ProcessExamples.{FirstProcess, Declarations, Nested, Main, Limits};
+ghost use Rattle.herm_naming.specs.laws.NamingLaws.{UnrefusedIsTyped, RefusalsAreOne};
 
 /// Modules without a refusal of names and types mean a typed program, over a table that keeps the rules of definitions.
 pub fn unrefused_is_typed()

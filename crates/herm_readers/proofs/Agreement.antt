@@ -3,7 +3,7 @@
 use Rattle.std.proofs.Common.{◌≡◌, ℕ, zero, suc, Bool, true, false, ◌⊎◌, inl, inr, List, [], ◌∷◌, length, Option, Some, None, refl, ap, ◌∙◌, subst}
 use Rattle.herm_readers.specs.Reader.{Answer, Read, Fault, Reader, ahead}
 use Rattle.herm_readers.proofs.Marks.{led}
-use Rattle.herm_readers.specs.Combinators.{onward, passes, one, picked, changed, depending, sequence, leading, closing, chosen, choice, many_step, many_at, many, separated}
+use Rattle.herm_readers.specs.Combinators.{onward, passes, one, picked, mapped, and_then, sequence, preceded, terminated, chosen, choice, many_step, many_at, many, separated}
 use Rattle.herm_readers.specs.Brackets.{Side, Opening, Closing, Neither, too_deep_step, too_deep}
 
 -- With so much room before, the two answer alike, and what is read leaves so much room after.
@@ -32,14 +32,14 @@ module _ {S : Type 0} (side : S → Side) where
     keeps = λ symbols b last w r. agree_bind_keeps first second symbols b last w (f symbols) refl r;
   }
 
-  pub agree_changed : {A B : Type 0} {before after : ℕ} {f g : Reader S A} (change : A → B) → Agrees side before after f g → Agrees side before after (changed change f) (changed change g)
+  pub agree_changed : {A B : Type 0} {before after : ℕ} {f g : Reader S A} (change : A → B) → Agrees side before after f g → Agrees side before after (mapped change f) (mapped change g)
   agree_changed {after = after} change first = agree_bind first (λ a. agree_return after (change a))
 
   pub agree_sequence : {A B : Type 0} {before middle after : ℕ} {f g : Reader S A} {h k : Reader S B} → Agrees side before middle f g → Agrees side middle after h k → Agrees side before after (sequence f h) (sequence g k)
   agree_sequence {after = after} first second = agree_bind first (λ a. agree_bind second (λ b. agree_return after (a, b)))
 
   pub agree_depending : {A B : Type 0} {before middle after : ℕ} {f g : Reader S A} {h k : A → Reader S B} → Agrees side before middle f g → ((a : A) → Agrees side middle after (h a) (k a)) →
-      Agrees side before after (depending f h) (depending g k)
+      Agrees side before after (and_then f h) (and_then g k)
   agree_depending {after = after} first second = agree_bind first (λ a. agree_bind (second a) (λ b. agree_return after (a, b)))
 
   -- One symbol that is no bracket.
@@ -77,22 +77,22 @@ module _ {S : Type 0} (side : S → Side) where
   agree_led_keeps x symbols a rest true next e = let n = next refl in n.agree.keeps symbols a rest n.fits e
   agree_led_keeps x symbols a rest false next e = absurd (cc)
 
-  agree_leading_same : {A : Type 0} {before after : ℕ} {f g : Reader S A} (test : S → Bool) → Nexts before after test f g → (symbols : List S) → too_deep side symbols before ≡ None → leading test f symbols ≡ leading test g symbols
+  agree_leading_same : {A : Type 0} {before after : ℕ} {f g : Reader S A} (test : S → Bool) → Nexts before after test f g → (symbols : List S) → too_deep side symbols before ≡ None → preceded test f symbols ≡ preceded test g symbols
   agree_leading_same test nexts [] w = refl
   agree_leading_same test nexts (x ∷ symbols) w = agree_led_same x symbols (test x) (λ p. nexts x p (too_deep side symbols) (suc (length symbols)) w)
 
   agree_leading_keeps : {A : Type 0} {before after : ℕ} {f g : Reader S A} (test : S → Bool) → Nexts before after test f g → (symbols : List S) (a : A) (rest : List S) → too_deep side symbols before ≡ None →
-      leading test f symbols ≡ Read a rest → too_deep side rest after ≡ None
+      preceded test f symbols ≡ Read a rest → too_deep side rest after ≡ None
   agree_leading_keeps test nexts [] a rest w e = absurd (cc)
   agree_leading_keeps test nexts (x ∷ symbols) a rest w e = agree_led_keeps x symbols a rest (test x) (λ p. nexts x p (too_deep side symbols) (suc (length symbols)) w) e
 
-  agree_leading_by : {A : Type 0} {before after : ℕ} {f g : Reader S A} (test : S → Bool) → Nexts before after test f g → Agrees side before after (leading test f) (leading test g)
+  agree_leading_by : {A : Type 0} {before after : ℕ} {f g : Reader S A} (test : S → Bool) → Nexts before after test f g → Agrees side before after (preceded test f) (preceded test g)
   agree_leading_by test nexts = record { same = agree_leading_same test nexts; keeps = agree_leading_keeps test nexts }
 
   next_neither : {A : Type 0} {before after : ℕ} {f g : Reader S A} → Agrees side before after f g → (s : Side) (further : ℕ → Option ℕ) (left : ℕ) → s ≡ Neither → too_deep_step s further left before ≡ None → Next before after f g further
   next_neither {before = before} agree s further left is w = record { room = before; fits = subst (λ t. too_deep_step t further left before ≡ None) is w; agree = agree }
 
-  pub agree_leading : {A : Type 0} {before after : ℕ} {f g : Reader S A} (test : S → Bool) → ((x : S) → test x ≡ true → side x ≡ Neither) → Agrees side before after f g → Agrees side before after (leading test f) (leading test g)
+  pub agree_leading : {A : Type 0} {before after : ℕ} {f g : Reader S A} (test : S → Bool) → ((x : S) → test x ≡ true → side x ≡ Neither) → Agrees side before after f g → Agrees side before after (preceded test f) (preceded test g)
   agree_leading test neither agree = agree_leading_by test (λ x p further left w. next_neither agree (side x) further left (neither x p) w)
 
   next_opening : {A : Type 0} {after : ℕ} {f g : Reader S A} (before : ℕ) → ((r : ℕ) → before ≡ suc r → Agrees side r after f g) → (further : ℕ → Option ℕ) (left : ℕ) →
@@ -102,13 +102,13 @@ module _ {S : Type 0} (side : S → Side) where
 
   -- A leading bracket that opens leaves less room, and where there was none it cannot stand.
   pub agree_opening : {A : Type 0} {before after : ℕ} {f g : Reader S A} (test : S → Bool) → ((x : S) → test x ≡ true → side x ≡ Opening) → ((r : ℕ) → before ≡ suc r → Agrees side r after f g) →
-      Agrees side before after (leading test f) (leading test g)
+      Agrees side before after (preceded test f) (preceded test g)
   agree_opening {before = before} test opens agree =
       agree_leading_by test (λ x p further left w. next_opening before agree further left (subst (λ t. too_deep_step t further left before ≡ None) (opens x p) w))
 
   -- A leading bracket that closes gives room back.
   pub agree_shutting : {A : Type 0} {room before after : ℕ} {f g : Reader S A} (test : S → Bool) → ((x : S) → test x ≡ true → side x ≡ Closing) → before ≡ suc room → Agrees side before after f g →
-      Agrees side room after (leading test f) (leading test g)
+      Agrees side room after (preceded test f) (preceded test g)
   agree_shutting {room = room} {before = before} test closes more agree =
       agree_leading_by test (λ x p further left w. record {
         room = before;
@@ -116,12 +116,12 @@ module _ {S : Type 0} (side : S → Side) where
         agree = agree;
       })
 
-  pub agree_closing : {A : Type 0} {before after : ℕ} {f g : Reader S A} (test : S → Bool) → ((x : S) → test x ≡ true → side x ≡ Neither) → Agrees side before after f g → Agrees side before after (closing test f) (closing test g)
+  pub agree_closing : {A : Type 0} {before after : ℕ} {f g : Reader S A} (test : S → Bool) → ((x : S) → test x ≡ true → side x ≡ Neither) → Agrees side before after f g → Agrees side before after (terminated test f) (terminated test g)
   agree_closing {after = after} test neither first = agree_bind first (λ a. agree_leading test neither (agree_return after a))
 
   -- What stands in brackets, with the brackets.
   pub agree_bracketed : {A : Type 0} {r : ℕ} {f g : Reader S A} (opening shutting : S → Bool) → ((x : S) → opening x ≡ true → side x ≡ Opening) → ((x : S) → shutting x ≡ true → side x ≡ Closing) →
-      ((less : ℕ) → r ≡ suc less → Agrees side less less f g) → Agrees side r r (leading opening (closing shutting f)) (leading opening (closing shutting g))
+      ((less : ℕ) → r ≡ suc less → Agrees side less less f g) → Agrees side r r (preceded opening (terminated shutting f)) (preceded opening (terminated shutting g))
   agree_bracketed {r = r} opening shutting opens closes inside =
       agree_opening opening opens (λ less more. agree_bind (inside less more) (λ a. agree_shutting shutting closes more (agree_return r a)))
 

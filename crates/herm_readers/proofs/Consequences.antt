@@ -1,7 +1,7 @@
 -- What follows where a reader reads a rule.
 use Rattle.std.proofs.Common.{◌≡◌, suc, [], ◌∷◌, ◌++◌, length, sym, ap, ◌∙◌, append-nil}
 use Rattle.herm_readers.specs.Reader.{Read, Fault}
-use Rattle.herm_readers.specs.Laws.{HasOneTree, HasFaultAt, HasNoTree}
+use Rattle.herm_readers.specs.laws.ReaderLaws.{HasOneTree, HasFaultAt, HasNoTree}
 
 pub one_tree : (S A : Type 0) → HasOneTree S A
 one_tree S A rule read reads a b rest last fits_a ends_a fits_b ends_b e =

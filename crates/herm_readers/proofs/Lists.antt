@@ -3,7 +3,7 @@ use Rattle.std.proofs.Common.{◌≡◌, ℕ, zero, suc, ◌<◌, ◌≤◌, Boo
 use Rattle.std.proofs.lemmas.Bool.{and_parts, and_from}
 use Rattle.herm_readers.specs.Reader.{Answer, Read, Fault, Reader, Rule, Found, Begins, Reads, ahead}
 use Rattle.herm_readers.specs.Combinators.{onward, passes, many_step, many_at, many, many_fits, many_spelling, many_ends, many_rule}
-use Rattle.herm_readers.specs.Laws.{IsWritten}
+use Rattle.herm_readers.specs.laws.ReaderLaws.{IsWritten}
 use Rattle.herm_readers.proofs.Ahead.{ahead-append, ahead_at, ahead_written, longer}
 use Rattle.herm_readers.proofs.Seams.{Seam, seam}
 use Rattle.herm_readers.proofs.Choices.{not_true}

@@ -2,8 +2,8 @@
 use Rattle.std.proofs.Common.{◌≡◌, Bool, true, false, ◌&&◌, List, [], ◌∷◌, Option, Some, None, refl, ap}
 use Rattle.std.proofs.lemmas.Bool.{and_parts, and_from}
 use Rattle.herm_readers.specs.Reader.{Answer, Read, Fault, Reader, Rule, Reads}
-use Rattle.herm_readers.specs.Combinators.{onward, one, one_rule, picked, changed, sequence, sequence_rule, skipped, leading, leading_rule, shut, closing, closing_rule}
-use Rattle.herm_readers.specs.Laws.{Picks, IsTestFor, Changes}
+use Rattle.herm_readers.specs.Combinators.{onward, one, one_rule, picked, mapped, sequence, sequence_rule, skipped, preceded, preceded_rule, then_terminator, terminated, terminated_rule}
+use Rattle.herm_readers.specs.laws.ReaderLaws.{Picks, IsTestFor, Changes}
 use Rattle.herm_readers.proofs.Simple.{one_reads, changed_reads, alike_reads}
 use Rattle.herm_readers.proofs.Sequences.{sequence_reads}
 
@@ -48,7 +48,7 @@ module _ {S A : Type 0} (test : S → Bool) (read : Reader S A) where
   leading_alike_at true x rest = leading_on (read rest)
   leading_alike_at false x rest = refl
 
-  leading_alike : (symbols : List S) → leading test read symbols ≡ changed (λ tree. tree.1) (sequence (one (mark test)) read) symbols
+  leading_alike : (symbols : List S) → preceded test read symbols ≡ mapped (λ tree. tree.1) (sequence (one (mark test)) read) symbols
   leading_alike [] = refl
   leading_alike (x ∷ rest) = leading_alike_at (test x) x rest
 
@@ -57,20 +57,20 @@ module _ {S A : Type 0} (test : S → Bool) (read : Reader S A) where
   closing_last_at a true x rest = refl
   closing_last_at a false x rest = refl
 
-  closing_last : (a : A) (symbols : List S) → shut test a symbols ≡ onward (onward {B = A × Unit {0}} (one (mark test) symbols) (λ b last. Read (a, b) last)) (λ tree last. Read (tree.0) last)
+  closing_last : (a : A) (symbols : List S) → then_terminator test a symbols ≡ onward (onward {B = A × Unit {0}} (one (mark test) symbols) (λ b last. Read (a, b) last)) (λ tree last. Read (tree.0) last)
   closing_last a [] = refl
   closing_last a (x ∷ rest) = closing_last_at a (test x) x rest
 
   closing_alike_at : (answer : Answer S A) →
-      onward answer (shut test) ≡ onward (onward answer (λ a middle. onward {B = A × Unit {0}} (one (mark test) middle) (λ b last. Read (a, b) last))) (λ tree last. Read (tree.0) last)
+      onward answer (then_terminator test) ≡ onward (onward answer (λ a middle. onward {B = A × Unit {0}} (one (mark test) middle) (λ b last. Read (a, b) last))) (λ tree last. Read (tree.0) last)
   closing_alike_at (Read a middle) = closing_last a middle
   closing_alike_at (Fault n) = refl
 
-  closing_alike : (symbols : List S) → closing test read symbols ≡ changed (λ tree. tree.0) (sequence read (one (mark test))) symbols
+  closing_alike : (symbols : List S) → terminated test read symbols ≡ mapped (λ tree. tree.0) (sequence read (one (mark test))) symbols
   closing_alike symbols = closing_alike_at (read symbols)
 
 module _ {S A : Type 0} (x : S) (test : S → Bool) (rule : Rule S A) (read : Reader S A) (is : IsTestFor x test) (reads : Reads rule read) where
-  leading_changes : Changes (λ tree. tree.1) (sequence_rule (mark_rule x) rule) (leading_rule x rule)
+  leading_changes : Changes (λ tree. tree.1) (sequence_rule (mark_rule x) rule) (preceded_rule x rule)
   leading_changes = record {
     fits = λ tree fits. fits;
     spelling = λ tree fits. refl;
@@ -78,16 +78,16 @@ module _ {S A : Type 0} (x : S) (test : S → Bool) (rule : Rule S A) (read : Re
     back = λ tree fits. ((tt, tree), fits, refl);
   }
 
-  pub leading_reads : Reads (leading_rule x rule) (leading test read)
-  leading_reads = alike_reads (leading_rule x rule) (changed (λ tree. tree.1) (sequence (one (mark test)) read)) (leading test read) (leading_alike test read)
-      (changed_reads (λ tree. tree.1) (sequence_rule (mark_rule x) rule) (leading_rule x rule) (sequence (one (mark test)) read) leading_changes
+  pub leading_reads : Reads (preceded_rule x rule) (preceded test read)
+  leading_reads = alike_reads (preceded_rule x rule) (mapped (λ tree. tree.1) (sequence (one (mark test)) read)) (preceded test read) (leading_alike test read)
+      (changed_reads (λ tree. tree.1) (sequence_rule (mark_rule x) rule) (preceded_rule x rule) (sequence (one (mark test)) read) leading_changes
       (sequence_reads (mark_rule x) rule (one (mark test)) read (mark_reads x test is) reads))
 
   and_end : (b : Bool) → b ≡ (b && true)
   and_end true = refl
   and_end false = refl
 
-  closing_changes : Changes (λ tree. tree.0) (sequence_rule rule (mark_rule x)) (closing_rule x rule)
+  closing_changes : Changes (λ tree. tree.0) (sequence_rule rule (mark_rule x)) (terminated_rule x rule)
   closing_changes = record {
     fits = λ tree fits. (and_parts (rule.fits tree.0) true fits).0;
     spelling = λ tree fits. refl;
@@ -95,7 +95,7 @@ module _ {S A : Type 0} (x : S) (test : S → Bool) (rule : Rule S A) (read : Re
     back = λ tree fits. ((tree, tt), and_from (rule.fits tree) true fits refl, refl);
   }
 
-  pub closing_reads : Reads (closing_rule x rule) (closing test read)
-  closing_reads = alike_reads (closing_rule x rule) (changed (λ tree. tree.0) (sequence read (one (mark test)))) (closing test read) (closing_alike test read)
-      (changed_reads (λ tree. tree.0) (sequence_rule rule (mark_rule x)) (closing_rule x rule) (sequence read (one (mark test))) closing_changes
+  pub closing_reads : Reads (terminated_rule x rule) (terminated test read)
+  closing_reads = alike_reads (terminated_rule x rule) (mapped (λ tree. tree.0) (sequence read (one (mark test)))) (terminated test read) (closing_alike test read)
+      (changed_reads (λ tree. tree.0) (sequence_rule rule (mark_rule x)) (terminated_rule x rule) (sequence read (one (mark test))) closing_changes
       (sequence_reads rule (mark_rule x) read (one (mark test)) reads (mark_reads x test is)))

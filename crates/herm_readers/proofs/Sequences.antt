@@ -2,35 +2,35 @@
 use Rattle.std.proofs.Common.{◌≡◌, ℕ, suc, true, List, ◌∷◌, ◌++◌, length, None, refl, sym, ap, ◌∙◌, subst, append_assoc}
 use Rattle.std.proofs.lemmas.Bool.{and_parts, and_from}
 use Rattle.herm_readers.specs.Reader.{Answer, Read, Fault, Reader, Rule, Found, Begins, Reads, ahead}
-use Rattle.herm_readers.specs.Combinators.{onward, depending, depending_rule, sequence, sequence_rule}
+use Rattle.herm_readers.specs.Combinators.{onward, and_then, and_then_rule, sequence, sequence_rule}
 use Rattle.herm_readers.proofs.Seams.{seam}
 use Rattle.herm_readers.proofs.Ahead.{ahead-append}
 
 module _ {S A B : Type 0} (first : Rule S A) (second : A → Rule S B) (read_first : Reader S A) (read_second : A → Reader S B) (reads_first : Reads first read_first) (reads_second : (a : A) → Reads (second a) (read_second a)) where
   depending_found_second : (symbols middle rest : List S) (a : A) (tree : A × B) → Found first symbols a middle → (answer : Answer S B) → read_second a middle ≡ answer →
-      onward answer (λ b last. Read (a, b) last) ≡ Read tree rest → Found (depending_rule first second) symbols tree rest
+      onward answer (λ b last. Read (a, b) last) ≡ Read tree rest → Found (and_then_rule first second) symbols tree rest
   depending_found_second symbols middle rest a tree outer (Read b last) r e =
       let same : (a, b) ≡ tree = cc in
       let left : last ≡ rest = cc in
       let inner = (reads_second a).found middle last b r in
       let beyond : ahead middle None ≡ ahead ((second a).spelling b) (ahead last None) = ap (λ t. ahead t None) inner.spelled ∙ ahead-append ((second a).spelling b) last None in
       let ends : first.ends a (ahead ((second a).spelling b) (ahead last None)) ≡ true = ap (first.ends a) (sym beyond) ∙ outer.ends in
-      let there : Found (depending_rule first second) symbols (a, b) last = record {
+      let there : Found (and_then_rule first second) symbols (a, b) last = record {
         fits = and_from (first.fits a) ((second a).fits b) outer.fits inner.fits;
         ends = and_from (first.ends a (ahead ((second a).spelling b) (ahead last None))) ((second a).ends b (ahead last None)) ends inner.ends;
         spelled = outer.spelled ∙ (ap (λ t. first.spelling a ++ t) inner.spelled ∙ sym (append_assoc (first.spelling a) ((second a).spelling b) last));
       } in
-      subst (λ t. Found (depending_rule first second) symbols t rest) same (subst (λ l. Found (depending_rule first second) symbols (a, b) l) left there)
+      subst (λ t. Found (and_then_rule first second) symbols t rest) same (subst (λ l. Found (and_then_rule first second) symbols (a, b) l) left there)
   depending_found_second symbols middle rest a tree outer (Fault n) r e = absurd (cc)
 
   depending_found_at : (symbols rest : List S) (tree : A × B) (answer : Answer S A) → read_first symbols ≡ answer →
-      onward answer (λ a middle. onward (read_second a middle) (λ b last. Read (a, b) last)) ≡ Read tree rest → Found (depending_rule first second) symbols tree rest
+      onward answer (λ a middle. onward (read_second a middle) (λ b last. Read (a, b) last)) ≡ Read tree rest → Found (and_then_rule first second) symbols tree rest
   depending_found_at symbols rest tree (Read a middle) r e =
       depending_found_second symbols middle rest a tree (reads_first.found symbols middle a r) (read_second a middle) refl e
   depending_found_at symbols rest tree (Fault n) r e = absurd (cc)
 
-  depending_again : (tree : A × B) (rest : List S) → (depending_rule first second).fits tree ≡ true → (depending_rule first second).ends tree (ahead rest None) ≡ true →
-      depending read_first read_second ((depending_rule first second).spelling tree ++ rest) ≡ Read tree rest
+  depending_again : (tree : A × B) (rest : List S) → (and_then_rule first second).fits tree ≡ true → (and_then_rule first second).ends tree (ahead rest None) ≡ true →
+      and_then read_first read_second ((and_then_rule first second).spelling tree ++ rest) ≡ Read tree rest
   depending_again tree rest fits ends =
       let fit = and_parts (first.fits tree.0) ((second tree.0).fits tree.1) fits in
       let end = and_parts (first.ends tree.0 (ahead ((second tree.0).spelling tree.1) (ahead rest None))) ((second tree.0).ends tree.1 (ahead rest None)) ends in
@@ -41,7 +41,7 @@ module _ {S A B : Type 0} (first : Rule S A) (second : A → Rule S B) (read_fir
       ap (λ answer. onward answer (λ a middle. onward (read_second a middle) (λ b last. Read (a, b) last))) front ∙ ap (λ answer. onward answer (λ b last. Read (tree.0, b) last)) back
 
   depending_begins_second : (symbols middle : List S) (a : A) (count : ℕ) → Found first symbols a middle → (answer : Answer S B) → read_second a middle ≡ answer →
-      onward {B = A × B} answer (λ b last. Read (a, b) last) ≡ Fault count → Begins (depending_rule first second) symbols count
+      onward {B = A × B} answer (λ b last. Read (a, b) last) ≡ Fault count → Begins (and_then_rule first second) symbols count
   depending_begins_second symbols middle a count outer (Read b last) r e = absurd (cc)
   depending_begins_second symbols middle a count outer (Fault n) r e =
       let inner = (reads_second a).begins middle n r in
@@ -58,7 +58,7 @@ module _ {S A B : Type 0} (first : Rule S A) (second : A → Rule S B) (read_fir
       }
 
   depending_begins_at : (symbols : List S) (count : ℕ) (answer : Answer S A) → read_first symbols ≡ answer →
-      onward {B = A × B} answer (λ a middle. onward (read_second a middle) (λ b last. Read (a, b) last)) ≡ Fault count → Begins (depending_rule first second) symbols count
+      onward {B = A × B} answer (λ a middle. onward (read_second a middle) (λ b last. Read (a, b) last)) ≡ Fault count → Begins (and_then_rule first second) symbols count
   depending_begins_at symbols count (Read a middle) r e =
       depending_begins_second symbols middle a count (reads_first.found symbols middle a r) (read_second a middle) refl e
   depending_begins_at symbols count (Fault n) r e =
@@ -77,7 +77,7 @@ module _ {S A B : Type 0} (first : Rule S A) (second : A → Rule S B) (read_fir
 
   -- The fault stands in the second part: the first part is read again, whatever stands behind the fault.
   depending_settled_second : (front : List S) (x : S) (behind other middle : List S) (a : A) → Found first (front ++ x ∷ behind) a middle → (answer : Answer S B) → read_second a middle ≡ answer →
-      onward {B = A × B} answer (λ b last. Read (a, b) last) ≡ Fault (suc (length behind)) → depending read_first read_second (front ++ x ∷ other) ≡ Fault (suc (length other))
+      onward {B = A × B} answer (λ b last. Read (a, b) last) ≡ Fault (suc (length behind)) → and_then read_first read_second (front ++ x ∷ other) ≡ Fault (suc (length other))
   depending_settled_second front x behind other middle a outer (Read b last) r e = absurd (cc)
   depending_settled_second front x behind other middle a outer (Fault n) r e =
       let here : read_second a middle ≡ Fault (suc (length behind)) = cc in
@@ -87,14 +87,14 @@ module _ {S A B : Type 0} (first : Rule S A) (second : A → Rule S B) (read_fir
       ap (λ answer. onward answer (λ a middle. onward (read_second a middle) (λ b last. Read (a, b) last))) there.reread ∙ ap (λ answer. onward answer (λ b last. Read (a, b) last)) second_read
 
   depending_settled_at : (front : List S) (x : S) (behind other : List S) (answer : Answer S A) → read_first (front ++ x ∷ behind) ≡ answer →
-      onward {B = A × B} answer (λ a middle. onward (read_second a middle) (λ b last. Read (a, b) last)) ≡ Fault (suc (length behind)) → depending read_first read_second (front ++ x ∷ other) ≡ Fault (suc (length other))
+      onward {B = A × B} answer (λ a middle. onward (read_second a middle) (λ b last. Read (a, b) last)) ≡ Fault (suc (length behind)) → and_then read_first read_second (front ++ x ∷ other) ≡ Fault (suc (length other))
   depending_settled_at front x behind other (Read a middle) r e =
       depending_settled_second front x behind other middle a (reads_first.found (front ++ x ∷ behind) middle a r) (read_second a middle) refl e
   depending_settled_at front x behind other (Fault n) r e =
       let here : read_first (front ++ x ∷ behind) ≡ Fault (suc (length behind)) = cc in
       ap (λ answer. onward answer (λ a middle. onward (read_second a middle) (λ b last. Read (a, b) last))) (reads_first.settled front x behind other here)
 
-  pub depending_reads : Reads (depending_rule first second) (depending read_first read_second)
+  pub depending_reads : Reads (and_then_rule first second) (and_then read_first read_second)
   depending_reads = record {
     example = (reads_first.example, (reads_second reads_first.example).example);
     example_fits = and_from (first.fits reads_first.example) ((second reads_first.example).fits (reads_second reads_first.example).example) reads_first.example_fits (reads_second reads_first.example).example_fits;

@@ -1,8 +1,8 @@
 -- The readers of nothing and of one symbol, a changed reader, and a reader that answers as another does.
 use Rattle.std.proofs.Common.{◌≡◌, ℕ, suc, Bool, true, List, [], ◌∷◌, ◌++◌, length, Option, Some, None, refl, sym, ap, ◌∙◌, subst, arith, length-append}
 use Rattle.herm_readers.specs.Reader.{Answer, Read, Fault, Reader, Rule, Found, Begins, Reads, ahead}
-use Rattle.herm_readers.specs.Combinators.{onward, nothing_rule, one, one_rule, picked, changed}
-use Rattle.herm_readers.specs.Laws.{Picks, Changes, NothingIsRead}
+use Rattle.herm_readers.specs.Combinators.{onward, nothing_rule, one, one_rule, picked, mapped}
+use Rattle.herm_readers.specs.laws.ReaderLaws.{Picks, Changes, NothingIsRead}
 
 nothing_found : {S : Type 0} → (symbols rest : List S) (tree : Unit {0}) → Read tt symbols ≡ Read tree rest → Found nothing_rule symbols tree rest
 nothing_found symbols rest tree e = let same : symbols ≡ rest = cc in record { fits = refl; ends = refl; spelled = same }
@@ -127,7 +127,7 @@ module _ {S A B : Type 0} (put : A → B) (from : Rule S A) (to : Rule S B) (rea
       ap (λ answer. onward answer (λ a last. Read (put a) last)) (reads.settled front x behind other here)
 
 module _ {S A B : Type 0} (change : A → B) (from : Rule S A) (to : Rule S B) (read : Reader S A) (changes : Changes change from to) (reads : Reads from read) where
-  changed_again : (tree : B) (rest : List S) → to.fits tree ≡ true → to.ends tree (ahead rest None) ≡ true → changed change read (to.spelling tree ++ rest) ≡ Read tree rest
+  changed_again : (tree : B) (rest : List S) → to.fits tree ≡ true → to.ends tree (ahead rest None) ≡ true → mapped change read (to.spelling tree ++ rest) ≡ Read tree rest
   changed_again tree rest fits ends =
       let back = changes.back tree fits in
       let same : change back.0 ≡ tree = back.2 in
@@ -137,7 +137,7 @@ module _ {S A B : Type 0} (change : A → B) (from : Rule S A) (to : Rule S B) (
       let first : read (to.spelling tree ++ rest) ≡ Read back.0 rest = ap (λ t. read (t ++ rest)) text ∙ reads.again back.0 rest back.1 ends_before in
       ap (λ answer. onward answer (λ a last. Read (change a) last)) first ∙ ap (λ t. Read t rest) same
 
-  pub changed_reads : Reads to (changed change read)
+  pub changed_reads : Reads to (mapped change read)
   changed_reads = record {
     example = change reads.example;
     example_fits = changes.fits reads.example reads.example_fits;

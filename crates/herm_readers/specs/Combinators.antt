@@ -33,15 +33,15 @@ abbrev pub one_rule : {S A : Type 0} → (A → Bool) → (A → S) → Rule S A
 one_rule fits symbol = record { fits = fits; spelling = λ tree. symbol tree ∷ []; ends = λ tree beyond. true }
 
 -- What was read, changed.
-abbrev pub changed : {S A B : Type 0} → (A → B) → Reader S A → Reader S B
-changed change read symbols = onward (read symbols) (λ tree rest. Read (change tree) rest)
+abbrev pub mapped : {S A B : Type 0} → (A → B) → Reader S A → Reader S B
+mapped change read symbols = onward (read symbols) (λ tree rest. Read (change tree) rest)
 
 -- One after the other, where what is read first says which reader comes second.
-abbrev pub depending : {S A B : Type 0} → Reader S A → (A → Reader S B) → Reader S (A × B)
-depending first second symbols = onward (first symbols) (λ a rest. onward (second a rest) (λ b last. Read (a, b) last))
+abbrev pub and_then : {S A B : Type 0} → Reader S A → (A → Reader S B) → Reader S (A × B)
+and_then first second symbols = onward (first symbols) (λ a rest. onward (second a rest) (λ b last. Read (a, b) last))
 
-abbrev pub depending_rule : {S A B : Type 0} → Rule S A → (A → Rule S B) → Rule S (A × B)
-depending_rule first second = record {
+abbrev pub and_then_rule : {S A B : Type 0} → Rule S A → (A → Rule S B) → Rule S (A × B)
+and_then_rule first second = record {
   fits = λ tree. first.fits tree.0 && (second tree.0).fits tree.1;
   spelling = λ tree. first.spelling tree.0 ++ (second tree.0).spelling tree.1;
   ends = λ tree beyond. first.ends tree.0 (ahead ((second tree.0).spelling tree.1) beyond) && (second tree.0).ends tree.1 beyond;
@@ -49,10 +49,10 @@ depending_rule first second = record {
 
 -- One after the other.
 abbrev pub sequence : {S A B : Type 0} → Reader S A → Reader S B → Reader S (A × B)
-sequence first second = depending first (λ a. second)
+sequence first second = and_then first (λ a. second)
 
 abbrev pub sequence_rule : {S A B : Type 0} → Rule S A → Rule S B → Rule S (A × B)
-sequence_rule first second = depending_rule first (λ a. second)
+sequence_rule first second = and_then_rule first (λ a. second)
 
 -- A symbol that passes the test is passed over.
 abbrev pub skipped : {S : Type 0} → Bool → List S → Answer S (Unit {0})
@@ -64,21 +64,21 @@ skip test [] = Fault 0
 skip test (x ∷ rest) = skipped (test x) rest
 
 -- A symbol that passes the test, and then what `read` reads.
-abbrev pub leading : {S A : Type 0} → (S → Bool) → Reader S A → Reader S A
-leading test read symbols = onward (skip test symbols) (λ none rest. read rest)
+abbrev pub preceded : {S A : Type 0} → (S → Bool) → Reader S A → Reader S A
+preceded test read symbols = onward (skip test symbols) (λ none rest. read rest)
 
-abbrev pub leading_rule : {S A : Type 0} → S → Rule S A → Rule S A
-leading_rule x rule = record { fits = rule.fits; spelling = λ tree. x ∷ rule.spelling tree; ends = rule.ends }
+abbrev pub preceded_rule : {S A : Type 0} → S → Rule S A → Rule S A
+preceded_rule x rule = record { fits = rule.fits; spelling = λ tree. x ∷ rule.spelling tree; ends = rule.ends }
 
 -- What `read` reads, and then a symbol that passes the test.
-abbrev pub shut : {S A : Type 0} → (S → Bool) → A → List S → Answer S A
-shut test tree symbols = onward (skip test symbols) (λ none rest. Read tree rest)
+abbrev pub then_terminator : {S A : Type 0} → (S → Bool) → A → List S → Answer S A
+then_terminator test tree symbols = onward (skip test symbols) (λ none rest. Read tree rest)
 
-abbrev pub closing : {S A : Type 0} → (S → Bool) → Reader S A → Reader S A
-closing test read symbols = onward (read symbols) (shut test)
+abbrev pub terminated : {S A : Type 0} → (S → Bool) → Reader S A → Reader S A
+terminated test read symbols = onward (read symbols) (then_terminator test)
 
-abbrev pub closing_rule : {S A : Type 0} → S → Rule S A → Rule S A
-closing_rule x rule = record { fits = rule.fits; spelling = λ tree. rule.spelling tree ++ x ∷ []; ends = λ tree beyond. rule.ends tree (Some x) }
+abbrev pub terminated_rule : {S A : Type 0} → S → Rule S A → Rule S A
+terminated_rule x rule = record { fits = rule.fits; spelling = λ tree. rule.spelling tree ++ x ∷ []; ends = λ tree beyond. rule.ends tree (Some x) }
 
 -- The first reader where the symbol ahead passes the test, and else the second.
 abbrev pub chosen : {S A B : Type 0} → Bool → Reader S A → Reader S B → Reader S (A ⊎ B)
@@ -132,7 +132,7 @@ many_rule test item = record { fits = many_fits item.fits; spelling = many_spell
 
 -- An item, and further ones, each led by a symbol that passes the test.
 abbrev pub separated : {S A : Type 0} → (S → Bool) → Reader S A → Reader S (List A)
-separated test item = changed (λ found. found.0 ∷ found.1) (sequence item (many test (leading test item)))
+separated test item = mapped (λ found. found.0 ∷ found.1) (sequence item (many test (preceded test item)))
 
 abbrev pub separated_fits : {A : Type 0} → (A → Bool) → List A → Bool
 separated_fits fits [] = false
@@ -144,7 +144,7 @@ separated_spelling x spelling (a ∷ others) = spelling a ++ many_spelling (λ b
 
 abbrev pub separated_ends : {S A : Type 0} → S → (S → Bool) → Rule S A → List A → Option S → Bool
 separated_ends x test item [] beyond = true
-separated_ends x test item (a ∷ others) beyond = (sequence_rule item (many_rule test (leading_rule x item))).ends (a, others) beyond
+separated_ends x test item (a ∷ others) beyond = (sequence_rule item (many_rule test (preceded_rule x item))).ends (a, others) beyond
 
 abbrev pub separated_rule : {S A : Type 0} → S → (S → Bool) → Rule S A → Rule S (List A)
 separated_rule x test item = record { fits = separated_fits item.fits; spelling = separated_spelling x item.spelling; ends = separated_ends x test item }

@@ -4,7 +4,7 @@
 #![tactic(auto)]
 
 ghost use Rattle.herm_readers.specs.Brackets.{FindsTooDeep, FindsWithin};
-ghost use Rattle.herm_readers.specs.Laws.{NothingIsRead, OneIsRead, ChangedIsRead, DependingIsRead, SequenceIsRead, LeadingIsRead, ClosingIsRead, ChoiceIsRead, ManyIsRead, ManyUnrolls, SeparatedIsRead, HasOneTree, HasFaultAt, HasNoTree};
+ghost use Rattle.herm_readers.specs.laws.ReaderLaws.{NothingIsRead, OneIsRead, ChangedIsRead, DependingIsRead, SequenceIsRead, LeadingIsRead, ClosingIsRead, ChoiceIsRead, ManyIsRead, ManyUnrolls, SeparatedIsRead, HasOneTree, HasFaultAt, HasNoTree};
 
 /// The reader that reads nothing reads the empty spelling.
 pub fn nothing_is_read<S>()

@@ -1,7 +1,7 @@
 -- What the entry of a close tells.
 use Rattle.std.proofs.Common.{◌≡◌, ℕ, List, [], ◌∷◌, ◌++◌, map, length, true, refl, sym, ap, ◌∙◌, append-nil, arith, true≢false}
 use Rattle.std.specs.Prelude.{IsTrue, IsFalse, ⊤}
-use Rattle.herm_model.specs.Lists.{every}
+use Rattle.herm_model.specs.Lists.{all_pass}
 use Rattle.herm_model.specs.Values.{Value}
 use Rattle.herm_model.specs.Texts.{text_of}
 use Rattle.herm_model.specs.WellMade.{is_well_made, may_go_on}
@@ -12,8 +12,8 @@ use Rattle.herm_journal.specs.Actions.{close}
 use Rattle.herm_journal.specs.Entries.{Text}
 use Rattle.herm_journal.specs.Messages.{CellAction}
 use Rattle.herm_journal.specs.Renaming.{forget_name}
-use Rattle.herm_system.specs.Along.{IsToldBy}
-use Rattle.herm_runs.specs.Countdowns.{counting_down}
+use Rattle.herm_system.specs.DiaryStates.{IsToldBy}
+use Rattle.herm_runs.specs.examples.Countdowns.{counting_down}
 use Rattle.herm_runs.specs.examples.Closes.{closing, closed_with, Tells}
 use Rattle.herm_runs.proofs.OneState.{texts_left}
 
@@ -23,7 +23,7 @@ no-such m a b rest h g x e =
     let split = value-split m a [] (b ∷ rest) h g refl x (append-nil (text_of m) ∙ e) in
     omega (arith, ap length split.1)
 
-no-message : (ms : List Value) (t : Text) (a : Value) (b : ℕ) (rest : List ℕ) → IsTrue (every is_well_made ms) → IsTrue (is_well_made a) → IsFalse (may_go_on (b ∷ rest)) → t ≡ text_of a ++ b ∷ rest → map text_of ms ≡ t ∷ [] → ⊥
+no-message : (ms : List Value) (t : Text) (a : Value) (b : ℕ) (rest : List ℕ) → IsTrue (all_pass is_well_made ms) → IsTrue (is_well_made a) → IsFalse (may_go_on (b ∷ rest)) → t ≡ text_of a ++ b ∷ rest → map text_of ms ≡ t ∷ [] → ⊥
 no-message [] t a b rest h g x is e = let p : ⊥ = omega (arith, ap length e) in p
 no-message (m ∷ n ∷ ms) t a b rest h g x is e = let p : ⊥ = omega (arith, ap length e) in p
 no-message (m ∷ []) t a b rest h g x is e = no-such m a b rest (and-both (is_well_made m) true h).0 g x (cons-head e ∙ is)

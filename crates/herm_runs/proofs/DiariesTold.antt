@@ -2,15 +2,17 @@
 use Rattle.std.proofs.Common.{◌≡◌, ℕ, zero, suc, List, [], ◌∷◌, ◌++◌, map, Bool, true, false, cond, ◌⊎◌, inl, inr, Option, Some, None, option_map, option_and_then, refl, sym, ap, ap₂, subst, ◌∙◌}
 use Rattle.std.proofs.lemmas.Bool.{eqb-true}
 use Rattle.std.specs.Prelude.{nat_eq, IsFalse, ⊤}
-use Rattle.herm_model.specs.Lists.{IsIn, some_of, list_of}
-use Rattle.herm_model.specs.Values.{Cell, rename, Name}
+use Rattle.herm_model.specs.Lists.{IsIn, any_pass, list_of}
+use Rattle.herm_model.specs.Values.{Cell, Name}
+use Rattle.herm_model.specs.CellNames.{rename}
 use Rattle.herm_model.specs.Texts.{text_of}
 use Rattle.herm_model.proofs.Lists.{length-map}
 use Rattle.herm_model.proofs.Renaming.{text_of-rename}
 use Rattle.herm_model.proofs.Options.{some-injective, none-not_some, chain-some, map-some}
-use Rattle.herm_journal.specs.Places.{Limits, Book, after, first_of, Holding, a_port, replies, a_book, left_in}
+use Rattle.herm_journal.specs.PlaceStates.{Limits, Book, after, first_of, PlaceState, a_port, replies, a_book, left_in}
 use Rattle.herm_journal.specs.Entries.{Text, Place, same_place, Entry, map_reply, texts_of, more_texts_of, recorded}
-use Rattle.herm_journal.specs.Journals.{part_of_process, entry_behind}
+use Rattle.herm_journal.specs.Journals.{part_of_process}
+use Rattle.herm_journal.specs.Stamps.{entry_behind}
 use Rattle.herm_journal.specs.Messages.{CellReply, CellWant, CellAction}
 use Rattle.herm_journal.specs.Renaming.{rename_reply, rename_action, rename_want, forget_name}
 use Rattle.herm_system.specs.Sound.{IsNumbered}
@@ -21,14 +23,16 @@ use Rattle.herm_journal.specs.Actions.{values, raised, gone, Want, new_port, new
 use Rattle.herm_journal.specs.Messages.{IsMessage, IsReplyTo}
 use Rattle.herm_model.specs.Values.{cell, an_inport, no_parts}
 use Rattle.herm_system.specs.Machines.{Machine, is_local, is_acting, inport_of}
-use Rattle.herm_system.specs.Systems.{System, Moved, Event, steps, acts, Run, run, run_on, step, start, opening, main_port, with_entry, with_made, set_process, set_holding, holding_at, local_event, act_at, action_event, behind_action, can, can_be_done, standing, stands, numbered_from_one, places_for, done_at, number_of}
-use Rattle.herm_system.specs.Along.{Suits, has_local_step, local_steps, Answers, IsToldBy, IsBehind, IsAfter, after_steps, after_entry}
-use Rattle.herm_runs.specs.OneProcess.{KeepsNumbers, ForgetsNames}
-use Rattle.herm_runs.specs.DiaryLaws.{EventSuits, SuitsAlong, IsBorn, IsToldByDiary, DiariesTell}
+use Rattle.herm_system.specs.Systems.{System, Moved, Event, steps, acts, Run, run, run_on, step, start, opening, main_port, with_entry, with_made, set_process, set_holding, local_event, action_event, can, can_be_done, standing, stands, numbered_from_one, places_for, done_at, number_of}
+use Rattle.herm_system.specs.Suiting.{Suits, has_local_step, local_steps, Answers}
+use Rattle.herm_system.specs.DiaryStates.{IsToldBy, IsBehind, IsAfter, after_steps, after_entry}
+use Rattle.herm_runs.specs.laws.ProcessLaws.{KeepsNumbers, ForgetsNames}
+use Rattle.herm_runs.specs.laws.DiaryLaws.{EventSuits, SuitsAlong, IsBorn, IsToldByDiary, DiariesTell}
 use Rattle.herm_runs.proofs.Numbered.{set-found_from_one, step-numbered, opening-numbered}
 use Rattle.herm_runs.proofs.RoundsEnd.{made-book}
-use Rattle.herm_runs.proofs.SystemLedger.{process-some, processes-stay}
-use Rattle.herm_runs.proofs.Stands.{cond-both, seen-local, seen-acting, stands-as, set-absent_from_one, IsNew, made-found, made-absent, place-limits, unmoved-absent}
+use Rattle.herm_runs.proofs.SystemLedger.{processes-stay}
+use Rattle.herm_runs.proofs.Stands.{seen-local, seen-acting, stands-as, set-absent_from_one, IsNew, made-found, made-absent, place-limits, unmoved-absent}
+use Rattle.herm_runs.proofs.ActionParts.{cond-both, action-parts, step-parts}
 use Rattle.herm_runs.proofs.SuitsMessages.{message-renamed, renamed-message, reply-renamed, renamed-reply, well_made-forgotten}
 
 -- what is recorded does not depend on names
@@ -79,7 +83,7 @@ hear-answers : (o : Option (ℕ × CellReply Name)) (a : CellAction Name) → op
 hear-answers None a e = none-not_some e
 hear-answers (Some x) a e = subst (Answered to_hear) (some-injective e) tt
 
-done-answers : (w : CellWant Name) (h : Holding (Cell Name) (CellReply Name)) (a : CellAction Name) → done_at w h ≡ Some a → Answered w a
+done-answers : (w : CellWant Name) (h : PlaceState (Cell Name) (CellReply Name)) (a : CellAction Name) → done_at w h ≡ Some a → Answered w a
 done-answers new_port (a_book b) a e = subst (Answered new_port) (some-injective e) tt
 done-answers (new_process code) (a_book b) a e = subst (Answered (new_process code)) (some-injective e) refl
 done-answers (to_put n m) (a_port p) a e = subst (Answered (to_put n m)) (some-injective e) refl
@@ -98,7 +102,7 @@ hear-fulfils : {M R : Type 0} (o : Option (ℕ × R)) (a : Action M R) → optio
 hear-fulfils None a e = none-not_some e
 hear-fulfils (Some x) a e = subst (Answers to_hear) (some-injective e) tt
 
-pub done-fulfils : {M R : Type 0} (w : Want M R) (h : Holding M R) (a : Action M R) → done_at w h ≡ Some a → Answers w a
+pub done-fulfils : {M R : Type 0} (w : Want M R) (h : PlaceState M R) (a : Action M R) → done_at w h ≡ Some a → Answers w a
 done-fulfils new_port (a_book b) a e = subst (Answers new_port) (some-injective e) tt
 done-fulfils (new_process code) (a_book b) a e = subst (Answers (new_process code)) (some-injective e) refl
 done-fulfils (to_put n m) (a_port p) a e = subst (Answers (to_put n m)) (some-injective e) refl
@@ -166,7 +170,7 @@ module _ {P Q : Type 0} (machine : Machine Name P) (nameless : Machine ⊤ Q) (w
   module _ (keeps : KeepsNumbers machine) (limits : Limits) where
     -- the process is what its diary says
     abbrev TellsOf : ℕ → P → List Entry → Type 0
-    TellsOf p x journal = IsToldByDiary nameless machine.main limits journal p (machine.code x) (without x)
+    TellsOf p x journal = IsToldByDiary nameless machine.main limits journal p (machine.module_number x) (without x)
 
     record AreTelling (s : System P) (journal : List Entry) : Type 0 where
       tells : (p : ℕ) (x : P) → numbered_from_one p s.processes ≡ Some x → TellsOf p x journal
@@ -195,8 +199,8 @@ module _ {P Q : Type 0} (machine : Machine Name P) (nameless : Machine ⊤ Q) (w
         }
 
     -- an action
-    action-tells : (p : ℕ) (place : Place) (x y : P) (journal : List Entry) (limit : ℕ) (may : CellWant Name → Bool) (want : CellWant Name) (h : Holding (Cell Name) (CellReply Name)) (a : CellAction Name) →
-        limit ≡ limits.steps → is_acting (standing machine limit may x) ≡ true → machine.number x ≡ p → machine.wanted x ≡ Some want → some_of (same_place place) (places_for p want) ≡ true →
+    action-tells : (p : ℕ) (place : Place) (x y : P) (journal : List Entry) (limit : ℕ) (may : CellWant Name → Bool) (want : CellWant Name) (h : PlaceState (Cell Name) (CellReply Name)) (a : CellAction Name) →
+        limit ≡ limits.steps → is_acting (standing machine limit may x) ≡ true → machine.number x ≡ p → machine.wanted x ≡ Some want → any_pass (same_place place) (places_for p want) ≡ true →
         done_at want h ≡ Some a → machine.answered x (number_of place) a ≡ Some y → Suits machine x (number_of place) a →
         TellsOf p x journal → TellsOf p y (journal ++ entry_behind journal p place (recorded a) ∷ [])
     action-tells p place x y journal limit may want h a same stands number wants_it at does leaves suits k =
@@ -204,7 +208,7 @@ module _ {P Q : Type 0} (machine : Machine Name P) (nameless : Machine ⊤ Q) (w
         let ready = (seen-acting (machine.ready limit x) (can_be_done may (machine.wanted x)) stands).0 in
         let still : IsFalse (has_local_step nameless limits.steps (without x)) = ap is_local (forgets.ready limits.steps x ∙ ap (λ l. machine.ready l x) (sym same) ∙ ready) in
         let want_told = forgets.wants x ∙ ap (option_map (rename_want forget_name)) wants_it in
-        let places = ap (some_of (same_place place)) (ap (λ q. places_for q (rename_want forget_name want)) (forgets.number x ∙ number) ∙ places-forget p want) ∙ at in
+        let places = ap (any_pass (same_place place)) (ap (λ q. places_for q (rename_want forget_name want)) (forgets.number x ∙ number) ∙ places-forget p want) ∙ at in
         let told : IsToldBy nameless (without x) e (rename_action forget_name a)
         = record { text = recorded-forget a; answers = (rename_want forget_name want, want_told, places, done-answers want h a does); suits = suits-nameless x (number_of place) a suits } in
         let behind : IsBehind nameless (without x) e (without y) = IsBehind.told (rename_action forget_name a) (without y) told (forgets.answers x (number_of place) a ∙ ap (option_map without) leaves) in
@@ -214,7 +218,7 @@ module _ {P Q : Type 0} (machine : Machine Name P) (nameless : Machine ⊤ Q) (w
           port = k.port;
           first = k.first;
           local_steps = 0;
-          born = subst (λ i. IsBorn machine.main (journal ++ e ∷ []) p i k.port) code (born-more journal e p (machine.code x) k.port k.born);
+          born = subst (λ i. IsBorn machine.main (journal ++ e ∷ []) p i k.port) code (born-more journal e p (machine.module_number x) k.port k.born);
           begins = ap (λ i. nameless.begin i p (cell tt (an_inport k.port) no_parts)) (sym code) ∙ k.begins;
           comes = subst (λ es. IsAfter nameless limits.steps k.first es 0 (without y)) (sym part)
               (after-more nameless limits.steps k.local_steps k.first (without x) (without y) (part_of_process p journal) e k.comes still behind);
@@ -228,7 +232,7 @@ module _ {P Q : Type 0} (machine : Machine Name P) (nameless : Machine ⊤ Q) (w
           port = k.port;
           first = k.first;
           local_steps = k.local_steps;
-          born = born-more journal e q (machine.code x) k.port k.born;
+          born = born-more journal e q (machine.module_number x) k.port k.born;
           begins = k.begins;
           comes = subst (λ es. IsAfter nameless limits.steps k.first es k.local_steps (without x)) (sym part) k.comes;
         }
@@ -239,17 +243,15 @@ module _ {P Q : Type 0} (machine : Machine Name P) (nameless : Machine ⊤ Q) (w
 
     local-event-tells : (p : ℕ) (s : System P) (m : Moved P) (journal : List Entry) → local_event machine p s ≡ Some m → IsNumbered machine m.system → AreTelling s journal → AreTelling m.system (with_entry journal (steps p) m.done)
     local-event-tells p s m journal e numbered k =
-        let b = cond-both (stands is_local machine s p) _ m e in
-        let x = process-some s p _ m b.1 in
-        let n = map-some _ (machine.local_step x.state) m x.does in
-        let local_now = sym (stands-as is_local machine s p x.state x.is) ∙ b.0 in
+        let parts = step-parts machine p s m e in
+        let local_now = sym (stands-as is_local machine s p parts.state parts.is) ∙ parts.stands in
         let same = ap (λ (l : Limits). l.steps) k.same_limits in
-        let told : TellsOf p n.0 journal = step-tells p x.state n.0 journal s.book.limits.steps (can s p) same local_now n.1 (k.tells p x.state x.is) in
-        subst (λ (m : Moved P). AreTelling m.system (with_entry journal (steps p) m.done)) n.2 (record {
-          tells = λ q z found. by_place n.0 q z told (set-found_from_one s.processes p q n.0 z found) (k.tells q z);
-          absent = λ q none. k.absent q (set-absent_from_one s.processes p q n.0 none);
+        let told : TellsOf p parts.left.0 journal = step-tells p parts.state parts.left.0 journal s.book.limits.steps (can s p) same local_now parts.left.1 (k.tells p parts.state parts.is) in
+        subst (λ (m : Moved P). AreTelling m.system (with_entry journal (steps p) m.done)) parts.moved (record {
+          tells = λ q z found. by_place parts.left.0 q z told (set-found_from_one s.processes p q parts.left.0 z found) (k.tells q z);
+          absent = λ q none. k.absent q (set-absent_from_one s.processes p q parts.left.0 none);
           same_limits = k.same_limits;
-          numbered = subst (λ (m : Moved P). IsNumbered machine m.system) (sym n.2) numbered;
+          numbered = subst (λ (m : Moved P). IsNumbered machine m.system) (sym parts.moved) numbered;
         })
       where
         by_place : (y : P) (q : ℕ) (z : P) → TellsOf p y journal → ((p ≡ q) × (y ≡ z)) ⊎ (numbered_from_one q s.processes ≡ Some z) → (numbered_from_one q s.processes ≡ Some z → TellsOf q z journal) → TellsOf q z journal
@@ -262,20 +264,20 @@ module _ {P Q : Type 0} (machine : Machine Name P) (nameless : Machine ⊤ Q) (w
     new-tells maker a u p q z journal place new number none =
         let n = new.made.1 in
         let inport = inport_of machine n maker in
-        let began = keeps.begins new.code new.made.0 inport z new.is in
+        let began = keeps.begins new.module_number new.made.0 inport z new.is in
         let q_is : new.made.0 ≡ q = sym began.0 ∙ number in
-        let action : recorded a ≡ make_process (machine.code z) (Some (q, n)) = ap recorded new.does ∙ ap (λ i. make_process new.code (Some (i, n))) q_is ∙ ap (λ i. make_process i (Some (q, n))) (sym began.1) in
+        let action : recorded a ≡ make_process (machine.module_number z) (Some (q, n)) = ap recorded new.does ∙ ap (λ i. make_process new.module_number (Some (i, n))) q_is ∙ ap (λ i. make_process i (Some (q, n))) (sym began.1) in
         record {
           port = n;
           first = without z;
           local_steps = 0;
           born = inr (entry_behind journal p place (recorded a), in-last (entry_behind journal p place (recorded a)) journal, action);
-          begins = ap (λ i. nameless.begin i q (cell tt (an_inport n) no_parts)) began.1 ∙ ap (λ i. nameless.begin new.code i (cell tt (an_inport n) no_parts)) (sym q_is)
-              ∙ forgets.begins new.code new.made.0 inport ∙ ap (option_map without) new.is;
+          begins = ap (λ i. nameless.begin i q (cell tt (an_inport n) no_parts)) began.1 ∙ ap (λ i. nameless.begin new.module_number i (cell tt (an_inport n) no_parts)) (sym q_is)
+              ∙ forgets.begins new.module_number new.made.0 inport ∙ ap (option_map without) new.is;
           comes = subst (λ es. IsAfter nameless limits.steps (without z) es 0 (without z)) (sym none) (after_steps (without z) (without z) 0 refl);
         }
 
-    moved-tells : (s : System P) (place : Place) (h : Holding (Cell Name) (CellReply Name)) (p q : ℕ) (x y z : P) (journal : List Entry) (e : Entry) → AreTelling s journal → e.process ≡ p →
+    moved-tells : (s : System P) (place : Place) (h : PlaceState (Cell Name) (CellReply Name)) (p q : ℕ) (x y z : P) (journal : List Entry) (e : Entry) → AreTelling s journal → e.process ≡ p →
         numbered_from_one p s.processes ≡ Some x → TellsOf p y (journal ++ e ∷ []) →
         numbered_from_one q (set_process p y (set_holding place h s)).processes ≡ Some z → TellsOf q z (journal ++ e ∷ [])
     moved-tells s place h p q x y z journal e k by is told found = by_test (nat_eq p q) refl
@@ -300,7 +302,7 @@ module _ {P Q : Type 0} (machine : Machine Name P) (nameless : Machine ⊤ Q) (w
         by_test false differs = filter-passed (λ (f : Entry). nat_eq f.process q) journal e (ap (λ i. nat_eq i q) by ∙ differs) ∙ k.absent q none
 
     -- behind an action of a process at a place
-    module _ (s t : System P) (p : ℕ) (place : Place) (x y : P) (h : Holding (Cell Name) (CellReply Name)) (a : CellAction Name) (journal : List Entry)
+    module _ (s t : System P) (p : ℕ) (place : Place) (x y : P) (h : PlaceState (Cell Name) (CellReply Name)) (a : CellAction Name) (journal : List Entry)
         (k : AreTelling s journal) (is : numbered_from_one p s.processes ≡ Some x)
         (told : TellsOf p y (journal ++ entry_behind journal p place (recorded a) ∷ [])) (makes : with_made machine x a (set_process p y (set_holding place h s)) ≡ Some t) (numbered : IsNumbered machine t) where
       found-in : (q : ℕ) (z : P) → numbered_from_one q t.processes ≡ Some z →
@@ -318,24 +320,17 @@ module _ {P Q : Type 0} (machine : Machine Name P) (nameless : Machine ⊤ Q) (w
 
     action-event-tells : (p : ℕ) (place : Place) (s : System P) (m : Moved P) (journal : List Entry) → action_event machine p place s ≡ Some m → EventSuits machine (acts p place) s → IsNumbered machine m.system → AreTelling s journal → AreTelling m.system (with_entry journal (acts p place) m.done)
     action-event-tells p place s m journal e suits numbered k =
-        let b = cond-both (stands is_acting machine s p) _ m e in
-        let x = process-some s p _ m b.1 in
-        let want = chain-some (act_at machine p place s x.state) (machine.wanted x.state) m x.does in
-        let there = cond-both (some_of (same_place place) (places_for p want.0)) _ m want.2 in
-        let at = chain-some _ (holding_at place s) m there.1 in
-        let did = chain-some (behind_action machine p place s x.state at.0) (done_at want.0 at.0) m at.2 in
-        let left = chain-some _ (machine.answered x.state (number_of place) did.0) m did.2 in
-        let makes = map-some _ (with_made machine x.state did.0 (set_process p left.0 (set_holding place (after did.0 at.0) s))) m left.2 in
-        let acting_now = sym (stands-as is_acting machine s p x.state x.is) ∙ b.0 in
+        let parts = action-parts machine p place s m e in
+        let acting_now = sym (stands-as is_acting machine s p parts.state parts.is) ∙ parts.stands in
         let same = ap (λ (l : Limits). l.steps) k.same_limits in
-        let suit = suits x.state m did.0 x.is e (sym (ap (λ (m : Moved P). m.done) makes.2)) in
-        let told : TellsOf p left.0 (journal ++ entry_behind journal p place (recorded did.0) ∷ []) =
-        action-tells p place x.state left.0 journal s.book.limits.steps (can s p) want.0 at.0 did.0 same acting_now (k.numbered.processes p x.state x.is).0 want.1 there.0 did.1 left.1 suit (k.tells p x.state x.is) in
-        let now : IsNumbered machine makes.0 = subst (λ (m : Moved P). IsNumbered machine m.system) (sym makes.2) numbered in
-        subst (λ (m : Moved P). AreTelling m.system (with_entry journal (acts p place) m.done)) makes.2 (record {
-          tells = action-all s makes.0 p place x.state left.0 (after did.0 at.0) did.0 journal k x.is told makes.1 now;
-          absent = action-absent s makes.0 p place x.state left.0 (after did.0 at.0) did.0 journal k x.is told makes.1 now;
-          same_limits = ap (λ (b : Book). b.limits) (made-book machine x.state did.0 (set_process p left.0 (set_holding place (after did.0 at.0) s)) makes.0 makes.1) ∙ place-limits place at.0 did.0 s at.1 ∙ k.same_limits;
+        let suit = suits parts.state m parts.did.0 parts.is e (sym (ap (λ (m : Moved P). m.done) parts.moved)) in
+        let told : TellsOf p parts.left.0 (journal ++ entry_behind journal p place (recorded parts.did.0) ∷ []) =
+        action-tells p place parts.state parts.left.0 journal s.book.limits.steps (can s p) parts.want.0 parts.at.0 parts.did.0 same acting_now (k.numbered.processes p parts.state parts.is).0 parts.want.1 parts.there parts.did.1 parts.left.1 suit (k.tells p parts.state parts.is) in
+        let now : IsNumbered machine parts.makes.0 = subst (λ (m : Moved P). IsNumbered machine m.system) (sym parts.moved) numbered in
+        subst (λ (m : Moved P). AreTelling m.system (with_entry journal (acts p place) m.done)) parts.moved (record {
+          tells = action-all s parts.makes.0 p place parts.state parts.left.0 (after parts.did.0 parts.at.0) parts.did.0 journal k parts.is told parts.makes.1 now;
+          absent = action-absent s parts.makes.0 p place parts.state parts.left.0 (after parts.did.0 parts.at.0) parts.did.0 journal k parts.is told parts.makes.1 now;
+          same_limits = ap (λ (b : Book). b.limits) (made-book machine parts.state parts.did.0 (set_process p parts.left.0 (set_holding place (after parts.did.0 parts.at.0) s)) parts.makes.0 parts.makes.1) ∙ place-limits place parts.at.0 parts.did.0 s parts.at.1 ∙ k.same_limits;
           numbered = now;
         })
 

@@ -3,9 +3,9 @@ use Rattle.std.proofs.Common.{◌≡◌, ℕ, zero, suc, List, [], ◌∷◌, �
 use Rattle.herm_model.proofs.Lists.{length-map}
 use Rattle.herm_model.proofs.Renaming.{map-append}
 use Rattle.herm_journal.specs.Actions.{Want, new_port, new_process, to_put, to_take, to_close, to_answer, to_hear, Action, make_port, make_process, put, take, close, answer, hear}
-use Rattle.herm_journal.specs.Places.{Port, number_for, first_of, Holding, a_port, replies, a_book, behind_first, Fits, after, Limits}
+use Rattle.herm_journal.specs.PlaceStates.{Port, number_for, first_of, PlaceState, a_port, replies, a_book, behind_first, IsEnabled, after, Limits}
 use Rattle.herm_journal.specs.Entries.{Text, Entry, map_port, map_action, map_holding}
-use Rattle.herm_journal.specs.Journals.{IsStampedFrom, IsStamped, next_stamp, entry_behind}
+use Rattle.herm_journal.specs.Stamps.{IsStampedFrom, IsStamped, next_stamp, entry_behind}
 use Rattle.herm_journal.specs.Messages.{CellAction}
 use Rattle.herm_system.specs.Systems.{Event, steps, acts, Moved, Run, run, run_on, step, with_entry, start, done_at}
 use Rattle.herm_system.specs.Rounds.{Round, rounds, one_round, turns, turn, after_turn}
@@ -27,21 +27,21 @@ filter-passed test [] x is = ap (λ b. cond b (x ∷ []) []) is
 filter-passed test (y ∷ xs) x is = ap (λ ys. cond (test y) (y ∷ ys) ys) (filter-passed test xs x is)
 
 -- what is done at a place fits it
-done-take : {M R : Type 0} (o : Option (ℕ × M)) (a : Action M R) (p : Port M) → first_of p.queue ≡ o → option_map (λ q. take q.0 q.1) o ≡ Some a → Fits (a_port p) a
+done-take : {M R : Type 0} (o : Option (ℕ × M)) (a : Action M R) (p : Port M) → first_of p.queue ≡ o → option_map (λ q. take q.0 q.1) o ≡ Some a → IsEnabled (a_port p) a
 done-take None a p is e = none-not_some e
-done-take (Some q) a p is e = subst (Fits (a_port p)) (some-injective e) is
+done-take (Some q) a p is e = subst (IsEnabled (a_port p)) (some-injective e) is
 
-done-hear : {M R : Type 0} (o : Option (ℕ × R)) (a : Action M R) (rs : List (ℕ × R)) → first_of rs ≡ o → option_map (λ q. hear q.0 q.1) o ≡ Some a → Fits (replies rs) a
+done-hear : {M R : Type 0} (o : Option (ℕ × R)) (a : Action M R) (rs : List (ℕ × R)) → first_of rs ≡ o → option_map (λ q. hear q.0 q.1) o ≡ Some a → IsEnabled (replies rs) a
 done-hear None a rs is e = none-not_some e
-done-hear (Some q) a rs is e = subst (Fits (replies rs)) (some-injective e) is
+done-hear (Some q) a rs is e = subst (IsEnabled (replies rs)) (some-injective e) is
 
-pub done-fits : {M R : Type 0} (w : Want M R) (h : Holding M R) (a : Action M R) → done_at w h ≡ Some a → Fits h a
-done-fits new_port (a_book b) a e = subst (Fits (a_book b)) (some-injective e) refl
-done-fits (new_process code) (a_book b) a e = subst (Fits (a_book b)) (some-injective e) refl
-done-fits (to_put n m) (a_port p) a e = subst (Fits (a_port p)) (some-injective e) refl
+pub done-fits : {M R : Type 0} (w : Want M R) (h : PlaceState M R) (a : Action M R) → done_at w h ≡ Some a → IsEnabled h a
+done-fits new_port (a_book b) a e = subst (IsEnabled (a_book b)) (some-injective e) refl
+done-fits (new_process code) (a_book b) a e = subst (IsEnabled (a_book b)) (some-injective e) refl
+done-fits (to_put n m) (a_port p) a e = subst (IsEnabled (a_port p)) (some-injective e) refl
 done-fits (to_take ports) (a_port p) a e = done-take (first_of p.queue) a p refl e
-done-fits (to_close n) (a_port p) a e = subst (Fits (a_port p)) (some-injective e) (length-map (λ q. q.1) p.queue, refl)
-done-fits (to_answer caller call r) (replies rs) a e = subst (Fits (replies rs)) (some-injective e) tt
+done-fits (to_close n) (a_port p) a e = subst (IsEnabled (a_port p)) (some-injective e) (length-map (λ q. q.1) p.queue, refl)
+done-fits (to_answer caller call r) (replies rs) a e = subst (IsEnabled (replies rs)) (some-injective e) tt
 done-fits to_hear (replies rs) a e = done-hear (first_of rs) a rs refl e
 done-fits w h a e = none-not_some e
 
@@ -62,7 +62,7 @@ module _ {M N R S : Type 0} (f : M → N) (g : R → S) where
   number-map : (p : Port M) → number_for (map_port f p) ≡ number_for p
   number-map p = refl
 
-  pub fits-map : (h : Holding M R) (a : Action M R) → Fits h a → Fits (map_holding f g h) (map_action f g a)
+  pub fits-map : (h : PlaceState M R) (a : Action M R) → IsEnabled h a → IsEnabled (map_holding f g h) (map_action f g a)
   fits-map (a_port p) (put number m) e = e
   fits-map (a_port p) (take number m) e = first-map (λ q. (q.0, f q.1)) p.queue ∙ ap (option_map (λ q. (q.0, f q.1))) e
   fits-map (a_port p) (close count left) e = (length-map f left ∙ e.0, left-map p.queue ∙ ap (map f) e.1)
@@ -76,7 +76,7 @@ module _ {M N R S : Type 0} (f : M → N) (g : R → S) where
   port-after-put true m q n = ap (λ xs. record { is_open = true; queue = xs; placed = suc n }) (map-append (λ x. (x.0, f x.1)) q ((n, m) ∷ []))
   port-after-put false m q n = refl
 
-  pub after-map : (h : Holding M R) (a : Action M R) → map_holding f g (after a h) ≡ after (map_action f g a) (map_holding f g h)
+  pub after-map : (h : PlaceState M R) (a : Action M R) → map_holding f g (after a h) ≡ after (map_action f g a) (map_holding f g h)
   after-map (a_port p) (put number m) = ap a_port (port-after-put p.is_open m p.queue p.placed)
   after-map (a_port p) (take number m) = ap (λ xs. a_port (record { is_open = p.is_open; queue = xs; placed = p.placed })) (sym (behind-map (λ x. (x.0, f x.1)) p.queue))
   after-map (a_port p) (close count left) = refl

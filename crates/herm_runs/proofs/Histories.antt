@@ -7,16 +7,19 @@ use Rattle.herm_model.specs.Values.{Cell, Name}
 use Rattle.herm_model.specs.Texts.{text_of}
 use Rattle.herm_model.proofs.Options.{some-injective, none-not_some, chain-some, map-some}
 use Rattle.herm_journal.specs.Actions.{make_port, make_process, put, take, close, answer, hear}
-use Rattle.herm_journal.specs.Places.{Limits, empty_port, port_with, Holding, a_port, replies, a_book, Fits, after}
-use Rattle.herm_journal.specs.Entries.{Text, Place, port, reply_cell, book, same_place, Entry, map_reply, texts_of, recorded, told}
-use Rattle.herm_journal.specs.Journals.{part_of_place, last_stamp, clock_of_place, clock_of_process, entry_behind, first_told, Replayed, at_start, after_entry, replay, IsLegal}
+use Rattle.herm_journal.specs.PlaceStates.{Limits, empty_port, port_with, PlaceState, a_port, replies, a_book, IsEnabled, after}
+use Rattle.herm_journal.specs.Entries.{Text, Place, port, reply_cell, book, same_place, Entry, map_reply, texts_of, recorded, recorded_state}
+use Rattle.herm_journal.specs.Journals.{part_of_place}
+use Rattle.herm_journal.specs.Histories.{first_recorded_state, Replayed, at_start, after_entry, replay, IsLegal}
+use Rattle.herm_journal.specs.Stamps.{last_stamp, clock_of_place, clock_of_process, entry_behind}
 use Rattle.herm_journal.proofs.Rising.{same-true}
 use Rattle.herm_journal.specs.Messages.{CellReply, CellAction}
 use Rattle.herm_runs.proofs.Numbered.{more-length, lengths-stay}
 use Rattle.herm_runs.proofs.Events.{filter-kept, filter-passed, done-fits, fits-map, after-map}
-use Rattle.herm_runs.proofs.SystemLedger.{cond-some, process-some, port-stays, replies-stay, book-stays}
-use Rattle.herm_system.specs.Systems.{System, Moved, Event, steps, acts, Run, run, run_on, step, start, opening, first_message, done_at, holding_at, set_holding, numbered_from_one, set_from_one, with_made, set_process, with_entry, local_event, act_at, action_event, behind_action, number_of}
+use Rattle.herm_runs.proofs.SystemLedger.{port-stays, replies-stay, book-stays}
+use Rattle.herm_system.specs.Systems.{System, Moved, Event, steps, acts, Run, run, run_on, step, start, opening, first_message, holding_at, set_holding, numbered_from_one, set_from_one, with_made, set_process, with_entry, local_event, action_event}
 use Rattle.herm_system.specs.Machines.{Machine, inport_of}
+use Rattle.herm_runs.proofs.ActionParts.{action-parts, step-parts}
 
 not-one : (n : ℕ) → 2 ≤ n → nat_eq n 1 ≡ false
 not-one n two = grind (arith, nat_tests)
@@ -52,7 +55,7 @@ replay-more : (es : List Entry) (e : Entry) (r : Replayed) → replay (es ++ e �
 replay-more [] e r = refl
 replay-more (x ∷ es) e r = replay-more es e (after_entry x r)
 
-legal-more : (es : List Entry) (e : Entry) (r : Replayed) → IsLegal es r → Fits (replay es r).holding e.action → (replay es r).clock < e.stamp → IsLegal (es ++ e ∷ []) r
+legal-more : (es : List Entry) (e : Entry) (r : Replayed) → IsLegal es r → IsEnabled (replay es r).holding e.action → (replay es r).clock < e.stamp → IsLegal (es ++ e ∷ []) r
 legal-more [] e r l fits later = (fits, later, tt)
 legal-more (x ∷ es) e r l fits later = (l.0, l.1, legal-more es e (after_entry x r) l.2 fits later)
 
@@ -93,7 +96,7 @@ get-other_from_one xs zero q y e = refl
 get-other_from_one xs (suc p) zero y e = refl
 get-other_from_one xs (suc p) (suc q) y e = get-other xs p q y (other-suc p q e)
 
-held-there : {P : Type 0} → (place : Place) (s : System P) (h : Holding (Cell Name) (CellReply Name)) (a : CellAction Name) → holding_at place s ≡ Some h → holding_at place (set_holding place (after a h) s) ≡ Some (after a h)
+held-there : {P : Type 0} → (place : Place) (s : System P) (h : PlaceState (Cell Name) (CellReply Name)) (a : CellAction Name) → holding_at place s ≡ Some h → holding_at place (set_holding place (after a h) s) ≡ Some (after a h)
 held-there (port n) s h a e =
     let m = map-some a_port (slice_get s.ports n) h e in
     let k = port-stays a m.0 in
@@ -108,7 +111,7 @@ held-there book s h a e =
     let k = book-stays a s.book in
     subst (λ x. holding_at book (set_holding book (after a x) s) ≡ Some (after a x)) (some-injective e) (subst (λ x. holding_at book (set_holding book x s) ≡ Some x) (sym k.1) refl)
 
-pub held-elsewhere : {P : Type 0} → (place q : Place) (k : Holding (Cell Name) (CellReply Name)) (s : System P) → same_place place q ≡ false → holding_at q (set_holding place k s) ≡ holding_at q s
+pub held-elsewhere : {P : Type 0} → (place q : Place) (k : PlaceState (Cell Name) (CellReply Name)) (s : System P) → same_place place q ≡ false → holding_at q (set_holding place k s) ≡ holding_at q s
 held-elsewhere (port n) (port m) (a_port p) s e = ap (option_map a_port) (get-other s.ports n m p e)
 held-elsewhere (reply_cell p) (reply_cell q) (replies rs) s e = ap (option_map replies) (get-other_from_one s.replies p q rs e)
 held-elsewhere book book (a_book b) s e = absurd (true≢false e)
@@ -141,7 +144,7 @@ appended (x ∷ xs) y (suc n) = next-appended x xs y n (appended xs y n)
 
 module _ {P : Type 0} (limits : Limits) (message : Text) where
   abbrev Kept : Place → System P → System P → Type 0
-  Kept q s t = (holding_at q t ≡ holding_at q s) ⊎ ((holding_at q s ≡ None) × ((k : Holding (Cell Name) (CellReply Name)) × (holding_at q t ≡ Some k) × (first_told limits message q ≡ told k)))
+  Kept q s t = (holding_at q t ≡ holding_at q s) ⊎ ((holding_at q s ≡ None) × ((k : PlaceState (Cell Name) (CellReply Name)) × (holding_at q t ≡ Some k) × (first_recorded_state limits message q ≡ recorded_state k)))
 
   new-port : (s : System P) (n : ℕ) → 2 ≤ length s.ports → Appended s.ports empty_port n → (t : System P) → t.ports ≡ s.ports ++ empty_port ∷ [] → Kept (port n) s t
   new-port s n two (inl e) t is = inl (ap (λ ps. option_map a_port (slice_get ps n)) is ∙ ap (option_map a_port) e)
@@ -173,34 +176,34 @@ module _ {P : Type 0} (limits : Limits) (message : Text) where
 
   -- every place is told by its part of the journal; a place that is not there has no entries
   record AreTold (s : System P) (journal : List Entry) : Type 0 where
-    told_by : (q : Place) (h : Holding (Cell Name) (CellReply Name)) → holding_at q s ≡ Some h →
-        IsLegal (part_of_place q journal) (at_start (first_told limits message q)) × ((replay (part_of_place q journal) (at_start (first_told limits message q))).holding ≡ told h)
+    told_by : (q : Place) (h : PlaceState (Cell Name) (CellReply Name)) → holding_at q s ≡ Some h →
+        IsLegal (part_of_place q journal) (at_start (first_recorded_state limits message q)) × ((replay (part_of_place q journal) (at_start (first_recorded_state limits message q))).holding ≡ recorded_state h)
     absent : (q : Place) → holding_at q s ≡ None → part_of_place q journal ≡ []
     two : 2 ≤ length s.ports
 
   -- a place that is as before
-  same-told : (s t : System P) (journal : List Entry) (q : Place) (h : Holding (Cell Name) (CellReply Name)) → AreTold s journal → Kept q s t → holding_at q t ≡ Some h →
-      IsLegal (part_of_place q journal) (at_start (first_told limits message q)) × ((replay (part_of_place q journal) (at_start (first_told limits message q))).holding ≡ told h)
+  same-told : (s t : System P) (journal : List Entry) (q : Place) (h : PlaceState (Cell Name) (CellReply Name)) → AreTold s journal → Kept q s t → holding_at q t ≡ Some h →
+      IsLegal (part_of_place q journal) (at_start (first_recorded_state limits message q)) × ((replay (part_of_place q journal) (at_start (first_recorded_state limits message q))).holding ≡ recorded_state h)
   same-told s t journal q h k (inl e) at = k.told_by q h (sym e ∙ at)
   same-told s t journal q h k (inr e) at =
       let none = k.absent q e.0 in
       let is = some-injective (sym e.1.1 ∙ at) in
-      subst (λ es. IsLegal es (at_start (first_told limits message q)) × ((replay es (at_start (first_told limits message q))).holding ≡ told h)) (sym none) (tt, e.1.2 ∙ ap told is)
+      subst (λ es. IsLegal es (at_start (first_recorded_state limits message q)) × ((replay es (at_start (first_recorded_state limits message q))).holding ≡ recorded_state h)) (sym none) (tt, e.1.2 ∙ ap recorded_state is)
 
   same-absent : (s t : System P) (journal : List Entry) (q : Place) → AreTold s journal → Kept q s t → holding_at q t ≡ None → part_of_place q journal ≡ []
   same-absent s t journal q k (inl e) at = k.absent q (sym e ∙ at)
   same-absent s t journal q k (inr e) at = none-not_some (sym at ∙ e.1.1)
 
   -- the place of an action
-  more-told : (s : System P) (journal : List Entry) (q : Place) (p : ℕ) (h : Holding (Cell Name) (CellReply Name)) (a : CellAction Name) → AreTold s journal → holding_at q s ≡ Some h → Fits h a →
-      IsLegal (part_of_place q journal ++ entry_behind journal p q (recorded a) ∷ []) (at_start (first_told limits message q))
-      × ((replay (part_of_place q journal ++ entry_behind journal p q (recorded a) ∷ []) (at_start (first_told limits message q))).holding ≡ told (after a h))
+  more-told : (s : System P) (journal : List Entry) (q : Place) (p : ℕ) (h : PlaceState (Cell Name) (CellReply Name)) (a : CellAction Name) → AreTold s journal → holding_at q s ≡ Some h → IsEnabled h a →
+      IsLegal (part_of_place q journal ++ entry_behind journal p q (recorded a) ∷ []) (at_start (first_recorded_state limits message q))
+      × ((replay (part_of_place q journal ++ entry_behind journal p q (recorded a) ∷ []) (at_start (first_recorded_state limits message q))).holding ≡ recorded_state (after a h))
   more-told s journal q p h a k at fits =
-      let from = at_start (first_told limits message q) in
+      let from = at_start (first_recorded_state limits message q) in
       let es = part_of_place q journal in
       let e = entry_behind journal p q (recorded a) in
       let before = k.told_by q h at in
-      let fit : Fits (replay es from).holding (recorded a) = subst (λ x. Fits x (recorded a)) (sym before.1) (fits-map text_of (map_reply texts_of) h a fits) in
+      let fit : IsEnabled (replay es from).holding (recorded a) = subst (λ x. IsEnabled x (recorded a)) (sym before.1) (fits-map text_of (map_reply texts_of) h a fits) in
       let clock = clock-from q journal from in
       let later : (replay es from).clock < e.stamp = omega (arith, clock, is-later (clock_of_process p journal) (clock_of_place q journal)) in (
         legal-more es e from before.0 fit later,
@@ -208,13 +211,13 @@ module _ {P : Type 0} (limits : Limits) (message : Text) where
       )
 
   -- behind an action at a place
-  module _ (s t : System P) (journal : List Entry) (place : Place) (p : ℕ) (h : Holding (Cell Name) (CellReply Name)) (a : CellAction Name)
-      (k : AreTold s journal) (at : holding_at place s ≡ Some h) (fits : Fits h a)
+  module _ (s t : System P) (journal : List Entry) (place : Place) (p : ℕ) (h : PlaceState (Cell Name) (CellReply Name)) (a : CellAction Name)
+      (k : AreTold s journal) (at : holding_at place s ≡ Some h) (fits : IsEnabled h a)
       (there : (q : Place) → same_place place q ≡ false → Kept q s t) (here : holding_at place t ≡ Some (after a h)) where
-    abbrev AllTold : List Entry → Place → Holding (Cell Name) (CellReply Name) → Type 0
-    AllTold es q h' = IsLegal es (at_start (first_told limits message q)) × ((replay es (at_start (first_told limits message q))).holding ≡ told h')
+    abbrev AllTold : List Entry → Place → PlaceState (Cell Name) (CellReply Name) → Type 0
+    AllTold es q h' = IsLegal es (at_start (first_recorded_state limits message q)) × ((replay es (at_start (first_recorded_state limits message q))).holding ≡ recorded_state h')
 
-    action-told : (q : Place) (h' : Holding (Cell Name) (CellReply Name)) → holding_at q t ≡ Some h' → AllTold (part_of_place q (journal ++ entry_behind journal p place (recorded a) ∷ [])) q h'
+    action-told : (q : Place) (h' : PlaceState (Cell Name) (CellReply Name)) → holding_at q t ≡ Some h' → AllTold (part_of_place q (journal ++ entry_behind journal p place (recorded a) ∷ [])) q h'
     action-told q h' found = by_test (same_place place q) refl
       where
         by_test : (b : Bool) → same_place place q ≡ b → AllTold (part_of_place q (journal ++ entry_behind journal p place (recorded a) ∷ [])) q h'
@@ -242,41 +245,35 @@ module _ {P : Type 0} (limits : Limits) (message : Text) where
   kept-through q s u t same (inl e) = inl (e ∙ same)
   kept-through q s u t same (inr e) = inr (sym same ∙ e.0, e.1)
 
-  kept-here : (q : Place) (u t : System P) (h : Holding (Cell Name) (CellReply Name)) → holding_at q u ≡ Some h → Kept q u t → holding_at q t ≡ Some h
+  kept-here : (q : Place) (u t : System P) (h : PlaceState (Cell Name) (CellReply Name)) → holding_at q u ≡ Some h → Kept q u t → holding_at q t ≡ Some h
   kept-here q u t h is (inl e) = e ∙ is
   kept-here q u t h is (inr e) = none-not_some (sym e.0 ∙ is)
 
-  moved-ports : (p : ℕ) (y : P) (place : Place) (h : Holding (Cell Name) (CellReply Name)) (s : System P) → 2 ≤ length s.ports → 2 ≤ length (set_process p y (set_holding place h s)).ports
+  moved-ports : (p : ℕ) (y : P) (place : Place) (h : PlaceState (Cell Name) (CellReply Name)) (s : System P) → 2 ≤ length s.ports → 2 ≤ length (set_process p y (set_holding place h s)).ports
   moved-ports p y place h s two = omega (arith, (lengths-stay place h s).1, two)
 
   local-told : (machine : Machine Name P) (p : ℕ) (s : System P) (m : Moved P) (journal : List Entry) → local_event machine p s ≡ Some m → AreTold s journal → AreTold m.system (with_entry journal (steps p) m.done)
   local-told machine p s m journal e k =
-      let x = process-some s p _ m (cond-some _ _ m e) in
-      let n = map-some _ (machine.local_step x.state) m x.does in
-      subst (λ (m : Moved _). AreTold m.system (with_entry journal (steps p) m.done)) n.2 (record {
-        told_by = λ q h at. k.told_by q h (sym (held-with_process q p n.0 s) ∙ at);
-        absent = λ q at. k.absent q (sym (held-with_process q p n.0 s) ∙ at);
+      let parts = step-parts machine p s m e in
+      subst (λ (m : Moved _). AreTold m.system (with_entry journal (steps p) m.done)) parts.moved (record {
+        told_by = λ q h at. k.told_by q h (sym (held-with_process q p parts.left.0 s) ∙ at);
+        absent = λ q at. k.absent q (sym (held-with_process q p parts.left.0 s) ∙ at);
         two = k.two;
       })
 
   event-told : (machine : Machine Name P) (p : ℕ) (place : Place) (s : System P) (m : Moved P) (journal : List Entry) → action_event machine p place s ≡ Some m → AreTold s journal → AreTold m.system (with_entry journal (acts p place) m.done)
   event-told machine p place s m journal e k =
-      let x = process-some s p _ m (cond-some _ _ m e) in
-      let want = chain-some (act_at machine p place s x.state) (machine.wanted x.state) m x.does in
-      let at = chain-some _ (holding_at place s) m (cond-some _ _ m want.2) in
-      let did = chain-some (behind_action machine p place s x.state at.0) (done_at want.0 at.0) m at.2 in
-      let left = chain-some _ (machine.answered x.state (number_of place) did.0) m did.2 in
-      let u = set_process p left.0 (set_holding place (after did.0 at.0) s) in
-      let makes = map-some _ (with_made machine x.state did.0 u) m left.2 in
-      let two = moved-ports p left.0 place (after did.0 at.0) s k.two in
-      let kept : (q : Place) → Kept q u makes.0 = λ q. made-kept q machine x.state did.0 u makes.0 two makes.1 in
-      let there : (q : Place) → same_place place q ≡ false → Kept q s makes.0 = λ q differs. kept-through q s u makes.0 (held-with_process q p left.0 (set_holding place (after did.0 at.0) s) ∙ held-elsewhere place q (after did.0 at.0) s differs) (kept q) in
-      let here = kept-here place u makes.0 (after did.0 at.0) (held-with_process place p left.0 (set_holding place (after did.0 at.0) s) ∙ held-there place s at.0 did.0 at.1) (kept place) in
-      let fits = done-fits want.0 at.0 did.0 did.1 in
-      subst (λ (m : Moved _). AreTold m.system (with_entry journal (acts p place) m.done)) makes.2 (record {
-        told_by = action-told s makes.0 journal place p at.0 did.0 k at.1 fits there here;
-        absent = action-absent s makes.0 journal place p at.0 did.0 k at.1 fits there here;
-        two = made-ports machine x.state did.0 u makes.0 makes.1 two;
+      let parts = action-parts machine p place s m e in
+      let u = set_process p parts.left.0 (set_holding place (after parts.did.0 parts.at.0) s) in
+      let two = moved-ports p parts.left.0 place (after parts.did.0 parts.at.0) s k.two in
+      let kept : (q : Place) → Kept q u parts.makes.0 = λ q. made-kept q machine parts.state parts.did.0 u parts.makes.0 two parts.makes.1 in
+      let there : (q : Place) → same_place place q ≡ false → Kept q s parts.makes.0 = λ q differs. kept-through q s u parts.makes.0 (held-with_process q p parts.left.0 (set_holding place (after parts.did.0 parts.at.0) s) ∙ held-elsewhere place q (after parts.did.0 parts.at.0) s differs) (kept q) in
+      let here = kept-here place u parts.makes.0 (after parts.did.0 parts.at.0) (held-with_process place p parts.left.0 (set_holding place (after parts.did.0 parts.at.0) s) ∙ held-there place s parts.at.0 parts.did.0 parts.at.1) (kept place) in
+      let fits = done-fits parts.want.0 parts.at.0 parts.did.0 parts.did.1 in
+      subst (λ (m : Moved _). AreTold m.system (with_entry journal (acts p place) m.done)) parts.moved (record {
+        told_by = action-told s parts.makes.0 journal place p parts.at.0 parts.did.0 k parts.at.1 fits there here;
+        absent = action-absent s parts.makes.0 journal place p parts.at.0 parts.did.0 k parts.at.1 fits there here;
+        two = made-ports machine parts.state parts.did.0 u parts.makes.0 parts.makes.1 two;
       })
 
   step-told : (machine : Machine Name P) (e : Event) (s : System P) (m : Moved P) (journal : List Entry) → step machine e s ≡ Some m → AreTold s journal → AreTold m.system (with_entry journal e m.done)
@@ -294,18 +291,18 @@ module _ {P : Type 0} (limits : Limits) (message : Text) where
 opening-told : {P : Type 0} (machine : Machine Name P) (limits : Limits) (argument : Text) → AreTold limits (text_of (first_message argument)) (opening machine limits argument) []
 opening-told machine limits argument = record { told_by = by_place; absent = λ q e. refl; two = omega arith }
   where
-    by_place : (q : Place) (h : Holding (Cell Name) (CellReply Name)) → holding_at q (opening machine limits argument) ≡ Some h →
-        Unit {0} × (first_told limits (text_of (first_message argument)) q ≡ told h)
-    by_place (port zero) h e = (tt, ap told (some-injective e))
-    by_place (port (suc zero)) h e = (tt, ap told (some-injective e))
+    by_place : (q : Place) (h : PlaceState (Cell Name) (CellReply Name)) → holding_at q (opening machine limits argument) ≡ Some h →
+        Unit {0} × (first_recorded_state limits (text_of (first_message argument)) q ≡ recorded_state h)
+    by_place (port zero) h e = (tt, ap recorded_state (some-injective e))
+    by_place (port (suc zero)) h e = (tt, ap recorded_state (some-injective e))
     by_place (port (suc (suc n))) h e = none-not_some e
     by_place (reply_cell zero) h e = none-not_some e
-    by_place (reply_cell (suc zero)) h e = (tt, ap told (some-injective e))
+    by_place (reply_cell (suc zero)) h e = (tt, ap recorded_state (some-injective e))
     by_place (reply_cell (suc (suc n))) h e = none-not_some e
-    by_place book h e = (tt, ap told (some-injective e))
+    by_place book h e = (tt, ap recorded_state (some-injective e))
 
 pub runs-told : {P : Type 0} (machine : Machine Name P) (limits : Limits) (argument : Text) (events : List Event) (r : Run P) → run machine events (start machine limits argument) ≡ Some r →
-    (place : Place) (h : Holding (Cell Name) (CellReply Name)) → holding_at place r.system ≡ Some h →
-    IsLegal (part_of_place place r.journal) (at_start (first_told limits (text_of (first_message argument)) place))
-    × ((replay (part_of_place place r.journal) (at_start (first_told limits (text_of (first_message argument)) place))).holding ≡ told h)
+    (place : Place) (h : PlaceState (Cell Name) (CellReply Name)) → holding_at place r.system ≡ Some h →
+    IsLegal (part_of_place place r.journal) (at_start (first_recorded_state limits (text_of (first_message argument)) place))
+    × ((replay (part_of_place place r.journal) (at_start (first_recorded_state limits (text_of (first_message argument)) place))).holding ≡ recorded_state h)
 runs-told machine limits argument events r e = (run-told limits (text_of (first_message argument)) machine events (start machine limits argument) r e (opening-told machine limits argument)).told_by

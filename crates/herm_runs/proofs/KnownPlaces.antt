@@ -4,19 +4,20 @@ use Rattle.std.specs.Prelude.{nat_lt, ◌&&◌}
 use Rattle.herm_model.specs.Values.{Kind, a_callmessage, an_inport, an_outport, Cell, Name}
 use Rattle.herm_model.proofs.Options.{some-injective, none-not_some, chain-some, map-some}
 use Rattle.herm_journal.specs.Actions.{new_port, new_process, to_put, to_take, to_close, to_answer, to_hear, make_port, make_process, put, take, close, answer, hear}
-use Rattle.herm_journal.specs.Places.{Book, Port, empty_port, first_of, behind_first, Replies, Holding, a_port, replies, a_book, after, next_port, next_process}
+use Rattle.herm_journal.specs.PlaceStates.{Book, Port, empty_port, first_of, behind_first, Replies, PlaceState, a_port, replies, a_book, after, next_port, next_process}
 use Rattle.herm_journal.specs.Entries.{Place, port, reply_cell, book}
 use Rattle.herm_journal.specs.Messages.{CellReply, CellWant, CellAction}
-use Rattle.herm_system.specs.Systems.{System, Moved, Event, steps, acts, Run, run, run_on, step, with_entry, with_made, set_process, set_holding, holding_at, act_at, behind_action, numbered_from_one, set_from_one, done_at, number_of}
-use Rattle.herm_runs.proofs.SystemLedger.{cond-some, process-some, processes-stay}
+use Rattle.herm_system.specs.Systems.{System, Moved, Event, steps, acts, Run, run, run_on, step, with_entry, with_made, set_process, set_holding, holding_at, numbered_from_one, set_from_one, done_at, number_of}
+use Rattle.herm_runs.proofs.SystemLedger.{processes-stay}
 use Rattle.herm_runs.proofs.Histories.{held-with_process}
 use Rattle.herm_runs.proofs.RoundsEnd.{made-book}
 use Rattle.herm_runs.proofs.Numbered.{BookMoves, book-moves, set-found, more-found, set-found_from_one, more-found_from_one}
 use Rattle.herm_journal.specs.Kinds.{HasKinds, AllKinds, ReplyKinds, AllPorts, WantKinds, ActionKinds}
 use Rattle.herm_journal.proofs.MoreKinds.{more-kinds, more-kinds_all}
 use Rattle.herm_system.specs.Machines.{Held, Machine, inport_of}
-use Rattle.herm_runs.specs.OneProcess.{IsKnown, HeldKinds, Knows, KnowsPlaces}
+use Rattle.herm_runs.specs.laws.ProcessLaws.{IsKnown, HeldKinds, Knows, KnowsPlaces}
 use Rattle.herm_runs.proofs.DiariesTold.{done-fulfils}
+use Rattle.herm_runs.proofs.ActionParts.{action-parts, step-parts}
 
 known-more : (b c : Book) → b.ports ≤ c.ports → b.processes ≤ c.processes → (k : Kind) → IsKnown b k → IsKnown c k
 known-more b c ports processes (an_inport n) h = omega (arith, ports, h)
@@ -33,7 +34,7 @@ abbrev pub RepliesKinds : (Kind → Type 0) → Replies (CellReply Name) → Typ
 RepliesKinds of [] = Unit {0}
 RepliesKinds of (r ∷ rs) = ReplyKinds of r.1 × RepliesKinds of rs
 
-abbrev pub HoldingKinds : (Kind → Type 0) → Holding (Cell Name) (CellReply Name) → Type 0
+abbrev pub HoldingKinds : (Kind → Type 0) → PlaceState (Cell Name) (CellReply Name) → Type 0
 HoldingKinds of (a_port p) = QueueKinds of p.queue
 HoldingKinds of (replies rs) = RepliesKinds of rs
 HoldingKinds of (a_book b) = Unit {0}
@@ -57,7 +58,7 @@ module _ (f g : Kind → Type 0) (more : (k : Kind) → f k → g k) where
   more-replies [] h = tt
   more-replies (r ∷ rs) h = (more-reply r.1 h.0, more-replies rs h.1)
 
-  more-holding : (h : Holding (Cell Name) (CellReply Name)) → HoldingKinds f h → HoldingKinds g h
+  more-holding : (h : PlaceState (Cell Name) (CellReply Name)) → HoldingKinds f h → HoldingKinds g h
   more-holding (a_port p) h = more-queue p.queue h
   more-holding (replies rs) h = more-replies rs h
   more-holding (a_book b) h = tt
@@ -128,7 +129,7 @@ module _ (c : Book) where
   hear-kinds [] a h e = none-not_some e
   hear-kinds (r ∷ rs) a h e = subst (ActionKinds (IsKnown c)) (some-injective e) h.0
 
-  action-kinds : (w : CellWant Name) (h : Holding (Cell Name) (CellReply Name)) (a : CellAction Name) → done_at w h ≡ Some a → WantKinds (IsKnown c) w → HoldingKinds (IsKnown c) h → MadeKinds c a → ActionKinds (IsKnown c) a
+  action-kinds : (w : CellWant Name) (h : PlaceState (Cell Name) (CellReply Name)) (a : CellAction Name) → done_at w h ≡ Some a → WantKinds (IsKnown c) w → HoldingKinds (IsKnown c) h → MadeKinds c a → ActionKinds (IsKnown c) a
   action-kinds new_port (a_book b) a e k g m = subst (ActionKinds (IsKnown c)) (some-injective e) (port-kinds (next_port b) (subst (MadeKinds c) (sym (some-injective e)) m))
   action-kinds (new_process code) (a_book b) a e k g m = subst (ActionKinds (IsKnown c)) (some-injective e) (process-kinds code (next_process b) (subst (MadeKinds c) (sym (some-injective e)) m))
   action-kinds (to_put n x) (a_port p) a e k g m = subst (ActionKinds (IsKnown c)) (some-injective e) k.1
@@ -159,7 +160,7 @@ module _ (c : Book) where
   replies-behind [] h = tt
   replies-behind (r ∷ rs) h = h.1
 
-  after-kinds : (a : CellAction Name) (h : Holding (Cell Name) (CellReply Name)) → ActionKinds (IsKnown c) a → HoldingKinds (IsKnown c) h → HoldingKinds (IsKnown c) (after a h)
+  after-kinds : (a : CellAction Name) (h : PlaceState (Cell Name) (CellReply Name)) → ActionKinds (IsKnown c) a → HoldingKinds (IsKnown c) h → HoldingKinds (IsKnown c) (after a h)
   after-kinds (put number m) (a_port p) k g = put-leaves p.is_open p.queue p.placed m g k
   after-kinds (take number m) (a_port p) k g = queue-behind p.queue g
   after-kinds (close count left) (a_port p) k g = tt
@@ -170,7 +171,7 @@ module _ (c : Book) where
   after-kinds a h k g = g
 
 -- a change of a process and of a place
-found-place : {P : Type 0} → (place q : Place) (k j : Holding (Cell Name) (CellReply Name)) (s : System P) → holding_at q (set_holding place k s) ≡ Some j → (k ≡ j) ⊎ (holding_at q s ≡ Some j)
+found-place : {P : Type 0} → (place q : Place) (k j : PlaceState (Cell Name) (CellReply Name)) (s : System P) → holding_at q (set_holding place k s) ≡ Some j → (k ≡ j) ⊎ (holding_at q s ≡ Some j)
 found-place (port m) (port n) (a_port p) j s e =
     let f = map-some a_port (slice_get (slice_set s.ports m p) n) j e in
     elim (set-found s.ports m n p f.0 f.1) [ inl same ↦ inl (ap a_port same.1 ∙ f.2) | inr old ↦ inr (ap (option_map a_port) old ∙ ap (λ h. Some h) f.2) ]
@@ -189,7 +190,7 @@ found-place place q k j s e = inr e
 -- each process knows only what this book has counted, and so does what is at each place
 pub record HasOnly {P : Type 0} (machine : Machine Name P) (b : Book) (s : System P) : Type 0 where
   pub processes : (p : ℕ) (x : P) → numbered_from_one p s.processes ≡ Some x → Knows machine b x
-  pub places : (q : Place) (h : Holding (Cell Name) (CellReply Name)) → holding_at q s ≡ Some h → HoldingKinds (IsKnown b) h
+  pub places : (q : Place) (h : PlaceState (Cell Name) (CellReply Name)) → holding_at q s ≡ Some h → HoldingKinds (IsKnown b) h
 
 module _ {P : Type 0} (machine : Machine Name P) where
   -- the same of a book that counts no less
@@ -212,19 +213,19 @@ module _ {P : Type 0} (machine : Machine Name P) where
       by_place x (inl e) old = subst (Knows machine b) e.1 new
       by_place x (inr e) old = old e
 
-  place-only : (b : Book) (place : Place) (k : Holding (Cell Name) (CellReply Name)) (s : System P) → HoldingKinds (IsKnown b) k → HasOnly machine b s → HasOnly machine b (set_holding place k s)
+  place-only : (b : Book) (place : Place) (k : PlaceState (Cell Name) (CellReply Name)) (s : System P) → HoldingKinds (IsKnown b) k → HasOnly machine b s → HasOnly machine b (set_holding place k s)
   place-only b place k s new o = record {
     processes = λ q x is. o.processes q x (ap (numbered_from_one q) (sym (processes-stay place k s)) ∙ is);
     places = λ q h at. by_place h (found-place place q k h s at) (o.places q h);
   }
     where
-      by_place : {Z : Type 0} (h : Holding (Cell Name) (CellReply Name)) → (k ≡ h) ⊎ Z → (Z → HoldingKinds (IsKnown b) h) → HoldingKinds (IsKnown b) h
+      by_place : {Z : Type 0} (h : PlaceState (Cell Name) (CellReply Name)) → (k ≡ h) ⊎ Z → (Z → HoldingKinds (IsKnown b) h) → HoldingKinds (IsKnown b) h
       by_place h (inl e) old = subst (HoldingKinds (IsKnown b)) e new
       by_place h (inr e) old = old e
 
   -- with what was made
   module _ (b : Book) (s : System P) (k : HasOnly machine b s) where
-    more-port : (n : ℕ) (h : Holding (Cell Name) (CellReply Name)) → option_map a_port (slice_get (s.ports ++ empty_port ∷ []) n) ≡ Some h → HoldingKinds (IsKnown b) h
+    more-port : (n : ℕ) (h : PlaceState (Cell Name) (CellReply Name)) → option_map a_port (slice_get (s.ports ++ empty_port ∷ []) n) ≡ Some h → HoldingKinds (IsKnown b) h
     more-port n h at =
         let f = map-some a_port (slice_get (s.ports ++ empty_port ∷ []) n) h at in
         subst (HoldingKinds (IsKnown b)) f.2 (by_place f.0 (more-found s.ports n empty_port f.0 f.1) (λ old. k.places (port n) (a_port f.0) (ap (option_map a_port) old)))
@@ -233,7 +234,7 @@ module _ {P : Type 0} (machine : Machine Name P) where
         by_place p (inl e) old = subst (λ (r : Port (Cell Name)). QueueKinds (IsKnown b) r.queue) e.1 tt
         by_place p (inr e) old = old e
 
-    more-cell : (q : ℕ) (h : Holding (Cell Name) (CellReply Name)) → option_map replies (numbered_from_one q (s.replies ++ [] ∷ [])) ≡ Some h → HoldingKinds (IsKnown b) h
+    more-cell : (q : ℕ) (h : PlaceState (Cell Name) (CellReply Name)) → option_map replies (numbered_from_one q (s.replies ++ [] ∷ [])) ≡ Some h → HoldingKinds (IsKnown b) h
     more-cell q h at =
         let f = map-some replies (numbered_from_one q (s.replies ++ [] ∷ [])) h at in
         subst (HoldingKinds (IsKnown b)) f.2 (by_place f.0 (more-found_from_one s.replies q [] f.0 f.1) (λ old. k.places (reply_cell q) (replies f.0) (ap (option_map replies) old)))
@@ -245,7 +246,7 @@ module _ {P : Type 0} (machine : Machine Name P) where
     port-only : HasOnly machine b (record s { ports = s.ports ++ empty_port ∷ [] })
     port-only = record { processes = k.processes; places = at }
       where
-        at : (q : Place) (h : Holding (Cell Name) (CellReply Name)) → holding_at q (record s { ports = s.ports ++ empty_port ∷ [] }) ≡ Some h → HoldingKinds (IsKnown b) h
+        at : (q : Place) (h : PlaceState (Cell Name) (CellReply Name)) → holding_at q (record s { ports = s.ports ++ empty_port ∷ [] }) ≡ Some h → HoldingKinds (IsKnown b) h
         at (port n) h e = more-port n h e
         at (reply_cell p) h e = k.places (reply_cell p) h e
         at book h e = k.places book h e
@@ -257,7 +258,7 @@ module _ {P : Type 0} (machine : Machine Name P) where
         by_place x (inl e) old = subst (Knows machine b) e.1 new
         by_place x (inr e) old = old e
 
-        at : (q : Place) (h : Holding (Cell Name) (CellReply Name)) → holding_at q (record s { processes = s.processes ++ y ∷ []; ports = s.ports ++ empty_port ∷ []; replies = s.replies ++ [] ∷ [] }) ≡ Some h → HoldingKinds (IsKnown b) h
+        at : (q : Place) (h : PlaceState (Cell Name) (CellReply Name)) → holding_at q (record s { processes = s.processes ++ y ∷ []; ports = s.ports ++ empty_port ∷ []; replies = s.replies ++ [] ∷ [] }) ≡ Some h → HoldingKinds (IsKnown b) h
         at (port n) h e = more-port n h e
         at (reply_cell p) h e = more-cell p h e
         at book h e = k.places book h e
@@ -272,29 +273,23 @@ module _ {P : Type 0} (machine : Machine Name P) where
 
     step-knows : (e : Event) (s : System P) (m : Moved P) → step machine e s ≡ Some m → HasOnly machine s.book s → HasOnly machine m.system.book m.system
     step-knows (steps p) s m is k =
-        let x = process-some s p _ m (cond-some _ _ m is) in
-        let n = map-some _ (machine.local_step x.state) m x.does in
-        subst (λ (m : Moved P). HasOnly machine m.system.book m.system) n.2 (set-only s.book p n.0 s (known.local_steps s.book x.state n.0 (k.processes p x.state x.is) n.1) k)
+        let parts = step-parts machine p s m is in
+        subst (λ (m : Moved P). HasOnly machine m.system.book m.system) parts.moved (set-only s.book p parts.left.0 s (known.local_steps s.book parts.state parts.left.0 (k.processes p parts.state parts.is) parts.left.1) k)
     step-knows (acts p place) s m is k =
-        let x = process-some s p _ m (cond-some _ _ m is) in
-        let want = chain-some (act_at machine p place s x.state) (machine.wanted x.state) m x.does in
-        let at = chain-some _ (holding_at place s) m (cond-some _ _ m want.2) in
-        let did = chain-some (behind_action machine p place s x.state at.0) (done_at want.0 at.0) m at.2 in
-        let left = chain-some _ (machine.answered x.state (number_of place) did.0) m did.2 in
-        let t = set_process p left.0 (set_holding place (after did.0 at.0) s) in
-        let makes = map-some _ (with_made machine x.state did.0 t) m left.2 in
+        let parts = action-parts machine p place s m is in
+        let t = set_process p parts.left.0 (set_holding place (after parts.did.0 parts.at.0) s) in
         let b = s.book in
         let c = t.book in
-        let counted = book-counted did.0 b c (book-moves want.0 place s at.0 did.0 at.1 did.1) in
+        let counted = book-counted parts.did.0 b c (book-moves parts.want.0 place s parts.at.0 parts.did.0 parts.at.1 parts.did.1) in
         let more = known-more b c counted.0 counted.1 in
-        let knows = k.processes p x.state x.is in
-        let wants = more-want (IsKnown b) (IsKnown c) more want.0 (known.wants b x.state want.0 knows want.1) in
-        let held = more-holding (IsKnown b) (IsKnown c) more at.0 (k.places place at.0 at.1) in
-        let brings = action-kinds c want.0 at.0 did.0 did.1 wants held counted.2 in
-        let behind = known.answers c x.state left.0 want.0 (number_of place) did.0 (knows-more b c counted.0 counted.1 x.state knows) want.1 (done-fulfils want.0 at.0 did.0 did.1) brings left.1 in
+        let knows = k.processes p parts.state parts.is in
+        let wants = more-want (IsKnown b) (IsKnown c) more parts.want.0 (known.wants b parts.state parts.want.0 knows parts.want.1) in
+        let held = more-holding (IsKnown b) (IsKnown c) more parts.at.0 (k.places place parts.at.0 parts.at.1) in
+        let brings = action-kinds c parts.want.0 parts.at.0 parts.did.0 parts.did.1 wants held counted.2 in
+        let behind = known.answers c parts.state parts.left.0 parts.want.0 (number_of place) parts.did.0 (knows-more b c counted.0 counted.1 parts.state knows) parts.want.1 (done-fulfils parts.want.0 parts.at.0 parts.did.0 parts.did.1) brings parts.left.1 in
         let old = more-only b c counted.0 counted.1 s k in
-        let now = made-only x.state did.0 c t makes.0 makes.1 counted.2 (set-only c p left.0 (set_holding place (after did.0 at.0) s) behind (place-only c place (after did.0 at.0) s (after-kinds c did.0 at.0 brings held) old)) in
-        subst (λ (m : Moved P). HasOnly machine m.system.book m.system) makes.2 (subst (λ d. HasOnly machine d makes.0) (sym (made-book machine x.state did.0 t makes.0 makes.1)) now)
+        let now = made-only parts.state parts.did.0 c t parts.makes.0 parts.makes.1 counted.2 (set-only c p parts.left.0 (set_holding place (after parts.did.0 parts.at.0) s) behind (place-only c place (after parts.did.0 parts.at.0) s (after-kinds c parts.did.0 parts.at.0 brings held) old)) in
+        subst (λ (m : Moved P). HasOnly machine m.system.book m.system) parts.moved (subst (λ d. HasOnly machine d parts.makes.0) (sym (made-book machine parts.state parts.did.0 t parts.makes.0 parts.makes.1)) now)
 
     pub run-knows : (events : List Event) (r t : Run P) → run machine events r ≡ Some t → HasOnly machine r.system.book r.system → HasOnly machine t.system.book t.system
     run-knows [] r t is k = subst (λ (x : Run P). HasOnly machine x.system.book x.system) (some-injective is) k

@@ -1,8 +1,8 @@
 -- Along every journal each cell is at one place.
 use Rattle.herm_model.specs.Values.{Name}
 use Rattle.herm_system.specs.Machines.{Machine}
-use Rattle.herm_runs.specs.OneProcess.{KeepsNumbers, KeepsLedger}
-use Rattle.herm_runs.specs.RunLaws.{LedgerAlong}
+use Rattle.herm_runs.specs.laws.ProcessLaws.{KeepsNumbers, KeepsLedger}
+use Rattle.herm_runs.specs.laws.RunLaws.{LedgerAlong}
 use Rattle.herm_runs.proofs.SystemLedger.{runs-keep}
 use Rattle.herm_runs.proofs.Numbered.{runs-numbered, numbered-once}
 

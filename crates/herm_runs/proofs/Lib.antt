@@ -1,4 +1,5 @@
 pub mod Events
+pub mod ActionParts
 pub mod SystemLedger
 pub mod Numbered
 pub mod Histories

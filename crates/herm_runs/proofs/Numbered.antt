@@ -7,16 +7,17 @@ use Rattle.herm_model.specs.Lists.{list_of, total}
 use Rattle.herm_model.specs.Values.{Cell, Name}
 use Rattle.herm_model.proofs.Options.{some-injective, none-not_some, chain-some, map-some}
 use Rattle.herm_journal.specs.Actions.{new_port, new_process, to_put, to_take, to_close, to_answer, to_hear, make_port, make_process, take, hear}
-use Rattle.herm_journal.specs.Places.{Book, Limits, Port, empty_port, first_of, Replies, Holding, a_port, replies, a_book, after, next_port, next_process, after_port, after_process}
+use Rattle.herm_journal.specs.PlaceStates.{Book, Limits, Port, empty_port, first_of, Replies, PlaceState, a_port, replies, a_book, after, next_port, next_process, after_port, after_process}
 use Rattle.herm_journal.specs.Entries.{Text, Place, port, reply_cell, book}
 use Rattle.herm_journal.specs.Messages.{CellReply, CellWant, CellAction}
 use Rattle.herm_journal.specs.Weights.{only, weigh_serials}
-use Rattle.herm_system.specs.Systems.{System, Moved, Event, steps, acts, Run, run, run_on, step, start, opening, main_port, done_at, holding_at, set_holding, numbered_from_one, set_from_one, with_made, set_process, local_event, act_at, action_event, behind_action, number_of}
+use Rattle.herm_system.specs.Systems.{System, Moved, Event, steps, acts, Run, run, run_on, step, start, opening, main_port, done_at, holding_at, set_holding, numbered_from_one, set_from_one, with_made, set_process, local_event, action_event, number_of}
 use Rattle.herm_system.specs.Ledger.{made_in, IsMadeOnce, made_by}
 use Rattle.herm_system.specs.Sound.{IsNumbered, RunsModule}
-use Rattle.herm_runs.proofs.SystemLedger.{cond-some, process-some, processes-stay}
+use Rattle.herm_runs.proofs.SystemLedger.{processes-stay}
 use Rattle.herm_system.specs.Machines.{Machine, inport_of}
-use Rattle.herm_runs.specs.OneProcess.{KeepsNumbers}
+use Rattle.herm_runs.specs.laws.ProcessLaws.{KeepsNumbers}
+use Rattle.herm_runs.proofs.ActionParts.{action-parts, step-parts}
 
 -- what is found in a list with one element set, and with one more
 pub set-found : {X : Type 0} (xs : List X) (i j : ℕ) (y z : X) → slice_get (slice_set xs i y) j ≡ Some z → ((i ≡ j) × (y ≡ z)) ⊎ (slice_get xs j ≡ Some z)
@@ -77,7 +78,7 @@ HasNumber machine p x = (machine.number x ≡ p) × RunsModule machine p x
 abbrev HaveNumbers : {P : Type 0} → Machine Name P → List P → Type 0
 HaveNumbers machine xs = (p : ℕ) (x : _) → numbered_from_one p xs ≡ Some x → HasNumber machine p x
 
-set-numbers : {P : Type 0} (machine : Machine Name P) (xs : List P) (p : ℕ) (x y : P) → numbered_from_one p xs ≡ Some x → (machine.number y ≡ machine.number x) × (machine.code y ≡ machine.code x) → HaveNumbers machine xs → HaveNumbers machine (set_from_one p y xs)
+set-numbers : {P : Type 0} (machine : Machine Name P) (xs : List P) (p : ℕ) (x y : P) → numbered_from_one p xs ≡ Some x → (machine.number y ≡ machine.number x) × (machine.module_number y ≡ machine.module_number x) → HaveNumbers machine xs → HaveNumbers machine (set_from_one p y xs)
 set-numbers machine xs p x y is same have q z found = by_place (set-found_from_one xs p q y z found)
   where
     by_place : ((p ≡ q) × (y ≡ z)) ⊎ (numbered_from_one q xs ≡ Some z) → HasNumber machine q z
@@ -102,7 +103,7 @@ BookMoves (make_process code made) b c = (next_process b ≡ made) × (c ≡ aft
 BookMoves a b c = c ≡ b
 
 -- with what is at a place after an action
-abbrev pub MovedAt : {P : Type 0} → Place → System P → Holding (Cell Name) (CellReply Name) → CellAction Name → Type 0
+abbrev pub MovedAt : {P : Type 0} → Place → System P → PlaceState (Cell Name) (CellReply Name) → CellAction Name → Type 0
 MovedAt place s h a = BookMoves a s.book (set_holding place (after a h) s).book
 
 take-book : {P : Type 0} → (n : ℕ) (s : System P) (b : Bool) (q : List (ℕ × Cell Name)) (k : ℕ) (a : CellAction Name) → option_map (λ x. take x.0 x.1) (first_of q) ≡ Some a → MovedAt (port n) s (a_port (record { is_open = b; queue = q; placed = k })) a
@@ -129,7 +130,7 @@ book-book new_port s a e = subst (MovedAt book s (a_book s.book)) (some-injectiv
 book-book (new_process code) s a e = subst (MovedAt book s (a_book s.book)) (some-injective e) (refl, refl)
 book-book want s a e = none-not_some e
 
-pub book-moves : {P : Type 0} → (want : CellWant Name) (place : Place) (s : System P) (h : Holding (Cell Name) (CellReply Name)) (a : CellAction Name) → holding_at place s ≡ Some h → done_at want h ≡ Some a → MovedAt place s h a
+pub book-moves : {P : Type 0} → (want : CellWant Name) (place : Place) (s : System P) (h : PlaceState (Cell Name) (CellReply Name)) (a : CellAction Name) → holding_at place s ≡ Some h → done_at want h ≡ Some a → MovedAt place s h a
 book-moves want (port n) s h a at does =
     let m = map-some a_port (slice_get s.ports n) h at in
     subst (λ k. MovedAt (port n) s k a) m.2 (port-book want n m.0 s a (ap (done_at want) m.2 ∙ does))
@@ -140,7 +141,7 @@ book-moves want book s h a at does =
     subst (λ k. MovedAt book s k a) (some-injective at) (book-book want s a (ap (done_at want) (some-injective at) ∙ does))
 
 -- lists stay as long
-pub lengths-stay : {P : Type 0} → (place : Place) (h : Holding (Cell Name) (CellReply Name)) (s : System P) → (length (set_holding place h s).replies ≡ length s.replies) × (length (set_holding place h s).ports ≡ length s.ports)
+pub lengths-stay : {P : Type 0} → (place : Place) (h : PlaceState (Cell Name) (CellReply Name)) (s : System P) → (length (set_holding place h s).replies ≡ length s.replies) × (length (set_holding place h s).ports ≡ length s.ports)
 lengths-stay (port n) (a_port p) s = (refl, set-length s.ports n p)
 lengths-stay (reply_cell p) (replies rs) s = (set-length_from_one p rs s.replies, refl)
 lengths-stay book (a_book b) s = (refl, refl)
@@ -212,18 +213,17 @@ made-counts machine keeps maker a b s t k moves e =
 
 local-numbered : {P : Type 0} (machine : Machine Name P) (keeps : KeepsNumbers machine) (p : ℕ) (s : System P) (m : Moved P) → local_event machine p s ≡ Some m → IsNumbered machine s → IsNumbered machine m.system
 local-numbered machine keeps p s m e k =
-    let there = process-some s p _ m (cond-some _ _ m e) in
-    let n = map-some _ (machine.local_step there.state) m there.does in
+    let parts = step-parts machine p s m e in
     let c = counts-of machine s k in
-    subst (λ (x : Moved _). IsNumbered machine x.system) n.2 (numbered-of machine (set_process p n.0 s) (record {
-      numbers = set-numbers machine s.processes p there.state n.0 there.is (keeps.local_steps there.state n.0 n.1) c.numbers;
-      cells = c.cells ∙ sym (set-length_from_one p n.0 s.processes);
-      processes = set-length_from_one p n.0 s.processes ∙ c.processes;
+    subst (λ (x : Moved _). IsNumbered machine x.system) parts.moved (numbered-of machine (set_process p parts.left.0 s) (record {
+      numbers = set-numbers machine s.processes p parts.state parts.left.0 parts.is (keeps.local_steps parts.state parts.left.0 parts.left.1) c.numbers;
+      cells = c.cells ∙ sym (set-length_from_one p parts.left.0 s.processes);
+      processes = set-length_from_one p parts.left.0 s.processes ∙ c.processes;
       ports = c.ports;
     }))
 
-moved-counts : {P : Type 0} (machine : Machine Name P) (p : ℕ) (place : Place) (s : System P) (x y : P) (h : Holding (Cell Name) (CellReply Name)) → numbered_from_one p s.processes ≡ Some x →
-    (machine.number y ≡ machine.number x) × (machine.code y ≡ machine.code x) → Counts machine s.book s → Counts machine s.book (set_process p y (set_holding place h s))
+moved-counts : {P : Type 0} (machine : Machine Name P) (p : ℕ) (place : Place) (s : System P) (x y : P) (h : PlaceState (Cell Name) (CellReply Name)) → numbered_from_one p s.processes ≡ Some x →
+    (machine.number y ≡ machine.number x) × (machine.module_number y ≡ machine.module_number x) → Counts machine s.book s → Counts machine s.book (set_process p y (set_holding place h s))
 moved-counts machine p place s x y h is same c =
     let stay = processes-stay place h s in
     let lengths = lengths-stay place h s in
@@ -236,16 +236,12 @@ moved-counts machine p place s x y h is same c =
 
 action-numbered : {P : Type 0} (machine : Machine Name P) (keeps : KeepsNumbers machine) (p : ℕ) (place : Place) (s : System P) (m : Moved P) → action_event machine p place s ≡ Some m → IsNumbered machine s → IsNumbered machine m.system
 action-numbered machine keeps p place s m e k =
-    let there = process-some s p _ m (cond-some _ _ m e) in
-    let want = chain-some (act_at machine p place s there.state) (machine.wanted there.state) m there.does in
-    let at = chain-some _ (holding_at place s) m (cond-some _ _ m want.2) in
-    let did = chain-some (behind_action machine p place s there.state at.0) (done_at want.0 at.0) m at.2 in
-    let left = chain-some _ (machine.answered there.state (number_of place) did.0) m did.2 in
-    let makes = map-some _ (with_made machine there.state did.0 (set_process p left.0 (set_holding place (after did.0 at.0) s))) m left.2 in
-    subst (λ (x : Moved _). IsNumbered machine x.system) makes.2 (numbered-of machine makes.0
-    (made-counts machine keeps there.state did.0 s.book (set_process p left.0 (set_holding place (after did.0 at.0) s)) makes.0
-    (moved-counts machine p place s there.state left.0 (after did.0 at.0) there.is (keeps.answers there.state left.0 (number_of place) did.0 left.1) (counts-of machine s k))
-    (book-moves want.0 place s at.0 did.0 at.1 did.1) makes.1))
+    let parts = action-parts machine p place s m e in
+    let held = after parts.did.0 parts.at.0 in
+    subst (λ (x : Moved _). IsNumbered machine x.system) parts.moved (numbered-of machine parts.makes.0
+    (made-counts machine keeps parts.state parts.did.0 s.book (set_process p parts.left.0 (set_holding place held s)) parts.makes.0
+    (moved-counts machine p place s parts.state parts.left.0 held parts.is (keeps.answers parts.state parts.left.0 (number_of place) parts.did.0 parts.left.1) (counts-of machine s k))
+    (book-moves parts.want.0 place s parts.at.0 parts.did.0 parts.at.1 parts.did.1) parts.makes.1))
 
 pub step-numbered : {P : Type 0} (machine : Machine Name P) (keeps : KeepsNumbers machine) (e : Event) (s : System P) (m : Moved P) → step machine e s ≡ Some m → IsNumbered machine s → IsNumbered machine m.system
 step-numbered machine keeps (steps p) s m e k = local-numbered machine keeps p s m e k

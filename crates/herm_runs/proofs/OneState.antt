@@ -13,9 +13,10 @@ use Rattle.herm_journal.specs.Entries.{Text, Entry, Record, map_reply, texts_of,
 use Rattle.herm_journal.specs.Messages.{CellReply, CellWant, CellAction, OfType, message_of_port, IsMessage, AreFull, types_back, types_kept, IsReplyTo}
 use Rattle.herm_system.specs.Machines.{Machine, OpenCall}
 use Rattle.herm_system.specs.Systems.{number_of}
-use Rattle.herm_system.specs.Along.{has_local_step, local_steps, Answers, Suits, IsBehind, IsAfter, after_steps, after_entry}
-use Rattle.herm_runs.specs.DiaryLaws.{EntriesTellOneAction, DiariesLeadToOneState}
-use Rattle.herm_runs.proofs.Stands.{cond-both}
+use Rattle.herm_system.specs.Suiting.{has_local_step, local_steps, Answers, Suits}
+use Rattle.herm_system.specs.DiaryStates.{IsBehind, IsAfter, after_steps, after_entry}
+use Rattle.herm_runs.specs.laws.DiaryLaws.{EntriesTellOneAction, DiariesLeadToOneState}
+use Rattle.herm_runs.proofs.ActionParts.{cond-both}
 
 -- what a recorded action has, by its kind
 abbrev port_made : Record → Option (Option ℕ)

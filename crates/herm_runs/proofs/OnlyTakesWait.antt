@@ -4,15 +4,15 @@ use Rattle.std.specs.Prelude.{is_some}
 use Rattle.herm_model.specs.Values.{Name, Cell}
 use Rattle.herm_model.proofs.Options.{map-some}
 use Rattle.herm_journal.specs.Actions.{new_port, new_process, to_put, to_take, to_close, to_answer, to_hear}
-use Rattle.herm_journal.specs.Places.{a_port, replies}
+use Rattle.herm_journal.specs.PlaceStates.{a_port, replies}
 use Rattle.herm_journal.specs.Entries.{port, reply_cell}
 use Rattle.herm_journal.specs.Kinds.{WantKinds}
 use Rattle.herm_journal.specs.Messages.{CellReply, CellWant}
 use Rattle.herm_system.specs.Machines.{Machine}
 use Rattle.herm_system.specs.Systems.{System, start, done_at, can, numbered_from_one}
 use Rattle.herm_system.specs.Sound.{IsNumbered}
-use Rattle.herm_runs.specs.OneProcess.{KeepsNumbers, KnowsPlaces, IsKnown}
-use Rattle.herm_runs.specs.RunLaws.{MayWait, OnlyTakesAndHearsWait}
+use Rattle.herm_runs.specs.laws.ProcessLaws.{KeepsNumbers, KnowsPlaces, IsKnown}
+use Rattle.herm_runs.specs.laws.RunLaws.{MayWait, OnlyTakesAndHearsWait}
 use Rattle.herm_runs.proofs.Numbered.{runs-numbered}
 use Rattle.herm_runs.proofs.KnownPlaces.{run-knows}
 use Rattle.herm_journal.proofs.Rising.{same-true}

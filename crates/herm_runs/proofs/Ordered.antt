@@ -5,7 +5,8 @@ use Rattle.std.specs.Prelude.{nat_eq, nat_lt}
 use Rattle.std.proofs.lemmas.Bool.Decides.{nat_tests}
 use Rattle.herm_model.specs.Lists.{IsIn}
 use Rattle.herm_journal.specs.Entries.{Entry}
-use Rattle.herm_journal.specs.Journals.{IsBefore, IsRisingFrom, IsRising, is_before, with_next, ordered, last_stamp}
+use Rattle.herm_journal.specs.Journals.{IsBefore, IsRisingFrom, IsRising, is_before, with_next, ordered}
+use Rattle.herm_journal.specs.Stamps.{last_stamp}
 use Rattle.herm_journal.proofs.Rising.{same-true}
 
 -- later entries that pass a test with this one have later stamps

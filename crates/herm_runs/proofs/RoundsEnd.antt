@@ -2,21 +2,21 @@
 use Rattle.std.proofs.Common.{◌≡◌, ℕ, zero, suc, ◌+◌, ◌<◌, ◌≤◌, List, [], ◌∷◌, Bool, true, false, cond, ◌||◌, Option, Some, None, slice_get, length, refl, sym, ap, subst, ◌∙◌, arith, true≢false, option_map}
 use Rattle.std.specs.Prelude.{nat_lt, ◌&&◌}
 use Rattle.std.proofs.lemmas.Bool.Decides.{nat_tests}
-use Rattle.herm_model.specs.Lists.{some_of, list_of}
+use Rattle.herm_model.specs.Lists.{any_pass, list_of}
 use Rattle.herm_model.specs.Values.{Cell, Name}
 use Rattle.herm_model.proofs.Options.{some-injective, none-not_some, chain-some, map-some}
 use Rattle.herm_journal.specs.Actions.{make_port, make_process, put, take, close, answer, hear}
 use Rattle.herm_journal.specs.Messages.{CellReply, CellAction}
 use Rattle.herm_journal.specs.Entries.{Text, Place, port, reply_cell, book, same_place}
 use Rattle.herm_system.specs.Machines.{Standing, is_local, is_acting, Machine, inport_of}
-use Rattle.herm_journal.specs.Places.{Book, Limits, Holding, a_port, replies, a_book, after}
-use Rattle.herm_system.specs.Systems.{System, Moved, Event, steps, acts, Run, run, run_on, step, start, can, done_at, holding_at, set_holding, set_process, with_made, with_entry, act_at, behind_action, number_of, numbered_from_one, stands, can_step, IsFinal, main_port, standing}
+use Rattle.herm_journal.specs.PlaceStates.{Book, Limits, PlaceState, a_port, replies, a_book, after}
+use Rattle.herm_system.specs.Systems.{System, Moved, Event, steps, acts, Run, run, run_on, step, start, can, holding_at, set_holding, set_process, with_made, with_entry, numbered_from_one, stands, can_step, IsFinal, main_port, standing}
 use Rattle.herm_system.specs.Rounds.{Round, rounds, one_round, turns, turn, after_turn, first_place, place_or_book}
 use Rattle.herm_system.specs.Sound.{IsNumbered}
 use Rattle.herm_runs.proofs.Events.{rounds-run}
-use Rattle.herm_runs.proofs.SystemLedger.{cond-some, process-some}
 use Rattle.herm_runs.proofs.Numbered.{runs-numbered}
-use Rattle.herm_runs.specs.OneProcess.{KeepsNumbers}
+use Rattle.herm_runs.specs.laws.ProcessLaws.{KeepsNumbers}
+use Rattle.herm_runs.proofs.ActionParts.{action-parts, step-parts}
 
 -- a process without a turn cannot step
 no-turn : {P : Type 0} (machine : Machine Name P) (s : System P) (p : ℕ) → turn machine s p ≡ None → can_step machine s p ≡ false
@@ -116,13 +116,13 @@ book-within (close count left) b s is k = k
 book-within (answer call r) b s is k = k
 book-within (hear call r) b s is k = k
 
-pub other-within : {P : Type 0} → (place : Place) (h : Holding (Cell Name) (CellReply Name)) (s : System P) → same_place place book ≡ false → (set_holding place h s).book ≡ s.book
+pub other-within : {P : Type 0} → (place : Place) (h : PlaceState (Cell Name) (CellReply Name)) (s : System P) → same_place place book ≡ false → (set_holding place h s).book ≡ s.book
 other-within (port n) (a_port p) s e = refl
 other-within (reply_cell p) (replies rs) s e = refl
 other-within book (a_book b) s e = absurd (true≢false e)
 other-within place h s e = refl
 
-place-within : {P : Type 0} → (place : Place) (h : Holding (Cell Name) (CellReply Name)) (a : CellAction Name) (s : System P) → holding_at place s ≡ Some h → IsWithin s.book → IsWithin (set_holding place (after a h) s).book
+place-within : {P : Type 0} → (place : Place) (h : PlaceState (Cell Name) (CellReply Name)) (a : CellAction Name) (s : System P) → holding_at place s ≡ Some h → IsWithin s.book → IsWithin (set_holding place (after a h) s).book
 place-within (port n) h a s at k = subst IsWithin (sym (other-within (port n) (after a h) s refl)) k
 place-within (reply_cell p) h a s at k = subst IsWithin (sym (other-within (reply_cell p) (after a h) s refl)) k
 place-within book h a s at k = subst (λ x. IsWithin (set_holding book (after a x) s).book) (some-injective at) (book-within a s.book s refl k)
@@ -134,18 +134,12 @@ made-book machine maker a s t e = sym (ap (λ (x : System _). x.book) (some-inje
 
 step-within : {P : Type 0} (machine : Machine Name P) (e : Event) (s : System P) (m : Moved P) → step machine e s ≡ Some m → IsWithin s.book → IsWithin m.system.book
 step-within machine (steps p) s m e k =
-    let x = process-some s p _ m (cond-some _ _ m e) in
-    let n = map-some _ (machine.local_step x.state) m x.does in
-    subst (λ (m : Moved _). IsWithin m.system.book) n.2 k
+    let parts = step-parts machine p s m e in
+    subst (λ (m : Moved _). IsWithin m.system.book) parts.moved k
 step-within machine (acts p place) s m e k =
-    let x = process-some s p _ m (cond-some _ _ m e) in
-    let want = chain-some (act_at machine p place s x.state) (machine.wanted x.state) m x.does in
-    let at = chain-some _ (holding_at place s) m (cond-some _ _ m want.2) in
-    let did = chain-some (behind_action machine p place s x.state at.0) (done_at want.0 at.0) m at.2 in
-    let left = chain-some _ (machine.answered x.state (number_of place) did.0) m did.2 in
-    let u = set_process p left.0 (set_holding place (after did.0 at.0) s) in
-    let makes = map-some _ (with_made machine x.state did.0 u) m left.2 in
-    subst (λ (m : Moved _). IsWithin m.system.book) makes.2 (subst IsWithin (sym (made-book machine x.state did.0 u makes.0 makes.1)) (place-within place at.0 did.0 s at.1 k))
+    let parts = action-parts machine p place s m e in
+    let u = set_process p parts.left.0 (set_holding place (after parts.did.0 parts.at.0) s) in
+    subst (λ (m : Moved _). IsWithin m.system.book) parts.moved (subst IsWithin (sym (made-book machine parts.state parts.did.0 u parts.makes.0 parts.makes.1)) (place-within place parts.at.0 parts.did.0 s parts.at.1 k))
 
 run-within : {P : Type 0} (machine : Machine Name P) (events : List Event) (r t : Run P) → run machine events r ≡ Some t → IsWithin r.system.book → IsWithin t.system.book
 run-within machine [] r t e k = subst (λ (x : Run _). IsWithin x.system.book) (some-injective e) k
@@ -162,7 +156,7 @@ get-past (x ∷ xs) (suc i) le = get-past xs i (omega (arith, le))
 
 not-there : {P : Type 0} (machine : Machine Name P) (s : System P) (p : ℕ) → numbered_from_one p s.processes ≡ None → can_step machine s p ≡ false
 not-there {P} machine s p e =
-    ap (λ o. some_of is_local (list_of (λ x. x ∷ []) (found o)) || some_of is_acting (list_of (λ x. x ∷ []) (found o))) e
+    ap (λ o. any_pass is_local (list_of (λ x. x ∷ []) (found o)) || any_pass is_acting (list_of (λ x. x ∷ []) (found o))) e
   where
     found : Option P → Option Standing
     found o = option_map (standing machine s.book.limits.steps (can s p)) o

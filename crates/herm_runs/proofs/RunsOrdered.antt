@@ -5,13 +5,13 @@ use Rattle.std.specs.Prelude.{nat_eq, nat_lt}
 use Rattle.herm_model.specs.Lists.{IsIn}
 use Rattle.herm_model.proofs.Options.{some-injective, none-not_some, chain-some, map-some}
 use Rattle.herm_journal.specs.Actions.{make_port, make_process, put, take, close, answer, hear}
-use Rattle.herm_journal.specs.Places.{Book, Limits, after}
+use Rattle.herm_journal.specs.PlaceStates.{Book, Limits, after}
 use Rattle.herm_journal.specs.Entries.{Text, Place, same_place, Entry, recorded}
-use Rattle.herm_journal.specs.Journals.{IsJournalOf, part_of_process, part_of_place, clock_of_process, clock_of_place, is_maker_of, next_stamp, entry_behind, ordered}
+use Rattle.herm_journal.specs.Journals.{IsJournalOf, part_of_process, part_of_place, ordered}
+use Rattle.herm_journal.specs.Stamps.{clock_of_process, clock_of_place, is_maker_of, next_stamp, entry_behind}
 use Rattle.herm_journal.specs.Messages.{CellAction}
-use Rattle.herm_system.specs.Systems.{System, Moved, Event, steps, acts, Run, run, run_on, step, start, with_entry, with_made, set_process, set_holding, holding_at, act_at, behind_action, numbered_from_one, done_at, number_of, main_port}
+use Rattle.herm_system.specs.Systems.{System, Moved, Event, steps, acts, Run, run, run_on, step, start, with_entry, set_process, set_holding, numbered_from_one, main_port}
 use Rattle.herm_system.specs.Sound.{IsNumbered}
-use Rattle.herm_runs.proofs.SystemLedger.{cond-some, process-some}
 use Rattle.herm_journal.proofs.Rising.{same-true}
 use Rattle.herm_runs.proofs.Numbered.{BookMoves, book-moves, process-counts, step-numbered, opening-numbered}
 use Rattle.herm_runs.proofs.RoundsEnd.{get-past}
@@ -20,7 +20,8 @@ use Rattle.herm_runs.proofs.Stands.{set-absent_from_one, made-absent, unmoved-ab
 use Rattle.herm_runs.proofs.Ordered.{Ascends, ascends-more, all-differ, last-more, in-more, kept-ordered, rising-ordered}
 use Rattle.herm_system.specs.Machines.{Machine}
 use Rattle.herm_model.specs.Values.{Name}
-use Rattle.herm_runs.specs.OneProcess.{KeepsNumbers}
+use Rattle.herm_runs.specs.laws.ProcessLaws.{KeepsNumbers}
+use Rattle.herm_runs.proofs.ActionParts.{action-parts, step-parts}
 
 -- along a run no entry is later than its clocks, and stamps rise by process and by place
 record IsClocked {P : Type 0} (machine : Machine Name P) (s : System P) (journal : List Entry) : Type 0 where
@@ -102,33 +103,27 @@ maker-absent machine s (hear call r) c q k moves is = absurd (true≢false (sym 
 
 step-clocked : {P : Type 0} (machine : Machine Name P) (keeps : KeepsNumbers machine) (e : Event) (s : System P) (m : Moved P) (journal : List Entry) → step machine e s ≡ Some m → IsClocked machine s journal → IsClocked machine m.system (with_entry journal e m.done)
 step-clocked machine keeps (steps p) s m journal is k =
-    let x = process-some s p _ m (cond-some _ _ m is) in
-    let n = map-some _ (machine.local_step x.state) m x.does in
-    let now : IsNumbered machine (set_process p n.0 s) = subst (λ (m : Moved _). IsNumbered machine m.system) (sym n.2) (step-numbered machine keeps (steps p) s m is k.numbered) in
-    subst (λ (m : Moved _). IsClocked machine m.system (with_entry journal (steps p) m.done)) n.2 (record {
+    let parts = step-parts machine p s m is in
+    let now : IsNumbered machine (set_process p parts.left.0 s) = subst (λ (m : Moved _). IsNumbered machine m.system) (sym parts.moved) (step-numbered machine keeps (steps p) s m is k.numbered) in
+    subst (λ (m : Moved _). IsClocked machine m.system (with_entry journal (steps p) m.done)) parts.moved (record {
       by_process = k.by_process;
       by_place = k.by_place;
       process_rises = k.process_rises;
       place_rises = k.place_rises;
-      there = λ f i none. k.there f i (set-absent_from_one s.processes p f.process n.0 none);
+      there = λ f i none. k.there f i (set-absent_from_one s.processes p f.process parts.left.0 none);
       numbered = now;
     })
 step-clocked machine keeps (acts p place) s m journal is k =
-    let x = process-some s p _ m (cond-some _ _ m is) in
-    let want = chain-some (act_at machine p place s x.state) (machine.wanted x.state) m x.does in
-    let at = chain-some _ (holding_at place s) m (cond-some _ _ m want.2) in
-    let did = chain-some (behind_action machine p place s x.state at.0) (done_at want.0 at.0) m at.2 in
-    let left = chain-some _ (machine.answered x.state (number_of place) did.0) m did.2 in
-    let u = set_process p left.0 (set_holding place (after did.0 at.0) s) in
-    let makes = map-some _ (with_made machine x.state did.0 u) m left.2 in
-    let now : IsNumbered machine makes.0 = subst (λ (m : Moved _). IsNumbered machine m.system) (sym makes.2) (step-numbered machine keeps (acts p place) s m is k.numbered) in
-    let moves = book-moves want.0 place s at.0 did.0 at.1 did.1 in
-    let before : (q : ℕ) → numbered_from_one q makes.0.processes ≡ None → numbered_from_one q s.processes ≡ None =
-    λ q none. unmoved-absent s place (after did.0 at.0) p q left.0 (made-absent machine x.state did.0 u makes.0 q makes.1 none) in
-    subst (λ (m : Moved _). IsClocked machine m.system (with_entry journal (acts p place) m.done)) makes.2
-    (clocked-more machine s makes.0 journal (entry_behind journal p place (recorded did.0)) k refl
-    (λ q made. maker-absent machine s did.0 (set_holding place (after did.0 at.0) s).book q k.numbered moves made)
-    (λ none. none-not_some (sym (before p none) ∙ x.is)) before now)
+    let parts = action-parts machine p place s m is in
+    let u = set_process p parts.left.0 (set_holding place (after parts.did.0 parts.at.0) s) in
+    let now : IsNumbered machine parts.makes.0 = subst (λ (m : Moved _). IsNumbered machine m.system) (sym parts.moved) (step-numbered machine keeps (acts p place) s m is k.numbered) in
+    let moves = book-moves parts.want.0 place s parts.at.0 parts.did.0 parts.at.1 parts.did.1 in
+    let before : (q : ℕ) → numbered_from_one q parts.makes.0.processes ≡ None → numbered_from_one q s.processes ≡ None =
+    λ q none. unmoved-absent s place (after parts.did.0 parts.at.0) p q parts.left.0 (made-absent machine parts.state parts.did.0 u parts.makes.0 q parts.makes.1 none) in
+    subst (λ (m : Moved _). IsClocked machine m.system (with_entry journal (acts p place) m.done)) parts.moved
+    (clocked-more machine s parts.makes.0 journal (entry_behind journal p place (recorded parts.did.0)) k refl
+    (λ q made. maker-absent machine s parts.did.0 (set_holding place (after parts.did.0 parts.at.0) s).book q k.numbered moves made)
+    (λ none. none-not_some (sym (before p none) ∙ parts.is)) before now)
 
 run-clocked : {P : Type 0} (machine : Machine Name P) (keeps : KeepsNumbers machine) (events : List Event) (r t : Run P) → run machine events r ≡ Some t → IsClocked machine r.system r.journal → IsClocked machine t.system t.journal
 run-clocked machine keeps [] r t is k = subst (λ (x : Run _). IsClocked machine x.system x.journal) (some-injective is) k

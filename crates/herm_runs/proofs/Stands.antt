@@ -1,12 +1,12 @@
 -- How a process stands, what a changed system has of its processes, and what stays of the book.
-use Rattle.std.proofs.Common.{◌≡◌, ℕ, zero, suc, List, [], ◌∷◌, ◌++◌, Bool, true, false, cond, ◌⊎◌, inl, inr, Option, Some, None, option_map, slice_get, slice_set, length, refl, sym, ap, subst, ◌∙◌, arith, true≢false}
+use Rattle.std.proofs.Common.{◌≡◌, ℕ, zero, suc, List, [], ◌∷◌, ◌++◌, Bool, true, false, cond, ◌⊎◌, inl, inr, Some, None, option_map, slice_get, slice_set, length, refl, sym, ap, subst, ◌∙◌, arith, true≢false}
 use Rattle.std.proofs.Math.Bool.{or-false}
 use Rattle.std.specs.Prelude.{nat_lt, ◌&&◌}
-use Rattle.herm_model.specs.Lists.{some_of, list_of}
+use Rattle.herm_model.specs.Lists.{any_pass, list_of}
 use Rattle.herm_model.specs.Values.{Name, Cell}
 use Rattle.herm_model.proofs.Options.{some-injective, none-not_some, map-some}
 use Rattle.herm_journal.specs.Actions.{make_port, make_process, put, take, close, answer, hear}
-use Rattle.herm_journal.specs.Places.{Book, Holding, a_book, after}
+use Rattle.herm_journal.specs.PlaceStates.{Book, PlaceState, a_book, after}
 use Rattle.herm_journal.specs.Entries.{Place, port, reply_cell, book}
 use Rattle.herm_journal.specs.Messages.{CellReply, CellAction}
 use Rattle.herm_system.specs.Machines.{Machine, Standing, ended, out_of_steps, out_of_actions, waiting, local, acting, is_local, is_acting, inport_of}
@@ -14,10 +14,6 @@ use Rattle.herm_system.specs.Systems.{System, can, seen_as, standing, stands, se
 use Rattle.herm_runs.proofs.SystemLedger.{processes-stay}
 use Rattle.herm_runs.proofs.RoundsEnd.{get-past, other-within}
 use Rattle.herm_runs.proofs.Numbered.{more-found_from_one}
-
-pub cond-both : {X : Type 0} (b : Bool) (o : Option X) (y : X) → cond b o None ≡ Some y → (b ≡ true) × (o ≡ Some y)
-cond-both true o y e = (refl, e)
-cond-both false o y e = none-not_some e
 
 -- a local step is next whatever can be done; and an action is done only where it is next and can be done
 pub seen-local : (r : Standing) (b : Bool) → is_local (seen_as r b) ≡ is_local r
@@ -42,7 +38,7 @@ seen-acting acting false e = absurd (true≢false (sym e))
 pub stands-as : {P : Type 0} (test : Standing → Bool) (machine : Machine Name P) (s : System P) (p : ℕ) (x : P) → numbered_from_one p s.processes ≡ Some x →
     stands test machine s p ≡ test (standing machine s.book.limits.steps (can s p) x)
 stands-as test machine s p x is =
-    ap (λ o. some_of test (list_of (λ y. y ∷ []) (option_map (standing machine s.book.limits.steps (can s p)) o))) is
+    ap (λ o. any_pass test (list_of (λ y. y ∷ []) (option_map (standing machine s.book.limits.steps (can s p)) o))) is
     ∙ or-false (test (standing machine s.book.limits.steps (can s p) x))
 
 -- what is not found in a changed list was not there before
@@ -69,16 +65,16 @@ more-absent_from_one xs (suc q) y e = more-absent xs q y e
 
 -- a process that an action has made
 pub record IsNew {P : Type 0} (machine : Machine Name P) (maker : P) (a : CellAction Name) (u : System P) (q : ℕ) (z : P) : Type 0 where
-  pub code : ℕ
+  pub module_number : ℕ
   pub made : ℕ × ℕ
-  pub does : a ≡ make_process code (Some made)
+  pub does : a ≡ make_process module_number (Some made)
   pub at : numbered_from_one q u.processes ≡ None
-  pub is : machine.begin code made.0 (inport_of machine made.1 maker) ≡ Some z
+  pub is : machine.begin module_number made.0 (inport_of machine made.1 maker) ≡ Some z
 
 new-or-before : {P : Type 0} (machine : Machine Name P) (maker : P) (code : ℕ) (made : ℕ × ℕ) (y : P) (u : System P) (q : ℕ) (z : P) → machine.begin code made.0 (inport_of machine made.1 maker) ≡ Some y →
     ((q ≡ suc (length u.processes)) × (y ≡ z)) ⊎ (numbered_from_one q u.processes ≡ Some z) → (numbered_from_one q u.processes ≡ Some z) ⊎ IsNew machine maker (make_process code (Some made)) u q z
 new-or-before machine maker code made y u q z is (inl e) =
-    inr (record { code = code; made = made; does = refl; at = ap (λ i. numbered_from_one i u.processes) e.0 ∙ get-past u.processes (length u.processes) (omega arith); is = is ∙ ap (λ v. Some v) e.1 })
+    inr (record { module_number = code; made = made; does = refl; at = ap (λ i. numbered_from_one i u.processes) e.0 ∙ get-past u.processes (length u.processes) (omega arith); is = is ∙ ap (λ v. Some v) e.1 })
 new-or-before machine maker code made y u q z is (inr e) = inl e
 
 pub made-found : {P : Type 0} (machine : Machine Name P) (maker : P) (a : CellAction Name) (u t : System P) (q : ℕ) (z : P) → with_made machine maker a u ≡ Some t → numbered_from_one q t.processes ≡ Some z →
@@ -113,10 +109,10 @@ book-limits (close count left) s = refl
 book-limits (answer call r) s = refl
 book-limits (hear call r) s = refl
 
-pub place-limits : {P : Type 0} (place : Place) (h : Holding (Cell Name) (CellReply Name)) (a : CellAction Name) (s : System P) → holding_at place s ≡ Some h → (set_holding place (after a h) s).book.limits ≡ s.book.limits
+pub place-limits : {P : Type 0} (place : Place) (h : PlaceState (Cell Name) (CellReply Name)) (a : CellAction Name) (s : System P) → holding_at place s ≡ Some h → (set_holding place (after a h) s).book.limits ≡ s.book.limits
 place-limits (port n) h a s at = ap (λ (b : Book). b.limits) (other-within (port n) (after a h) s refl)
 place-limits (reply_cell p) h a s at = ap (λ (b : Book). b.limits) (other-within (reply_cell p) (after a h) s refl)
 place-limits book h a s at = subst (λ x. (set_holding book (after a x) s).book.limits ≡ s.book.limits) (some-injective at) (book-limits a s)
 
-pub unmoved-absent : {P : Type 0} (s : System P) (place : Place) (h : Holding (Cell Name) (CellReply Name)) (p q : ℕ) (y : P) → numbered_from_one q (set_process p y (set_holding place h s)).processes ≡ None → numbered_from_one q s.processes ≡ None
+pub unmoved-absent : {P : Type 0} (s : System P) (place : Place) (h : PlaceState (Cell Name) (CellReply Name)) (p q : ℕ) (y : P) → numbered_from_one q (set_process p y (set_holding place h s)).processes ≡ None → numbered_from_one q s.processes ≡ None
 unmoved-absent s place h p q y none = sym (ap (numbered_from_one q) (processes-stay place h s)) ∙ set-absent_from_one (set_holding place h s).processes p q y none

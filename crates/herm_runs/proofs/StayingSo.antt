@@ -4,15 +4,16 @@ use Rattle.herm_model.specs.Lists.{list_of}
 use Rattle.herm_model.specs.Values.{Name}
 use Rattle.herm_model.proofs.Options.{some-injective, none-not_some, chain-some, map-some}
 use Rattle.herm_journal.specs.Actions.{make_port, make_process}
-use Rattle.herm_journal.specs.Places.{Limits, after}
+use Rattle.herm_journal.specs.PlaceStates.{Limits, after}
 use Rattle.herm_journal.specs.Entries.{Text}
 use Rattle.herm_journal.specs.Messages.{CellAction}
 use Rattle.herm_system.specs.Machines.{Machine, inport_of}
-use Rattle.herm_system.specs.Systems.{System, Moved, Event, steps, acts, Run, run, run_on, step, start, opening, main_port, done_at, holding_at, set_holding, numbered_from_one, set_from_one, with_made, set_process, act_at, behind_action, number_of}
+use Rattle.herm_system.specs.Systems.{System, Moved, Event, steps, acts, Run, run, run_on, step, start, opening, main_port, set_holding, numbered_from_one, set_from_one, with_made, set_process, number_of}
 use Rattle.herm_system.specs.Reports.{IsSoOfAll}
 use Rattle.herm_runs.specs.Throughout.{StaysSo}
-use Rattle.herm_runs.proofs.SystemLedger.{cond-some, process-some, processes-stay}
+use Rattle.herm_runs.proofs.SystemLedger.{processes-stay}
 use Rattle.herm_runs.proofs.Numbered.{set-found_from_one, more-found_from_one}
+use Rattle.herm_runs.proofs.ActionParts.{action-parts, step-parts}
 
 module _ {P : Type 0} (machine : Machine Name P) (Is : P → Type 0) (stays : StaysSo machine Is) where
   abbrev AreSo : List P → Type 0
@@ -41,20 +42,14 @@ module _ {P : Type 0} (machine : Machine Name P) (Is : P → Type 0) (stays : St
 
   step-so : (e : Event) (s : System P) (m : Moved P) → step machine e s ≡ Some m → AreSo s.processes → AreSo m.system.processes
   step-so (steps p) s m e all =
-      let k = process-some s p _ m (cond-some _ _ m e) in
-      let n = map-some _ (machine.local_step k.state) m k.does in
-      subst (λ (x : Moved P). AreSo x.system.processes) n.2 (set-so s.processes p n.0 (stays.local_steps k.state n.0 n.1 (all p k.state k.is)) all)
+      let parts = step-parts machine p s m e in
+      subst (λ (x : Moved P). AreSo x.system.processes) parts.moved (set-so s.processes p parts.left.0 (stays.local_steps parts.state parts.left.0 parts.left.1 (all p parts.state parts.is)) all)
   step-so (acts p place) s m e all =
-      let k = process-some s p _ m (cond-some _ _ m e) in
-      let want = chain-some (act_at machine p place s k.state) (machine.wanted k.state) m k.does in
-      let at = chain-some _ (holding_at place s) m (cond-some _ _ m want.2) in
-      let did = chain-some (behind_action machine p place s k.state at.0) (done_at want.0 at.0) m at.2 in
-      let left = chain-some _ (machine.answered k.state (number_of place) did.0) m did.2 in
-      let makes = map-some _ (with_made machine k.state did.0 (set_process p left.0 (set_holding place (after did.0 at.0) s))) m left.2 in
-      let set : AreSo (set_from_one p left.0 (set_holding place (after did.0 at.0) s).processes) =
-      set-so (set_holding place (after did.0 at.0) s).processes p left.0 (stays.answers k.state left.0 (number_of place) did.0 left.1 (all p k.state k.is)) (subst AreSo (sym (processes-stay place (after did.0 at.0) s)) all) in
-      subst (λ (x : Moved P). AreSo x.system.processes) makes.2
-      (made-so k.state did.0 (set_process p left.0 (set_holding place (after did.0 at.0) s)) makes.0 makes.1 set)
+      let parts = action-parts machine p place s m e in
+      let set : AreSo (set_from_one p parts.left.0 (set_holding place (after parts.did.0 parts.at.0) s).processes) =
+      set-so (set_holding place (after parts.did.0 parts.at.0) s).processes p parts.left.0 (stays.answers parts.state parts.left.0 (number_of place) parts.did.0 parts.left.1 (all p parts.state parts.is)) (subst AreSo (sym (processes-stay place (after parts.did.0 parts.at.0) s)) all) in
+      subst (λ (x : Moved P). AreSo x.system.processes) parts.moved
+      (made-so parts.state parts.did.0 (set_process p parts.left.0 (set_holding place (after parts.did.0 parts.at.0) s)) parts.makes.0 parts.makes.1 set)
 
   run-so : (events : List Event) (r t : Run P) → run machine events r ≡ Some t → AreSo r.system.processes → AreSo t.system.processes
   run-so [] r t e all = subst (λ (x : Run P). AreSo x.system.processes) (some-injective e) all

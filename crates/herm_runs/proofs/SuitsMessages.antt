@@ -1,11 +1,13 @@
 -- Which messages a port takes and which replies a call does not depend on the names of cells.
 use Rattle.std.proofs.Common.{◌≡◌, inl, inr, ℕ, List, [], ◌∷◌, map, ◌&&◌, Option, Some, None, refl, sym, ap₂, subst}
 use Rattle.std.specs.Prelude.{IsTrue, ◌↔◌}
-use Rattle.herm_model.specs.Lists.{IsIn, every}
+use Rattle.herm_model.specs.Lists.{IsIn, all_pass}
 use Rattle.herm_model.specs.Paths.{Fact, init, case}
 use Rattle.herm_model.specs.Types.{TypeTable}
 use Rattle.herm_model.specs.Facts.{declared_facts}
-use Rattle.herm_model.specs.Values.{Cell, Parts, no_parts, part, HasExactly, rename, rename_in}
+use Rattle.herm_model.specs.Values.{Cell, Parts, no_parts, part}
+use Rattle.herm_model.specs.CellNames.{rename, rename_in}
+use Rattle.herm_model.specs.FactsOfValues.{HasExactly}
 use Rattle.herm_model.specs.Typed.{whole, partly}
 use Rattle.herm_model.specs.WellMade.{is_well_made}
 use Rattle.herm_model.proofs.Lists.{both-and}
@@ -68,7 +70,7 @@ module _ {N M : Type 0} (f : N → M) where
   renamed-reply types call gone h = h
 
   -- and which values are well made
-  pub well_made-forgotten : (cs : List (Cell N)) → every is_well_made (map (rename f) cs) ≡ every is_well_made cs
+  pub well_made-forgotten : (cs : List (Cell N)) → all_pass is_well_made (map (rename f) cs) ≡ all_pass is_well_made cs
   well_made-forgotten [] = refl
   well_made-forgotten (c ∷ cs) = ap₂ ◌&&◌ (well_made-rename f c) (well_made-forgotten cs)
 
@@ -78,7 +80,7 @@ module _ {N : Type 0} (types : TypeTable) where
   of_type-well_made None m h = absurd h
   of_type-well_made (Some t) m h = typed-well_made types partly t m h
 
-  pub messages-well_made : (t : ℕ) (ms : List (Cell N)) → ((m : Cell N) → IsIn m ms → IsMessage types t m) → IsTrue (every is_well_made ms)
+  pub messages-well_made : (t : ℕ) (ms : List (Cell N)) → ((m : Cell N) → IsIn m ms → IsMessage types t m) → IsTrue (all_pass is_well_made ms)
   messages-well_made t [] h = refl
   messages-well_made t (m ∷ ms) h =
       both-and (is_well_made m) _ (of_type-well_made (message_of_port types t) m (h m (inl refl)).0) (messages-well_made t ms (λ n member. h n (inr member)))

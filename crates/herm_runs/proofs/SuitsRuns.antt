@@ -1,22 +1,22 @@
 -- What comes in suits along runs of sound states, and so diaries tell.
 use Rattle.std.proofs.Common.{◌≡◌, List, [], ◌∷◌, ◌++◌, Option, Some, None, option_and_then, refl, sym, ap, ◌∙◌, append_assoc, append-nil}
 use Rattle.std.specs.Prelude.{⊤}
-use Rattle.herm_model.specs.Lists.{some_of}
+use Rattle.herm_model.specs.Lists.{any_pass}
 use Rattle.herm_model.specs.Values.{Name}
 use Rattle.herm_model.proofs.Options.{some-injective, chain-some, map-some}
-use Rattle.herm_journal.specs.Places.{after}
+use Rattle.herm_journal.specs.PlaceStates.{after}
 use Rattle.herm_journal.specs.Entries.{Place, same_place, Entry, recorded}
-use Rattle.herm_journal.specs.Journals.{entry_behind}
+use Rattle.herm_journal.specs.Stamps.{entry_behind}
 use Rattle.herm_journal.specs.Messages.{CellAction}
 use Rattle.herm_system.specs.Machines.{Machine, is_acting}
 use Rattle.herm_system.specs.Systems.{System, Moved, Event, steps, acts, Run, run, run_on, step, start, opening, with_entry, stands, with_made, set_process, set_holding, holding_at, places_for, done_at, number_of, act_at, behind_action}
 use Rattle.herm_system.specs.Reports.{IsAlong}
 use Rattle.herm_system.specs.Sound.{IsSoundFor}
-use Rattle.herm_runs.specs.OneProcess.{KeepsNumbers, ForgetsNames}
-use Rattle.herm_runs.specs.DiaryLaws.{EventSuits}
-use Rattle.herm_runs.specs.SuitsLaws.{LooksAtHeld, SoundStatesSuit, SoundStatesWouldSuit, AreSoundAlong, SoundRunsSuit, SoundDiariesTell, DescribedDiariesTell}
+use Rattle.herm_runs.specs.laws.ProcessLaws.{KeepsNumbers, ForgetsNames}
+use Rattle.herm_runs.specs.laws.DiaryLaws.{EventSuits}
+use Rattle.herm_runs.specs.laws.SuitsLaws.{LooksAtHeld, SoundStatesSuit, SoundStatesWouldSuit, AreSoundAlong, SoundRunsSuit, SoundDiariesTell, DescribedDiariesTell}
 use Rattle.herm_runs.proofs.Events.{run-joined}
-use Rattle.herm_runs.proofs.Stands.{cond-both}
+use Rattle.herm_runs.proofs.ActionParts.{cond-both}
 use Rattle.herm_runs.proofs.DiariesTold.{diaries-tell}
 use Rattle.herm_runs.proofs.SuitsStates.{done-suits}
 
@@ -27,7 +27,7 @@ module _ {P : Type 0} (machine : Machine Name P) (IsSoundWithin : P → Type 0) 
       let acting = cond-both (stands is_acting machine s p) _ m e in
       let here = sym (ap (option_and_then (λ x. option_and_then (act_at machine p place s x) (machine.wanted x))) is) ∙ acting.1 in
       let want = chain-some (act_at machine p place s x) (machine.wanted x) m here in
-      let there = cond-both (some_of (same_place place) (places_for p want.0)) _ m want.2 in
+      let there = cond-both (any_pass (same_place place) (places_for p want.0)) _ m want.2 in
       let at = chain-some _ (holding_at place s) m there.1 in
       let did = chain-some (behind_action machine p place s x at.0) (done_at want.0 at.0) m at.2 in
       let left = chain-some _ (machine.answered x (number_of place) did.0) m did.2 in

@@ -6,14 +6,15 @@ use Rattle.herm_model.proofs.Renaming.{map-append}
 use Rattle.herm_model.specs.Values.{Cell, Name}
 use Rattle.herm_model.proofs.Options.{some-injective, none-not_some, chain-some, map-some}
 use Rattle.herm_journal.specs.Actions.{new_port, new_process, to_put, to_take, to_close, to_answer, to_hear, make_port, make_process, put, take, close, answer, hear}
-use Rattle.herm_journal.specs.Places.{Book, Limits, Port, empty_port, first_of, Replies, Holding, a_port, replies, a_book, after, next_process}
+use Rattle.herm_journal.specs.PlaceStates.{Book, Limits, Port, empty_port, first_of, Replies, PlaceState, a_port, replies, a_book, after, next_process}
 use Rattle.herm_journal.specs.Entries.{Text, Place, port, reply_cell, book}
 use Rattle.herm_journal.specs.Messages.{CellReply, CellWant, CellAction}
-use Rattle.herm_journal.specs.Weights.{weigh, weigh_all, weigh_reply, come_in}
+use Rattle.herm_journal.specs.Weights.{weigh, weigh_all, weigh_reply, weight_received}
 use Rattle.herm_system.specs.Ledger.{made_in, held_in, queued_at, queued_for, queued_in, finalised_in, HasLedger, made_by, goes_out, held_by, finalised_by}
 use Rattle.herm_system.specs.Machines.{Machine, inport_of}
-use Rattle.herm_system.specs.Systems.{System, Moved, Event, steps, acts, Run, run, run_on, step, start, opening, main_port, done_at, holding_at, set_holding, numbered_from_one, set_from_one, with_made, set_process, local_event, act_at, action_event, behind_action, number_of}
-use Rattle.herm_runs.specs.OneProcess.{kept_by, KeepsLedger}
+use Rattle.herm_system.specs.Systems.{System, Moved, Event, steps, acts, Run, run, run_on, step, start, opening, main_port, done_at, holding_at, set_holding, numbered_from_one, set_from_one, with_made, set_process, local_event, action_event, number_of}
+use Rattle.herm_runs.specs.laws.ProcessLaws.{kept_by, KeepsLedger}
+use Rattle.herm_runs.proofs.ActionParts.{action-parts, step-parts}
 
 pub total-set : {X : Type 0} (f : X → ℕ) (xs : List X) (i : ℕ) (x y : X) → slice_get xs i ≡ Some x → total f (slice_set xs i y) + f x ≡ total f xs + f y
 total-set f [] i x y e = none-not_some e
@@ -25,7 +26,7 @@ total-from_one f xs zero x y e = none-not_some e
 total-from_one f xs (suc i) x y e = total-set f xs i x y e
 
 -- what is queued at a place
-abbrev weight_of : (Name → ℕ) → Holding (Cell Name) (CellReply Name) → ℕ
+abbrev weight_of : (Name → ℕ) → PlaceState (Cell Name) (CellReply Name) → ℕ
 weight_of w (a_port p) = queued_at w p
 weight_of w (replies rs) = queued_for w rs
 weight_of w (a_book b) = 0
@@ -37,8 +38,8 @@ given w (to_answer caller call r) = weigh_reply w r
 given w want = 0
 
 -- what is done at a place: what it has afterwards, with what comes in, is what it had, with what was given
-abbrev Moves : (Name → ℕ) → Holding (Cell Name) (CellReply Name) → CellWant Name → CellAction Name → Type 0
-Moves w h want a = weight_of w (after a h) + come_in w a ≡ weight_of w h + given w want
+abbrev Moves : (Name → ℕ) → PlaceState (Cell Name) (CellReply Name) → CellWant Name → CellAction Name → Type 0
+Moves w h want a = weight_of w (after a h) + weight_received w a ≡ weight_of w h + given w want
 
 put-moves : (w : Name → ℕ) (n : ℕ) (m : Cell Name) (b : Bool) (q : List (ℕ × Cell Name)) (k : ℕ) →
     Moves w (a_port (record { is_open = b; queue = q; placed = k })) (to_put n m) (put (cond b (Some k) None) m)
@@ -54,7 +55,7 @@ hear-moves : (w : Name → ℕ) (rs : List (ℕ × CellReply Name)) (a : CellAct
 hear-moves w [] a e = none-not_some e
 hear-moves w (x ∷ rs) a e = subst (Moves w (replies (x ∷ rs)) to_hear) (some-injective e) (omega arith)
 
-done-moves : (w : Name → ℕ) (want : CellWant Name) (h : Holding (Cell Name) (CellReply Name)) (a : CellAction Name) → done_at want h ≡ Some a → Moves w h want a
+done-moves : (w : Name → ℕ) (want : CellWant Name) (h : PlaceState (Cell Name) (CellReply Name)) (a : CellAction Name) → done_at want h ≡ Some a → Moves w h want a
 done-moves w new_port (a_book b) a e = subst (Moves w (a_book b) new_port) (some-injective e) (omega arith)
 done-moves w (new_process code) (a_book b) a e = subst (Moves w (a_book b) (new_process code)) (some-injective e) (omega arith)
 done-moves w (to_put n m) (a_port p) a e = subst (Moves w (a_port p) (to_put n m)) (some-injective e) (put-moves w n m p.is_open p.queue p.placed)
@@ -82,10 +83,10 @@ book-stays (make_process code made) b = (_, refl)
 book-stays a b = (b, refl)
 
 -- what is queued in the system, with another thing at a place
-abbrev PlaceChanges : {P : Type 0} → (Name → ℕ) → Place → System P → Holding (Cell Name) (CellReply Name) → Holding (Cell Name) (CellReply Name) → Type 0
+abbrev PlaceChanges : {P : Type 0} → (Name → ℕ) → Place → System P → PlaceState (Cell Name) (CellReply Name) → PlaceState (Cell Name) (CellReply Name) → Type 0
 PlaceChanges w place s h h' = queued_in w (set_holding place h' s) + weight_of w h ≡ queued_in w s + weight_of w h'
 
-place-changes : {P : Type 0} → (w : Name → ℕ) (place : Place) (s : System P) (h : Holding (Cell Name) (CellReply Name)) (a : CellAction Name) → holding_at place s ≡ Some h → PlaceChanges w place s h (after a h)
+place-changes : {P : Type 0} → (w : Name → ℕ) (place : Place) (s : System P) (h : PlaceState (Cell Name) (CellReply Name)) (a : CellAction Name) → holding_at place s ≡ Some h → PlaceChanges w place s h (after a h)
 place-changes w (port n) s h a e =
     let m = map-some a_port (slice_get s.ports n) h e in
     let k = port-stays a m.0
@@ -100,7 +101,7 @@ place-changes w book s h a e =
     let k = book-stays a s.book
     in subst (λ x. PlaceChanges w book s x (after a x)) (some-injective e) (subst (PlaceChanges w book s (a_book s.book)) (sym k.1) (omega arith))
 
-pub processes-stay : {P : Type 0} → (place : Place) (h : Holding (Cell Name) (CellReply Name)) (s : System P) → (set_holding place h s).processes ≡ s.processes
+pub processes-stay : {P : Type 0} → (place : Place) (h : PlaceState (Cell Name) (CellReply Name)) (s : System P) → (set_holding place h s).processes ≡ s.processes
 processes-stay (port n) (a_port p) s = refl
 processes-stay (reply_cell p) (replies rs) s = refl
 processes-stay book (a_book b) s = refl
@@ -127,7 +128,7 @@ module _ {P : Type 0} (w : Name → ℕ) (machine : Machine Name P) (x : P) wher
   hear-gone None a e = none-not_some e
   hear-gone (Some x) a e = subst (GoesOut to_hear) (some-injective e) (omega arith)
 
-  done-gone : (want : CellWant Name) (h : Holding (Cell Name) (CellReply Name)) (a : CellAction Name) → done_at want h ≡ Some a → GoesOut want a
+  done-gone : (want : CellWant Name) (h : PlaceState (Cell Name) (CellReply Name)) (a : CellAction Name) → done_at want h ≡ Some a → GoesOut want a
   done-gone new_port (a_book k) a e = subst (GoesOut new_port) (some-injective e) (omega arith)
   done-gone (new_process code) (a_book k) a e = subst (GoesOut (new_process code)) (some-injective e) (made-gone code (next_process k))
   done-gone (to_put n m) (a_port p) a e = subst (GoesOut (to_put n m)) (some-injective e) (omega arith)
@@ -186,7 +187,7 @@ module _ {P : Type 0} (machine : Machine Name P) (keeps : KeepsLedger machine) (
   made-with maker a s t e = subst (MadeWith machine w 0 s) (some-injective e) (omega arith, refl)
 
   -- what an action leaves
-  action-balance : (p : ℕ) (place : Place) (s t : System P) (x y : P) (want : CellWant Name) (h : Holding (Cell Name) (CellReply Name)) (a : CellAction Name) →
+  action-balance : (p : ℕ) (place : Place) (s t : System P) (x y : P) (want : CellWant Name) (h : PlaceState (Cell Name) (CellReply Name)) (a : CellAction Name) →
       numbered_from_one p s.processes ≡ Some x → holding_at place s ≡ Some h → machine.wanted x ≡ Some want → done_at want h ≡ Some a →
       machine.answered x (number_of place) a ≡ Some y → with_made machine x a (set_process p y (set_holding place (after a h) s)) ≡ Some t → Balance machine w s → Balance machine w t
   action-balance p place s t x y want h a is at wants does leaves makes balance =
@@ -208,20 +209,14 @@ module _ {P : Type 0} (machine : Machine Name P) (keeps : KeepsLedger machine) (
 
   local-event : (p : ℕ) (s : System P) (m : Moved P) → local_event machine p s ≡ Some m → Balance machine w s → Balance machine w m.system
   local-event p s m e balance =
-      let k = process-some s p _ m (cond-some _ _ m e) in
-      let n = map-some _ (machine.local_step k.state) m k.does in
-      subst (λ (x : Moved P). Balance machine w x.system) n.2 (step-balance machine w s p k.state n.0 k.is (keeps.local_steps w k.state n.0 n.1) balance)
+      let parts = step-parts machine p s m e in
+      subst (λ (x : Moved P). Balance machine w x.system) parts.moved (step-balance machine w s p parts.state parts.left.0 parts.is (keeps.local_steps w parts.state parts.left.0 parts.left.1) balance)
 
   action-event : (p : ℕ) (place : Place) (s : System P) (m : Moved P) → action_event machine p place s ≡ Some m → Balance machine w s → Balance machine w m.system
   action-event p place s m e balance =
-      let k = process-some s p _ m (cond-some _ _ m e) in
-      let want = chain-some (act_at machine p place s k.state) (machine.wanted k.state) m k.does in
-      let at = chain-some _ (holding_at place s) m (cond-some _ _ m want.2) in
-      let did = chain-some (behind_action machine p place s k.state at.0) (done_at want.0 at.0) m at.2 in
-      let left = chain-some _ (machine.answered k.state (number_of place) did.0) m did.2 in
-      let makes = map-some _ (with_made machine k.state did.0 (set_process p left.0 (set_holding place (after did.0 at.0) s))) m left.2 in
-      subst (λ (x : Moved P). Balance machine w x.system) makes.2
-      (action-balance p place s makes.0 k.state left.0 want.0 at.0 did.0 k.is at.1 want.1 did.1 left.1 makes.1 balance)
+      let parts = action-parts machine p place s m e in
+      subst (λ (x : Moved P). Balance machine w x.system) parts.moved
+      (action-balance p place s parts.makes.0 parts.state parts.left.0 parts.want.0 parts.at.0 parts.did.0 parts.is parts.at.1 parts.want.1 parts.did.1 parts.left.1 parts.makes.1 balance)
 
   event-balance : (e : Event) (s : System P) (m : Moved P) → step machine e s ≡ Some m → Balance machine w s → Balance machine w m.system
   event-balance (steps p) s m e balance = local-event p s m e balance

@@ -6,9 +6,9 @@ use Rattle.herm_model.specs.Finalising.{waits}
 use Rattle.herm_journal.specs.Actions.{new_process, to_put, to_close, to_answer, make_port, make_process, put, take, close, hear}
 use Rattle.herm_journal.specs.Messages.{CellWant, CellAction, cells_in}
 use Rattle.herm_system.specs.Machines.{OpenCall, Machine, inport_of}
-use Rattle.herm_system.specs.Statuses.{how_many}
+use Rattle.herm_system.specs.Summary.{how_many}
 use Rattle.herm_system.specs.Kinds.{kinds_of, kinds_by}
-use Rattle.herm_system.specs.Along.{Answers}
+use Rattle.herm_system.specs.Suiting.{Answers}
 
 -- The kinds of what comes in with an action: a message that comes back, one that was taken, those of a closed port, or a reply.
 abbrev pub kinds_coming : {N : Type 0} → CellAction N → List Kind

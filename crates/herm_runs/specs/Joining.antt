@@ -1,16 +1,20 @@
 -- Two machines that do the same, where their states correspond.
 use Rattle.std.specs.Prelude.{ℕ, List, [], ◌∷◌, true, Option, Some, None, ◌≡◌, ◌↔◌, ⊤}
 use Rattle.herm_model.specs.Values.{Name, cell, an_inport, no_parts}
-use Rattle.herm_journal.specs.Places.{Limits}
+use Rattle.herm_journal.specs.PlaceStates.{Limits}
 use Rattle.herm_journal.specs.Entries.{Text, Place, Entry}
 use Rattle.herm_journal.specs.Messages.{CellAction}
 use Rattle.herm_system.specs.Machines.{Machine, is_local}
 use Rattle.herm_system.specs.Systems.{System, Event, Run, run, start, main_port, number_of, IsFinal}
 use Rattle.herm_system.specs.Rounds.{rounds}
 use Rattle.herm_system.specs.Ledger.{held_by, finalised_by}
-use Rattle.herm_system.specs.Statuses.{fates, queues, counts, status_of, Asked, text_of_run}
-use Rattle.herm_system.specs.Along.{Fulfils, Suits, IsAfter}
-use Rattle.herm_runs.specs.DiaryLaws.{SuitsAlong, WouldSuit}
+use Rattle.herm_system.specs.Statuses.{status_of}
+use Rattle.herm_system.specs.RunTexts.{queues, Asked, text_of_run}
+use Rattle.herm_system.specs.Summary.{counts}
+use Rattle.herm_system.specs.ProcessFates.{fates}
+use Rattle.herm_system.specs.Suiting.{Fulfils, Suits}
+use Rattle.herm_system.specs.DiaryStates.{IsAfter}
+use Rattle.herm_runs.specs.laws.DiaryLaws.{SuitsAlong, WouldSuit}
 
 -- both are none, or both are there and correspond
 abbrev pub BothOrNone : {X Y : Type 0} → (X → Y → Type 0) → Option X → Option Y → Type 0
@@ -21,7 +25,7 @@ BothOrNone R (Some x) (Some y) = R x y
 
 -- Two states show the same: all that a system asks of them, and what they hold and have finalised by every weight of names.
 pub record ShowTheSame {N P Q : Type 0} (a : Machine N P) (b : Machine N Q) (x : P) (y : Q) : Type 0 where
-  pub code : a.code x ≡ b.code y
+  pub module_number : a.module_number x ≡ b.module_number y
   pub number : a.number x ≡ b.number y
   pub serial : a.serial x ≡ b.serial y
   pub steps : a.steps x ≡ b.steps y

@@ -1,10 +1,5 @@
-pub mod OneProcess
 pub mod Counting
-pub mod DiaryLaws
-pub mod OrderLaws
-pub mod SuitsLaws
-pub mod RunLaws
 pub mod Throughout
 pub mod Joining
-pub mod Countdowns
 pub mod examples
+pub mod laws

@@ -5,8 +5,8 @@ ghost use Rattle.herm_model.specs.Texts.{text_of};
 ghost use Rattle.herm_model.specs.Values.{a_scalar, a_text, an_inport, Name};
 ghost use Rattle.herm_system.specs.Machines.{Machine};
 ghost use Rattle.herm_runs.specs.examples.Closes.{alone, integer, IsPutAside, Tells, with_part};
-ghost use Rattle.herm_runs.specs.OneProcess.{ForgetsNames, KeepsNumbers};
-ghost use Rattle.herm_runs.specs.DiaryLaws.{DiariesLeadToOneState, DiariesTell, EntriesTellOneAction, SuitsWithoutNames};
+ghost use Rattle.herm_runs.specs.laws.ProcessLaws.{ForgetsNames, KeepsNumbers};
+ghost use Rattle.herm_runs.specs.laws.DiaryLaws.{DiariesLeadToOneState, DiariesTell, EntriesTellOneAction, SuitsWithoutNames};
 
 /// What comes in suits a process exactly where it suits the process without names.
 pub fn suiting_forgets_names<P, Q>()

@@ -3,10 +3,11 @@
 ghost use Rattle.std.specs.Prelude.{◌≡◌, List, [], ◌∷◌, ◌++◌, Some, codes, flat_map, ⊤};
 ghost use Rattle.herm_model.specs.Values.{Name};
 ghost use Rattle.herm_system.specs.Machines.{Machine};
-ghost use Rattle.herm_runs.specs.OneProcess.{KeepsNumbers};
+ghost use Rattle.herm_runs.specs.laws.ProcessLaws.{KeepsNumbers};
 ghost use Rattle.herm_journal.specs.Renaming.{forget_name};
-ghost use Rattle.herm_system.specs.Statuses.{line, with_summary, the_journal};
-ghost use Rattle.herm_runs.specs.Countdowns.{as_named, counting_down, counting_up, CountTheSame, written};
+ghost use Rattle.herm_system.specs.RunTexts.{with_summary, the_journal};
+ghost use Rattle.herm_system.specs.Lines.{line};
+ghost use Rattle.herm_runs.specs.examples.Countdowns.{as_named, counting_down, counting_up, CountTheSame, written};
 ghost use Rattle.herm_runs.specs.Joining.{AreJoined, ArePaired, DiariesTogether, RoundsFollow, RunsFollow, RunTogether, turned};
 
 /// Two machines are joined where each local step, answer and beginning of the one is exactly one of the other, between states

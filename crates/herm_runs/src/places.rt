@@ -1,6 +1,6 @@
 // Laws of places.
 
-ghost use Rattle.herm_runs.specs.RunLaws.{DoneFits, RecordsFit, RecordsLead};
+ghost use Rattle.herm_runs.specs.laws.RunLaws.{DoneFits, RecordsFit, RecordsLead};
 
 /// What is done of what a process wants fits what is at the place.
 pub fn done_fits()

@@ -2,9 +2,9 @@
 
 ghost use Rattle.herm_model.specs.Values.{Name};
 ghost use Rattle.herm_system.specs.Machines.{Machine};
-ghost use Rattle.herm_runs.specs.OneProcess.{KeepsLedger, KeepsNumbers, KnowsPlaces};
-ghost use Rattle.herm_runs.specs.OrderLaws.{OrderedJournalsAreRuns};
-ghost use Rattle.herm_runs.specs.RunLaws.{RoundsAreRuns, RoundsAreFinal, RunsAreStamped, RunsAreJournals, RunsKeepLedger, LedgerAlong, RunsAreNumbered, NamesAreMadeOnce, OnlyTakesAndHearsWait, HistoriesTell};
+ghost use Rattle.herm_runs.specs.laws.ProcessLaws.{KeepsLedger, KeepsNumbers, KnowsPlaces};
+ghost use Rattle.herm_runs.specs.laws.OrderLaws.{OrderedJournalsAreRuns};
+ghost use Rattle.herm_runs.specs.laws.RunLaws.{RoundsAreRuns, RoundsAreFinal, RunsAreStamped, RunsAreJournals, RunsKeepLedger, LedgerAlong, RunsAreNumbered, NamesAreMadeOnce, OnlyTakesAndHearsWait, HistoriesTell};
 
 /// The schedule of one worker is one of the schedules: what rounds lead to is led to by a list of events.
 pub fn rounds_are_runs<P>()

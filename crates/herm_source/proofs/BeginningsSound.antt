@@ -3,15 +3,17 @@ use Rattle.std.proofs.Common.{◌≡◌, ℕ, zero, suc, List, [], ◌∷◌, le
 use Rattle.std.specs.Prelude.{pred, slice_get, IsTrue, is_some}
 use mathlib.Core.Bool.{false≢true}
 use Rattle.herm_model.specs.Paths.{Path, Fact, init, same_path}
-use Rattle.herm_model.specs.Nodes.{Target, node, end, end_by, entry_of}
-use Rattle.herm_model.specs.Control.{flow_of, held_at_start, IsReached, Leads}
+use Rattle.herm_model.specs.Nodes.{entry_of}
+use Rattle.herm_model.specs.Targets.{Target, node, end, end_by}
+use Rattle.herm_model.specs.ControlPaths.{flow_of, held_at_start, IsReached, IsControlPath}
 use Rattle.herm_model.specs.Refusals.{label_at}
-use Rattle.herm_model.specs.Values.{Cell, cell, Parts, no_parts, gaps, part, inside, has_value, kind_of, opens, HasExactly}
+use Rattle.herm_model.specs.Values.{Cell, cell, Parts, no_parts, gaps, part, inside, has_value, kind_of, opens}
+use Rattle.herm_model.specs.FactsOfValues.{HasExactly}
 use Rattle.herm_model.specs.Typed.{HaveTypes}
 use Rattle.herm_model.proofs.NothingThere.{nothing-there, nothing-in_gaps}
 use Rattle.herm_model.proofs.Typing.{gaps-typed}
-use Rattle.herm_forms.specs.Bodies.{Name}
-use Rattle.herm_forms.specs.Edges.{code_of}
+use Rattle.herm_forms.specs.Frames.{Name}
+use Rattle.herm_forms.specs.Modules.{module_of}
 use Rattle.herm_source.specs.Arriving.{BeginningsAreSound}
 use Rattle.herm_forms.proofs.Arrived.{edges-exact}
 use Rattle.herm_forms.proofs.Arrivals.{closed-at}
@@ -43,7 +45,7 @@ module _ (port : Cell Name) (plain : opens (kind_of port) ≡ false) (n : ℕ) w
 
 pub beginnings-sound : BeginningsAreSound
 beginnings-sound types p labels exact deep t more are code number port typed plain =
-    let c = code_of types p labels in
+    let c = module_of types p labels in
     let variables = first port plain (pred (length p.variables)) in
     let one_less : pred (length p.variables) ≡ length more = ap (λ (ts : List ℕ). pred (length ts)) are in
     let fits : HaveTypes types p.variables variables =
@@ -56,6 +58,6 @@ beginnings-sound types p labels exact deep t more are code number port typed pla
     (closed-at types p labels exact (entry_of p) reached)
   where
     held-first : (e : Target) → IsReached (flow_of types p) e → e ≡ entry_of p → (f : Fact) → IsTrue (label_at labels e f) → IsTrue (held_at_start f)
-    held-first (node i) r is f label = (exact i f r).0 label [] (held_at_start f) (subst (λ t. Leads (flow_of types p) f [] t (held_at_start f)) (sym is) refl)
+    held-first (node i) r is f label = (exact i f r).0 label [] (held_at_start f) (subst (λ t. IsControlPath (flow_of types p) f [] t (held_at_start f)) (sym is) refl)
     held-first end r is f label = absurd (false≢true label)
     held-first (end_by e) r is f label = absurd (false≢true label)

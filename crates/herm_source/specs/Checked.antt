@@ -2,7 +2,7 @@
 use Rattle.std.specs.Prelude.{ℕ}
 use Rattle.herm_model.specs.TypedPrograms.{IsTypedProgram}
 use Rattle.herm_source.specs.Modules.{Program, Modules}
-use Rattle.herm_source.specs.Headline.{AreAccepted}
+use Rattle.herm_source.specs.AcceptedRuns.{AreAccepted}
 
 -- The program is typed, where there are so many exceptions, and the modules are its accepted processes, each with its exact
 -- labels. Language reference, "Refusals of typestate".

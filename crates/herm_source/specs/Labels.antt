@@ -1,12 +1,12 @@
 -- Labels: of each node's place the facts that are held on every control path to it.
 use Rattle.std.specs.Prelude.{ℕ, zero, suc, List, [], ◌∷◌, ◌++◌, map, filter, Bool, not, Option, Some, None}
-use Rattle.herm_model.specs.Lists.{some_of, list_of}
+use Rattle.herm_model.specs.Lists.{any_pass, list_of}
 use Rattle.herm_model.specs.Paths.{Fact, init, same_fact, path_of, is_at_or_below}
 use Rattle.herm_model.specs.Types.{TypeTable}
 use Rattle.herm_model.specs.Statements.{Process}
-use Rattle.herm_model.specs.Nodes.{Target, node, end, end_by}
-use Rattle.herm_model.specs.Control.{Edge, Point, Flow, flow_of}
-use Rattle.herm_forms.specs.Edges.{Code, code_of}
+use Rattle.herm_model.specs.Targets.{Target, node, end, end_by}
+use Rattle.herm_model.specs.ControlPaths.{Edge, Point, Flow, flow_of}
+use Rattle.herm_forms.specs.Modules.{Module, module_of}
 
 -- lists of facts by place; none where no path is known yet
 abbrev pub LabelLists : Type 0
@@ -14,12 +14,12 @@ LabelLists = List (Option (List Fact))
 
 -- the facts behind an edge
 abbrev pub facts_behind : Edge → List Fact → List Fact
-facts_behind e fs = e.makes ++ filter (λ f. not (some_of (λ p. is_at_or_below p (path_of f)) e.kills)) fs
+facts_behind e fs = e.makes ++ filter (λ f. not (any_pass (λ p. is_at_or_below p (path_of f)) e.kills)) fs
 
 -- what two paths have in common
 abbrev pub meet : Option (List Fact) → List Fact → Option (List Fact)
 meet None gs = Some gs
-meet (Some fs) gs = Some (filter (λ f. some_of (same_fact f) gs) fs)
+meet (Some fs) gs = Some (filter (λ f. any_pass (same_fact f) gs) fs)
 
 abbrev pub meet_at : ℕ → List Fact → LabelLists → LabelLists
 meet_at i gs [] = []
@@ -60,9 +60,9 @@ first_labels flow = meet_in flow.entry (init (0 ∷ []) ∷ []) (map (λ p. None
 
 -- the facts in a list of labels, as a test
 abbrev pub has_label : LabelLists → ℕ → Fact → Bool
-has_label ls i f = some_of (some_of (same_fact f)) (list_of (λ fs. fs ∷ []) (label_at ls i))
+has_label ls i f = any_pass (any_pass (same_fact f)) (list_of (λ fs. fs ∷ []) (label_at ls i))
 
 -- A process module made ready, with its labels after so many rounds. They are exact where one more round changes
 -- nothing. Language reference, "Held".
-abbrev pub ready : ℕ → TypeTable → Process → Code
-ready n types p = code_of types p (has_label (rounds n (flow_of types p).points (first_labels (flow_of types p))))
+abbrev pub ready : ℕ → TypeTable → Process → Module
+ready n types p = module_of types p (has_label (rounds n (flow_of types p).points (first_labels (flow_of types p))))

@@ -1,13 +1,15 @@
 -- The state of a process, its next thing, its local step, what it wants and what an answer leaves.
 use Rattle.std.specs.Prelude.{ℕ, pred, List, [], ◌∷◌, cond, nat_lt, Option, Some, None, option_map, option_and_then, slice_get, length}
-use Rattle.herm_model.specs.Nodes.{Target, node, end, end_by, Node}
+use Rattle.herm_model.specs.Nodes.{Node}
+use Rattle.herm_model.specs.Targets.{Target, node, end, end_by}
 use Rattle.herm_model.specs.Values.{Cell, gaps, part}
 use Rattle.herm_journal.specs.Actions.{to_hear}
-use Rattle.herm_forms.specs.Bodies.{Name, Body, Result, goes, stays, stuck, counted_step, counted_action}
+use Rattle.herm_forms.specs.Frames.{Name, Frame, Completion, goes, stays, stuck, counted_step, counted_action}
 use Rattle.herm_forms.specs.Exchanges
 use Rattle.herm_journal.specs.Messages.{CellWant, CellAction}
-use Rattle.herm_forms.specs.Exchanges.{Composed}
-use Rattle.herm_forms.specs.Edges.{Code, arrive}
+use Rattle.herm_forms.specs.Callmessages.{Composed}
+use Rattle.herm_forms.specs.EdgeFinalising.{arrive}
+use Rattle.herm_forms.specs.Modules.{Module}
 use Rattle.herm_system.specs.Machines.{Standing, ended, out_of_steps, local, to_act, greatest_actions}
 use Rattle.herm_forms.specs.Acts.{is_action, leads_to, settle_reply, act, settle, wants}
 
@@ -17,17 +19,17 @@ own_name n = n
 
 -- The state of a process: the number of its module, its point and its body. Language reference, "Processes".
 pub record State (N : Type 0) : Type 0 where
-  pub code : ℕ
+  pub module_number : ℕ
   pub point : Target
-  pub body : Body N
+  pub frame : Frame N
 
 -- A process begins with its port in variable 0 and nothing else, as behind an edge to where its body begins. So the
 -- port goes to the work list where it is not kept there. Language reference, "Processes".
-abbrev pub begin : {N : Type 0} → Code → (code number : ℕ) → Cell N → State N
+abbrev pub begin : {N : Type 0} → Module → (code number : ℕ) → Cell N → State N
 begin c code number port = record {
-  code = code;
+  module_number = code;
   point = c.entry;
-  body = arrive c c.entry (record {
+  frame = arrive c c.entry (record {
     number = number;
     variables = part port (gaps (pred (length c.variables)));
     loops = [];
@@ -49,7 +51,7 @@ pub data Next (N : Type 0) : Type 0 where
   a_statement : Node → Next N
   nothing : Next N
 
-abbrev pub node_at : Code → Target → Option Node
+abbrev pub node_at : Module → Target → Option Node
 node_at c (node i) = slice_get c.nodes i
 node_at c end = None
 node_at c (end_by e) = None
@@ -63,58 +65,58 @@ abbrev pub item_or : {N : Type 0} → List (Cell N) → Next N → Next N
 item_or [] next = next
 item_or (item ∷ work) next = an_item item work
 
-abbrev pub next_of : {N : Type 0} → Code → State N → Next N
-next_of c s = item_or s.body.work (call_or_statement s.body.call (node_at c s.point))
+abbrev pub next_of : {N : Type 0} → Module → State N → Next N
+next_of c s = item_or s.frame.work (call_or_statement s.frame.call (node_at c s.point))
 
 -- the state behind a result; none where it is stuck
-abbrev pub behind : {N : Type 0} → Code → State N → Option Node → Result N → Option (State N)
-behind c s n (goes o b) =
-    option_map (λ t. record { code = s.code; point = t; body = arrive c t b }) (option_and_then (λ n. leads_to c n o) n)
-behind c s n (stays b) = Some (record s { body = b })
-behind c s n stuck = None
+abbrev pub state_after : {N : Type 0} → Module → State N → Option Node → Completion N → Option (State N)
+state_after c s n (goes o b) =
+    option_map (λ t. record { module_number = s.module_number; point = t; frame = arrive c t b }) (option_and_then (λ n. leads_to c n o) n)
+state_after c s n (stays b) = Some (record s { frame = b })
+state_after c s n stuck = None
 
 -- What the next thing wants of a place; none where it is a local step or nothing. Language reference, "Actions".
-abbrev pub wanted_next : {N : Type 0} → (Name → N) → Code → Body N → Next N → Option (CellWant N)
+abbrev pub wanted_next : {N : Type 0} → (Name → N) → Module → Frame N → Next N → Option (CellWant N)
 wanted_next name c b (an_item item work) = Exchanges.work_wants item
 wanted_next name c b (a_reply call n) = Some to_hear
 wanted_next name c b (a_statement n) = cond (is_action c n.form) (wants name c n.form b) None
 wanted_next name c b nothing = None
 
-abbrev pub wanted : {N : Type 0} → (Name → N) → Code → State N → Option (CellWant N)
-wanted name c s = wanted_next name c s.body (next_of c s)
+abbrev pub wanted : {N : Type 0} → (Name → N) → Module → State N → Option (CellWant N)
+wanted name c s = wanted_next name c s.frame (next_of c s)
 
 -- A statement's count of steps rises first, and what it does applies to the body with the new count. None where the
 -- next thing is no local step, or where it is stuck. Language reference, "Processes".
-abbrev pub step_next : {N : Type 0} → (Name → N) → Code → State N → Next N → Option (State N)
+abbrev pub step_next : {N : Type 0} → (Name → N) → Module → State N → Next N → Option (State N)
 step_next name c s (a_statement n) =
-    cond (is_action c n.form) None (behind c s (Some n) (act name c n.number n.form (counted_step s.body)))
+    cond (is_action c n.form) None (state_after c s (Some n) (act name c n.number n.form (counted_step s.frame)))
 step_next name c s _ = None
 
-abbrev pub local_step : {N : Type 0} → (Name → N) → Code → State N → Option (State N)
+abbrev pub local_step : {N : Type 0} → (Name → N) → Module → State N → Option (State N)
 local_step name c s = step_next name c s (next_of c s)
 
 -- What the answer to the next thing leaves, which was done at the place of this number. An action counts; a
 -- statement's counts as a step too. Language reference, "Actions".
-abbrev pub settle_next : {N : Type 0} → (Name → N) → Code → State N → (at : ℕ) → CellAction N → Next N → Option (State N)
+abbrev pub settle_next : {N : Type 0} → (Name → N) → Module → State N → (at : ℕ) → CellAction N → Next N → Option (State N)
 settle_next name c s at action (an_item item work) =
-    behind c s None (Exchanges.work_done item action (counted_action (record (s.body) { work = work })))
+    state_after c s None (Exchanges.work_done item action (counted_action (record (s.frame) { work = work })))
 settle_next name c s at action (a_reply call n) =
-    behind c s (Some n) (settle_reply c n.form call action (counted_action s.body))
+    state_after c s (Some n) (settle_reply c n.form call action (counted_action s.frame))
 settle_next name c s at action (a_statement n) =
-    behind c s (Some n) (settle name c n.form at action (counted_action (counted_step s.body)))
+    state_after c s (Some n) (settle name c n.form at action (counted_action (counted_step s.frame)))
 settle_next name c s at action nothing = None
 
-abbrev pub answered : {N : Type 0} → (Name → N) → Code → State N → (at : ℕ) → CellAction N → Option (State N)
+abbrev pub answered : {N : Type 0} → (Name → N) → Module → State N → (at : ℕ) → CellAction N → Option (State N)
 answered name c s at action = settle_next name c s at action (next_of c s)
 
 -- How a process stands under a limit of steps, without a look at the places. Of a next thing that is a step and an action
 -- the limit of steps is looked at first. Language reference, "Processes".
-abbrev pub ready_for : {N : Type 0} → Code → (limit : ℕ) → Body N → Next N → Standing
+abbrev pub ready_for : {N : Type 0} → Module → (limit : ℕ) → Frame N → Next N → Standing
 ready_for c limit b nothing = ended
 ready_for c limit b (an_item item work) = to_act (nat_lt b.actions greatest_actions)
 ready_for c limit b (a_reply call n) = to_act (nat_lt b.actions greatest_actions)
 ready_for c limit b (a_statement n) =
     cond (nat_lt b.steps limit) (cond (is_action c n.form) (to_act (nat_lt b.actions greatest_actions)) local) out_of_steps
 
-abbrev pub ready_in : {N : Type 0} → Code → (limit : ℕ) → State N → Standing
-ready_in c limit s = ready_for c limit s.body (next_of c s)
+abbrev pub ready_in : {N : Type 0} → Module → (limit : ℕ) → State N → Standing
+ready_in c limit s = ready_for c limit s.frame (next_of c s)

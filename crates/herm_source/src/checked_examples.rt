@@ -1,20 +1,40 @@
-// Examples of programs that are checked, and of one that is not.
+// Examples of programs that are checked, and of some that are not.
 
 ghost use Rattle.std.specs.Prelude.{◌≡◌, [], ◌∷◌, Some, true, false};
 ghost use Rattle.herm_model.specs.Statements.{block, no_blocks, no_statements};
-ghost use Rattle.herm_source.specs.CheckedExamples.{CanBeChecked, choosing_code, is_stuck_at_case, nested_loops};
-ghost use Rattle.herm_source.specs.Programs.{kept_parameter, two_senders};
+ghost use Rattle.herm_model.specs.Values.{an_inport};
+ghost use Rattle.herm_source.specs.examples.CheckedExamples.{CanBeChecked, choosing_code, component_target, is_stuck_behind, IsTypedAt, nested_loops, other_port, stands_behind, Stand};
+ghost use Rattle.herm_source.specs.examples.ComponentPrograms.{taken_apart};
+ghost use Rattle.herm_source.specs.examples.Programs.{kept_parameter, two_senders};
 
-/// The two senders, a call with a parameter that an exception keeps, and nested loops that are left are typed and accepted: so
-/// their processes stay sound in every state.
+/// The two senders, a call with a parameter that an exception keeps, nested loops that are left, and a program that takes values apart
+/// are typed and accepted: so their processes stay sound in every state.
 pub fn examples_are_checked()
     ensures senders { CanBeChecked 7 (two_senders 3) }
     ensures calls { CanBeChecked 8 kept_parameter }
     ensures loops { CanBeChecked 7 nested_loops }
+    ensures apart { CanBeChecked 7 taken_apart }
 {}
 
-/// Where an arm of a `case` is missing, a process is stuck at it; with both arms it is not.
+/// Where an arm of a `case` is missing, the statement is not typed, and a process is stuck at it; with both arms it is not.
 pub fn missing_arms_are_stuck()
-    ensures missing { is_stuck_at_case (choosing_code (1 ∷ []) (block no_statements no_blocks)) ≡ Some true }
-    ensures complete { is_stuck_at_case (choosing_code (0 ∷ 1 ∷ []) (block no_statements (block no_statements no_blocks))) ≡ Some false }
+    ensures missing { is_stuck_behind 2 (choosing_code (1 ∷ []) (block no_statements no_blocks)) ≡ Some true }
+    ensures untyped { IsTypedAt (choosing_code (1 ∷ []) (block no_statements no_blocks)) 2 → ⊥ }
+    ensures complete { is_stuck_behind 2 (choosing_code (0 ∷ 1 ∷ []) (block no_statements (block no_statements no_blocks))) ≡ Some false }
+{}
+
+/// A target that passes through a component has no place: its statement is not typed, and a process is stuck at it.
+pub fn targets_in_components_are_stuck()
+    ensures before { is_stuck_behind 2 component_target ≡ Some false }
+    ensures stuck { is_stuck_behind 3 component_target ≡ Some true }
+    ensures untyped { IsTypedAt component_target 3 → ⊥ }
+{}
+
+/// Where a port is moved to a place of another type, which the rules on types forbid, it stands there no more as it should.
+pub fn untyped_moves_break_places()
+    ensures before { stands_behind 0 other_port ≡ Some ((7, an_inport 1) ∷ []) }
+    ensures stood { Stand ((7, an_inport 1) ∷ []) }
+    ensures behind { stands_behind 1 other_port ≡ Some ((8, an_inport 1) ∷ []) }
+    ensures untyped { IsTypedAt other_port 0 → ⊥ }
+    ensures broken { Stand ((8, an_inport 1) ∷ []) → ⊥ }
 {}

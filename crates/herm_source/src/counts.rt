@@ -1,9 +1,10 @@
 // Laws of how many inports and callmessages a process has that are not finalised.
 
 ghost use Rattle.std.specs.Prelude.{◌≡◌, [], ◌∷◌, Some};
-ghost use Rattle.herm_source.specs.CountExamples.{closed_with, counted_behind, no_call, open_with, with_callmessage, with_reply};
-ghost use Rattle.herm_source.specs.Programs.{kept_parameter, left_loop, two_senders};
-ghost use Rattle.herm_source.specs.CountLaws.{TypedProgramsKeepCounts};
+ghost use Rattle.herm_source.specs.examples.CheckedExamples.{nested_loops};
+ghost use Rattle.herm_source.specs.examples.CountExamples.{closed_with, counted_behind, no_call, open_with, with_callmessage, with_reply};
+ghost use Rattle.herm_source.specs.examples.Programs.{kept_parameter, left_loop, two_senders};
+ghost use Rattle.herm_source.specs.laws.CountLaws.{TypedProgramsKeepCounts};
 
 /// Of a typed and accepted program a process keeps its inports and callmessages accounted for, of each port and each call:
 /// those that it had, with what came in and what it made, are those that it has then, with what went out and what it closed or
@@ -46,4 +47,10 @@ pub fn kept_call_is_counted()
 pub fn left_loop_is_counted()
     ensures in_the_loop { counted_behind 9 left_loop ≡ Some (record { ports = open_with 1 ∷ open_with 1 ∷ []; calls = no_call ∷ [] }) }
     ensures ended { counted_behind 14 left_loop ≡ Some (record { ports = open_with 1 ∷ closed_with 0 ∷ []; calls = no_call ∷ [] }) }
+{}
+
+/// So it is where both of two nested loops are left.
+pub fn nested_loops_are_counted()
+    ensures in_the_loops { counted_behind 10 nested_loops ≡ Some (record { ports = open_with 1 ∷ open_with 1 ∷ []; calls = no_call ∷ [] }) }
+    ensures ended { counted_behind 13 nested_loops ≡ Some (record { ports = open_with 1 ∷ closed_with 0 ∷ []; calls = no_call ∷ [] }) }
 {}

@@ -1,10 +1,11 @@
 // Runs of small programs, computed from the definitions. The comments on the programs have them as they are written.
 
 ghost use Rattle.std.specs.Prelude.{◌≡◌, List, [], ◌∷◌, Some, codes};
-ghost use Rattle.herm_system.specs.Statuses.{plainly, with_summary, the_journal};
-ghost use Rattle.herm_source.specs.Programs.{calls_both_ways, deep_polymorph, discarded_call, empty_body, greeting, idle_process, kept_parameter, left_loop, one_branch, one_too_many, own_queue, port_in_message, ports_until_full, refused_insert, returned_call, two_senders, untaken_call, waiting_select};
+ghost use Rattle.herm_system.specs.RunTexts.{plainly, with_summary, the_journal};
+ghost use Rattle.herm_source.specs.examples.Programs.{calls_both_ways, deep_polymorph, discarded_call, empty_body, greeting, idle_process, kept_parameter, left_loop, one_branch, one_too_many, own_queue, port_in_message, ports_until_full, refused_insert, returned_call, two_senders, untaken_call, waiting_select};
 ghost use Rattle.std.specs.Prelude.{ℤ};
-ghost use Rattle.herm_source.specs.Examples.{console_with, ending, limited, in_lines, ready_program};
+ghost use Rattle.herm_source.specs.examples.ComponentPrograms.{taken_apart};
+ghost use Rattle.herm_source.specs.examples.RunExamples.{console_with, ending, limited, in_lines, ready_program};
 ghost use Rattle.herm_source.specs.Instance.{IsSound};
 
 /// A greeting is one line on the console, and four of the six cells are finalised.
@@ -204,6 +205,23 @@ pub fn polymorphs_are_deep()
       status = 0;
       text = in_lines (
           codes "16" ∷ []);
+    }) }
+{}
+
+/// Values are taken apart: each of `reveal`, `case`, `dissolve`, `unwrap`, `get` and `remove` goes well, and each that has an exception
+/// comes to it; so does `raise`, within reach of a handler, and then beyond, where it ends the process.
+pub fn values_are_taken_apart()
+    ensures at_the_end { ending 120 plainly (limited 1000 4 4) taken_apart ≡ Some (record {
+      status = 6;
+      text = in_lines (
+          codes "reveal"
+          ∷ codes "a"
+          ∷ codes "b"
+          ∷ codes "unwrap"
+          ∷ codes "get"
+          ∷ codes "remove"
+          ∷ codes "raise"
+          ∷ codes "hermes: main ended by NotFound" ∷ []);
     }) }
 {}
 

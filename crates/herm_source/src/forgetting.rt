@@ -1,6 +1,6 @@
 // Laws of names: a process does the same without them.
 
-ghost use Rattle.herm_source.specs.Forgetting.{BeginningsForget, WantsForget, LocalStepsForget, AnswersForget};
+ghost use Rattle.herm_source.specs.ForgettingNames.{BeginningsForget, WantsForget, LocalStepsForget, AnswersForget};
 
 /// A process begins with values as it does with cells.
 pub fn beginnings_forget_names()

@@ -1,6 +1,6 @@
 // Laws of the ledger for one process.
 
-ghost use Rattle.herm_source.specs.Kept.{BeginningsKeep, LocalStepsKeep, AnswersKeep};
+ghost use Rattle.herm_source.specs.laws.LedgerLaws.{BeginningsKeep, LocalStepsKeep, AnswersKeep};
 
 /// A process that begins holds or has finalised nothing but its port.
 pub fn beginnings_keep_the_ledger()

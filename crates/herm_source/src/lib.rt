@@ -9,6 +9,7 @@ pub mod examples;
 pub mod forgetting;
 pub mod ledger;
 pub mod machine;
+pub mod middle_examples;
 pub mod needs;
 pub mod places;
 pub mod runs;

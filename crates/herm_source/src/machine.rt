@@ -1,9 +1,9 @@
 // The source machine meets the laws of one process that the laws of runs ask for.
 
-ghost use Rattle.herm_runs.specs.OneProcess.{ForgetsNames, KeepsLedger, KeepsNumbers, KnowsPlaces};
-ghost use Rattle.herm_runs.specs.SuitsLaws.{LooksAtHeld};
+ghost use Rattle.herm_runs.specs.laws.ProcessLaws.{ForgetsNames, KeepsLedger, KeepsNumbers, KnowsPlaces};
+ghost use Rattle.herm_runs.specs.laws.SuitsLaws.{LooksAtHeld};
 ghost use Rattle.herm_source.specs.Instance.{IsSoundIn, nameless, source};
-ghost use Rattle.herm_source.specs.Laws.{AnswersStay, LocalStepsStay};
+ghost use Rattle.herm_source.specs.laws.NumberLaws.{AnswersStay, LocalStepsStay};
 ghost use Rattle.herm_source.specs.Modules.{Modules};
 ghost use Rattle.herm_source.specs.Renaming.{forget_state};
 ghost use Rattle.herm_source.specs.Sharing.{AcceptedShareTypes, ShareTypes};

@@ -1,6 +1,6 @@
 // Laws of where processes stand, and of what their statements find there.
 
-ghost use Rattle.herm_source.specs.NeedsLaws.{RunsReach, SoundStatesFindNeeds, SoundStatesAlongFindNeeds};
+ghost use Rattle.herm_source.specs.laws.NeedsLaws.{RunsReach, SoundStatesFindNeeds, SoundStatesAlongFindNeeds};
 
 /// Whatever the schedule, in every state of a run of accepted modules each process stands where a control path leads.
 pub fn runs_reach()

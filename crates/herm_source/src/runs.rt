@@ -1,11 +1,11 @@
 // Laws of runs of the source machine, for any modules with a main: each is the law over any machine (herm_runs), which the
 // source machine meets.
 
-ghost use Rattle.herm_runs.specs.OrderLaws.{OrderedJournalsAreRuns};
-ghost use Rattle.herm_runs.specs.RunLaws.{HistoriesTell, LedgerAlong, NamesAreMadeOnce, OnlyTakesAndHearsWait, RoundsAreFinal, RoundsAreRuns, RunsAreJournals, RunsAreNumbered, RunsAreStamped, RunsKeepLedger};
+ghost use Rattle.herm_runs.specs.laws.OrderLaws.{OrderedJournalsAreRuns};
+ghost use Rattle.herm_runs.specs.laws.RunLaws.{HistoriesTell, LedgerAlong, NamesAreMadeOnce, OnlyTakesAndHearsWait, RoundsAreFinal, RoundsAreRuns, RunsAreJournals, RunsAreNumbered, RunsAreStamped, RunsKeepLedger};
 ghost use Rattle.herm_source.specs.Instance.{source};
 ghost use Rattle.herm_source.specs.Modules.{Modules};
-ghost use Rattle.herm_source.specs.RunLaws.{SourceDescribedDiariesTell, SourceDiariesTell, SourceRunsSuit, SourceSoundDiariesTell, SourceStatesSuit, SourceStatesWouldSuit};
+ghost use Rattle.herm_source.specs.laws.RunLaws.{SourceDescribedDiariesTell, SourceDiariesTell, SourceRunsSuit, SourceSoundDiariesTell, SourceStatesSuit, SourceStatesWouldSuit};
 
 /// The schedule of one worker is one of the schedules: what rounds lead to is led to by a list of events.
 pub fn rounds_are_runs()

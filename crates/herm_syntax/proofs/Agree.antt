@@ -1,20 +1,21 @@
 -- Readers of different levels agree where no more brackets are open than both have levels.
 use Rattle.std.proofs.Common.{◌≡◌, ℕ, zero, suc, ◌<◌, Bool, true, false, if◌then◌else◌, List, Option, Some, None, nat_eq, true≢false, refl, sym, ap, ◌∙◌, arith}
 use Rattle.herm_readers.specs.Reader.{Reader}
-use Rattle.herm_readers.specs.Combinators.{nothing, one, sequence, leading, closing, separated}
+use Rattle.herm_readers.specs.Combinators.{nothing, one, sequence, preceded, terminated, separated}
 use Rattle.herm_readers.specs.Brackets.{Neither}
 use Rattle.herm_readers.proofs.Agreement.{Agrees, agree_return, agree_changed, agree_sequence, agree_depending, agree_one, agree_leading, agree_opening, agree_shutting, agree_closing, agree_bracketed, agree_choice, agree_many, agree_separated}
-use Rattle.herm_alphabet.specs.Letters.{keyword_of}
+use Rattle.herm_alphabet.specs.KeywordLetters.{keyword_of}
 use Rattle.herm_alphabet.specs.declared.keyword.Keyword.{Keyword}
 use Rattle.herm_alphabet.specs.declared.sign.Mark.{Mark}
 use Rattle.herm_alphabet.specs.declared.keyword.Keyword.TheVariants.{KwAs, KwCall, KwCallmessage, KwCase, KwCreate, KwDefinitions, KwElse, KwEnum, KwException, KwFor, KwFrom, KwFull, KwIf, KwIn, KwInit, KwInport, KwInto, KwKey, KwLeave, KwLength, KwNot, KwOf, KwOn, KwOutport, KwProcess, KwRaise, KwRaises, KwReceive, KwRecord, KwReturn, KwSelect, KwSize, KwTable, KwText, KwTo, KwTry, KwType, KwUnwrap, KwVar, KwVariant, KwWhen, KwWhile}
 use Rattle.herm_alphabet.specs.declared.sign.Mark.TheVariants.{ParenOpen, ParenClose, BraceOpen, BraceClose, BracketOpen, BracketClose, Comma, Semicolon, Colon, Becomes, Dot, Hash, Equal, Minus}
 use Rattle.herm_syntax.specs.Symbols.{Symbol, Key, Sign, Identifier, Number, Quoted, bracket_side, side, is, is_operator, sign_level, minus, kw_not, kw_exception, paren_open, paren_close, brace_open, brace_close, bracket_open, bracket_close, comma, semicolon, colon, becomes, dot, hash, equal}
-use Rattle.herm_syntax.specs.Trees.{Letters, Literal, Integer, Text, Boolean, Tag, Expression, Primary, Transfer, Move, Unite, Dissolve, Wrap, Insert, Connect, Send, Receive, Touch, New, Discard, Reveal, Find, Remove, Get, Statements, Mode, In, Inout, Out}
-use Rattle.herm_syntax.specs.Spelling.{part_at, transfer, between, touch, find, mode}
+use Rattle.herm_syntax.specs.Trees.{Letters, Literal, Integer, Text, Boolean, Tag, Expression, Primary, Statements, Mode, In, Inout, Out}
+use Rattle.herm_syntax.specs.Words.{Transfer, Moving, Uniting, Dissolving, Wrapping, Inserting, Connecting, Sending, Receiving, Touch, Making, Discarding, Revealing, Find, Removing, Getting, transfer, between, touch, find, pick_transfer, pick_touch, pick_find, is_transfer, is_touch, is_find, read_first_path, read_touched}
+use Rattle.herm_syntax.specs.Spelling.{part_at, mode}
 use Rattle.herm_syntax.specs.Fitting.{is_sign}
-use Rattle.herm_syntax.specs.Reading.{pick_by, pick_name, pick_part, pick_constant, is_constant, read_name, read_part, read_dotted, path_of, read_path, read_component_path, atom_of, read_atom, in_parens, simple_of, read_simple, primary_of, read_primary, unary_of, read_unary, chain_of, read_chain, comparison_of, read_comparison, read_levels, read_expression}
-use Rattle.herm_syntax.specs.ReadStatements.{pick_transfer, pick_touch, pick_find, is_transfer, is_touch, is_find, read_end, in_braces, listed_of, listed, read_first_path, read_touched, read_two_paths, read_one_path, read_keyed, read_unwrap, read_call, read_return, read_create, read_raise, read_leave, read_case_arm, read_handler, read_port_arm, some_arms_of, some_port_arms_of, read_case_arms, read_handlers, read_port_arms, otherwise_of, read_otherwise, read_plain, read_compound, is_plain, statement_of, read_statement, inside, statements_of, read_statements}
+use Rattle.herm_syntax.specs.ReadExpressions.{pick_by, pick_name, pick_part, pick_constant, is_constant, read_name, read_part, read_dotted, path_of, read_path, read_component_path, atom_of, read_atom, in_parens, simple_of, read_simple, primary_of, read_primary, unary_of, read_unary, chain_of, read_chain, comparison_of, read_comparison, read_levels, read_expression}
+use Rattle.herm_syntax.specs.ReadStatements.{read_end, in_braces, listed_of, listed, read_two_paths, read_one_path, read_keyed, read_unwrap, read_call, read_return, read_create, read_raise, read_leave, read_case_arm, read_handler, read_port_arm, some_arms_of, some_port_arms_of, read_case_arms, read_handlers, read_port_arms, otherwise_of, read_otherwise, read_plain, read_compound, is_plain, statement_of, read_statement, inside, statements_of, read_statements}
 use Rattle.herm_syntax.specs.ReadModules.{read_field, pick_mode, read_param, fact_of, read_fact, written_of, if_written, read_facts, read_kept, read_raisings, shape_of, read_shape, item_of, read_item, read_variables, module_of, read_module, anything, read_file}
 use Rattle.herm_syntax.proofs.Names.{keyword_alone, sign_alone, pick_by_from, name_from, part_from, constant_symbol, constant_from}
 use Rattle.herm_syntax.proofs.Plain.{transfer_from, touch_from, find_from}
@@ -76,29 +77,29 @@ pub constant_side : (x : Symbol) (tree : Literal) → pick_constant x ≡ Some t
 constant_side x tree e = ap side (constant_from x tree e).1 ∙ constant_symbol_side tree
 
 pub transfer_symbol_side : (t : Transfer) → side (transfer t) ≡ Neither
-transfer_symbol_side Move = refl
-transfer_symbol_side Unite = refl
-transfer_symbol_side Dissolve = refl
-transfer_symbol_side Wrap = refl
-transfer_symbol_side Insert = refl
-transfer_symbol_side Connect = refl
-transfer_symbol_side Send = refl
-transfer_symbol_side Receive = refl
+transfer_symbol_side Moving = refl
+transfer_symbol_side Uniting = refl
+transfer_symbol_side Dissolving = refl
+transfer_symbol_side Wrapping = refl
+transfer_symbol_side Inserting = refl
+transfer_symbol_side Connecting = refl
+transfer_symbol_side Sending = refl
+transfer_symbol_side Receiving = refl
 
 pub transfer_side : (x : Symbol) (tree : Transfer) → pick_transfer x ≡ Some tree → side x ≡ Neither
 transfer_side x tree e = ap side (transfer_from x tree e) ∙ transfer_symbol_side tree
 
 pub touch_symbol_side : (t : Touch) → side (touch t) ≡ Neither
-touch_symbol_side New = refl
-touch_symbol_side Discard = refl
-touch_symbol_side Reveal = refl
+touch_symbol_side Making = refl
+touch_symbol_side Discarding = refl
+touch_symbol_side Revealing = refl
 
 pub touch_side : (x : Symbol) (tree : Touch) → pick_touch x ≡ Some tree → side x ≡ Neither
 touch_side x tree e = ap side (touch_from x tree e) ∙ touch_symbol_side tree
 
 pub find_symbol_side : (t : Find) → side (find t) ≡ Neither
-find_symbol_side Remove = refl
-find_symbol_side Get = refl
+find_symbol_side Removing = refl
+find_symbol_side Getting = refl
 
 pub find_side : (x : Symbol) (tree : Find) → pick_find x ≡ Some tree → side x ≡ Neither
 find_side x tree e = ap side (find_from x tree e) ∙ find_symbol_side tree
@@ -112,14 +113,14 @@ pub mode_side : (x : Symbol) (tree : Mode) → pick_mode x ≡ Some tree → sid
 mode_side x tree e = ap side (mode_from x tree e) ∙ mode_symbol_side tree
 
 pub between_side : (t : Transfer) (x : Symbol) → is (between t) x ≡ true → side x ≡ Neither
-between_side Move x p = keyword_side KwTo x p
-between_side Unite x p = keyword_side KwFrom x p
-between_side Dissolve x p = keyword_side KwInto x p
-between_side Wrap x p = keyword_side KwAs x p
-between_side Insert x p = keyword_side KwInto x p
-between_side Connect x p = keyword_side KwTo x p
-between_side Send x p = keyword_side KwTo x p
-between_side Receive x p = keyword_side KwFrom x p
+between_side Moving x p = keyword_side KwTo x p
+between_side Uniting x p = keyword_side KwFrom x p
+between_side Dissolving x p = keyword_side KwInto x p
+between_side Wrapping x p = keyword_side KwAs x p
+between_side Inserting x p = keyword_side KwInto x p
+between_side Connecting x p = keyword_side KwTo x p
+between_side Sending x p = keyword_side KwTo x p
+between_side Receiving x p = keyword_side KwFrom x p
 
 -- A level's readers, over readers that agree one bracket deeper.
 abbrev Alike : {A : Type 0} → ℕ → Reader Symbol A → Reader Symbol A → Type 0
@@ -150,10 +151,10 @@ parens_a r inner = agree_bracketed side (is paren_open) (is paren_close) (sign_s
 pub braces_a : {A : Type 0} {f g : Reader Symbol A} → (r : ℕ) → ((less : ℕ) → r ≡ suc less → Alike less f g) → Alike r (in_braces f) (in_braces g)
 braces_a r inner = agree_bracketed side (is brace_open) (is brace_close) (sign_side BraceOpen) (sign_side BraceClose) inner
 
-pub keyword_a : {A : Type 0} {f g : Reader Symbol A} {before after : ℕ} → (n : Keyword) → Agrees side before after f g → Agrees side before after (leading (is (Key n)) f) (leading (is (Key n)) g)
+pub keyword_a : {A : Type 0} {f g : Reader Symbol A} {before after : ℕ} → (n : Keyword) → Agrees side before after f g → Agrees side before after (preceded (is (Key n)) f) (preceded (is (Key n)) g)
 keyword_a n agree = agree_leading side (is (Key n)) (keyword_side n) agree
 
-pub semicolon_a : {A : Type 0} {f g : Reader Symbol A} {before after : ℕ} → Agrees side before after f g → Agrees side before after (closing (is semicolon) f) (closing (is semicolon) g)
+pub semicolon_a : {A : Type 0} {f g : Reader Symbol A} {before after : ℕ} → Agrees side before after f g → Agrees side before after (terminated (is semicolon) f) (terminated (is semicolon) g)
 semicolon_a agree = agree_closing side (is semicolon) (sign_side Semicolon) agree
 
 pub nothing_a : (r : ℕ) → Alike r nothing nothing
@@ -199,19 +200,19 @@ expression_a (suc d) (suc m) r l k =
 
 -- Statements with no statement in them.
 pub first_path_a : (r : ℕ) (t : Transfer) → Alike r (read_first_path t) (read_first_path t)
-first_path_a r Move = path_a r
-first_path_a r Unite = component_path_a r
-first_path_a r Dissolve = component_path_a r
-first_path_a r Wrap = path_a r
-first_path_a r Insert = path_a r
-first_path_a r Connect = path_a r
-first_path_a r Send = path_a r
-first_path_a r Receive = path_a r
+first_path_a r Moving = path_a r
+first_path_a r Uniting = component_path_a r
+first_path_a r Dissolving = component_path_a r
+first_path_a r Wrapping = path_a r
+first_path_a r Inserting = path_a r
+first_path_a r Connecting = path_a r
+first_path_a r Sending = path_a r
+first_path_a r Receiving = path_a r
 
 pub touched_a : (r : ℕ) (t : Touch) → Alike r (read_touched t) (read_touched t)
-touched_a r New = path_a r
-touched_a r Discard = path_a r
-touched_a r Reveal = component_path_a r
+touched_a r Making = path_a r
+touched_a r Discarding = path_a r
+touched_a r Revealing = component_path_a r
 
 pub two_paths_a : (r : ℕ) → Alike r read_two_paths read_two_paths
 two_paths_a r = agree_depending side (agree_one side r pick_transfer transfer_side) (λ t. agree_sequence side (first_path_a r t) (agree_leading side (is (between t)) (between_side t) (semicolon_a (path_a r))))

@@ -3,7 +3,7 @@ use Rattle.std.proofs.Common.{◌≡◌, Bool, true, not, ◌&&◌, List, ◌∷
 use Rattle.std.proofs.lemmas.Bool.{and_parts, and_from}
 use Rattle.herm_readers.specs.Reader.{Rule, ahead}
 use Rattle.herm_readers.specs.Combinators.{passes, many_fits, many_spelling, many_ends}
-use Rattle.herm_readers.specs.Laws.{IsWritten}
+use Rattle.herm_readers.specs.laws.ReaderLaws.{IsWritten}
 use Rattle.herm_readers.proofs.Readings.{Reading, turned, both, many_of, many_end}
 use Rattle.herm_syntax.specs.Symbols.{Symbol}
 

@@ -5,17 +5,18 @@ use Rattle.std.proofs.Math.Bool.{and-true}
 use Rattle.std.specs.Cmp.Derive.{both_true}
 use Rattle.herm_readers.specs.Reader.{Reader, Rule, Reads, ahead}
 use Rattle.herm_readers.specs.Combinators.{passes, nothing, nothing_rule, many, many_fits, many_spelling, many_ends, many_rule, separated_fits, separated_ends}
-use Rattle.herm_readers.specs.Laws.{IsWritten}
+use Rattle.herm_readers.specs.laws.ReaderLaws.{IsWritten}
 use Rattle.herm_readers.proofs.Simple.{nothing_reads, changed_reads}
 use Rattle.herm_readers.proofs.Lists.{many_reads}
 use Rattle.herm_readers.proofs.Readings.{Reading, nothing_more, turned, both, either_of, separated_end}
 use Rattle.herm_alphabet.specs.declared.keyword.Keyword.TheVariants.{KwCase, KwElse, KwFor, KwIf, KwIn, KwOn, KwReceive, KwSelect, KwTry, KwWhen, KwWhile}
 use Rattle.herm_alphabet.specs.declared.sign.Mark.TheVariants.{ParenClose, BraceOpen, BraceClose, Comma, Semicolon, Becomes}
 use Rattle.herm_syntax.specs.Symbols.{Symbol, Key, is, kw_as, kw_exception, kw_from, kw_in, kw_into, kw_of, kw_receive, kw_to, paren_open, paren_close, brace_open, bracket_open, bracket_close, comma, semicolon, becomes}
-use Rattle.herm_syntax.specs.Trees.{Letters, Path, Integer, Text, Boolean, Tag, Atom, Constant, Place, Expression, Move, Unite, Dissolve, Wrap, Insert, Connect, Send, Receive, New, Discard, Reveal, Remove, Get, Statement, Assign, TwoPaths, OnePath, Keyed, Unwrap, Call, Return, ReturnBy, Create, Raise, Leave, Case, For, Select, If, While, Try, Statements, NoStatement, Further, Arms, NoArm, Arm, PortArms, NoPortArm, PortArm, Otherwise, NoElse, Else}
+use Rattle.herm_syntax.specs.Trees.{Letters, Path, Integer, Text, Boolean, Tag, Atom, Constant, Place, Expression, Move, Unite, Dissolve, Wrap, Insert, Connect, Send, Receive, New, Discard, Reveal, Remove, Get, Statement, Assign, Unwrap, Call, Return, ReturnBy, Create, Raise, Leave, Case, For, Select, If, While, Try, Statements, NoStatement, Further, Arms, NoArm, Arm, PortArms, NoPortArm, PortArm, Otherwise, NoElse, Else}
+use Rattle.herm_syntax.specs.Words.{Moving, Uniting, Dissolving, Wrapping, Inserting, Connecting, Sending, Receiving, Making, Discarding, Revealing, Removing, Getting}
 use Rattle.herm_syntax.specs.Spelling.{atom, statement, statements, case_arms, port_arms, handlers, otherwise}
 use Rattle.herm_syntax.specs.Fitting.{is_name, path_fits, atom_fits, expression_fits, has_arm, has_port_arm, statement_fits, statements_fit, case_arms_fit, port_arms_fit, handlers_fit, otherwise_fits}
-use Rattle.herm_syntax.specs.Reading.{path_ends, expression_rule, atom_rule, read_expression}
+use Rattle.herm_syntax.specs.ReadExpressions.{path_ends, expression_rule, atom_rule, read_expression}
 use Rattle.herm_syntax.specs.ReadStatements.{arms_of, port_arms_of, otherwise_of, Plain, Compound, plain_of, compound_of, statement_of, is_plain, inside, statements_of, no_statement, read_statement, read_statements, if_ends, statement_ends, further_end, statement_rule, statements_rule}
 use Rattle.herm_syntax.proofs.Names.{sign_test}
 use Rattle.herm_syntax.proofs.Paths.{path_stops, component_path_stops, atom_stops}
@@ -46,9 +47,19 @@ arguments_stop arguments f = listed_end ParenClose atom_r refl atom_leads (λ a 
 
 -- A plain statement.
 pub plain_fits : (levels : ℕ) (x : Plain) → plain_r.rule.fits x ≡ true → statement_fits (plain_of x) levels ≡ true
-plain_fits levels (inl x) f = f
-plain_fits levels (inr (inl x)) f = f
-plain_fits levels (inr (inr (inl x))) f = ap (λ b. path_fits x.1.0 && (path_fits x.1.1.0 && b)) (sym (and-true (separated_fits atom_fits x.1.1.1.0))) ∙ f
+plain_fits levels (inl (Moving, x)) f = f
+plain_fits levels (inl (Uniting, x)) f = f
+plain_fits levels (inl (Dissolving, x)) f = f
+plain_fits levels (inl (Wrapping, x)) f = f
+plain_fits levels (inl (Inserting, x)) f = f
+plain_fits levels (inl (Connecting, x)) f = f
+plain_fits levels (inl (Sending, x)) f = f
+plain_fits levels (inl (Receiving, x)) f = f
+plain_fits levels (inr (inl (Making, x))) f = f
+plain_fits levels (inr (inl (Discarding, x))) f = f
+plain_fits levels (inr (inl (Revealing, x))) f = f
+plain_fits levels (inr (inr (inl (Removing, x)))) f = ap (λ b. path_fits x.0 && (path_fits x.1.0 && b)) (sym (and-true (separated_fits atom_fits x.1.1.0))) ∙ f
+plain_fits levels (inr (inr (inl (Getting, x)))) f = ap (λ b. path_fits x.0 && (path_fits x.1.0 && b)) (sym (and-true (separated_fits atom_fits x.1.1.0))) ∙ f
 plain_fits levels (inr (inr (inr (inl x)))) f = f
 plain_fits levels (inr (inr (inr (inr (inl x))))) f = ap (λ b. path_fits x.0 && b) (sym (and-true (many_fits atom_fits x.1.0))) ∙ f
 plain_fits levels (inr (inr (inr (inr (inr (inl (m, inl name))))))) f = f
@@ -58,9 +69,19 @@ plain_fits levels (inr (inr (inr (inr (inr (inr (inr (inl name)))))))) f = f
 plain_fits levels (inr (inr (inr (inr (inr (inr (inr (inr none)))))))) f = refl
 
 pub plain_spelled : (x : Plain) → statement (plain_of x) ≡ plain_r.rule.spelling x
-plain_spelled (inl x) = refl
-plain_spelled (inr (inl x)) = refl
-plain_spelled (inr (inr (inl x))) = refl
+plain_spelled (inl (Moving, x)) = refl
+plain_spelled (inl (Uniting, x)) = refl
+plain_spelled (inl (Dissolving, x)) = refl
+plain_spelled (inl (Wrapping, x)) = refl
+plain_spelled (inl (Inserting, x)) = refl
+plain_spelled (inl (Connecting, x)) = refl
+plain_spelled (inl (Sending, x)) = refl
+plain_spelled (inl (Receiving, x)) = refl
+plain_spelled (inr (inl (Making, x))) = refl
+plain_spelled (inr (inl (Discarding, x))) = refl
+plain_spelled (inr (inl (Revealing, x))) = refl
+plain_spelled (inr (inr (inl (Removing, x)))) = refl
+plain_spelled (inr (inr (inl (Getting, x)))) = refl
 plain_spelled (inr (inr (inr (inl x)))) = refl
 plain_spelled (inr (inr (inr (inr (inl x))))) = refl
 plain_spelled (inr (inr (inr (inr (inr (inl (m, inl name))))))) = refl
@@ -77,19 +98,19 @@ keyed_stop r t keys f =
     both_true (path_stops r (Some kw_from) refl) (both_true (path_stops t (Some bracket_open) refl) (both_true (atoms_stop keys fit_keys.0) refl))
 
 pub plain_ended : (x : Plain) (beyond : Option Symbol) → plain_r.rule.fits x ≡ true → statement_ends (plain_of x) beyond ≡ (passes is_plain (ahead (plain_r.rule.spelling x) beyond) && plain_r.rule.ends x beyond)
-plain_ended (inl (Move, (p, q))) beyond f = sym (both_true (path_stops p (Some kw_to) refl) (path_stops q (Some semicolon) refl))
-plain_ended (inl (Unite, (p, q))) beyond f = sym (both_true (component_path_stops p (Some kw_from) refl) (path_stops q (Some semicolon) refl))
-plain_ended (inl (Dissolve, (p, q))) beyond f = sym (both_true (component_path_stops p (Some kw_into) refl) (path_stops q (Some semicolon) refl))
-plain_ended (inl (Wrap, (p, q))) beyond f = sym (both_true (path_stops p (Some kw_as) refl) (path_stops q (Some semicolon) refl))
-plain_ended (inl (Insert, (p, q))) beyond f = sym (both_true (path_stops p (Some kw_into) refl) (path_stops q (Some semicolon) refl))
-plain_ended (inl (Connect, (p, q))) beyond f = sym (both_true (path_stops p (Some kw_to) refl) (path_stops q (Some semicolon) refl))
-plain_ended (inl (Send, (p, q))) beyond f = sym (both_true (path_stops p (Some kw_to) refl) (path_stops q (Some semicolon) refl))
-plain_ended (inl (Receive, (p, q))) beyond f = sym (both_true (path_stops p (Some kw_from) refl) (path_stops q (Some semicolon) refl))
-plain_ended (inr (inl (New, p))) beyond f = sym (path_stops p (Some semicolon) refl)
-plain_ended (inr (inl (Discard, p))) beyond f = sym (path_stops p (Some semicolon) refl)
-plain_ended (inr (inl (Reveal, p))) beyond f = sym (component_path_stops p (Some semicolon) refl)
-plain_ended (inr (inr (inl (Remove, (r, (t, (keys, none))))))) beyond f = sym (keyed_stop r t keys f)
-plain_ended (inr (inr (inl (Get, (r, (t, (keys, none))))))) beyond f = sym (keyed_stop r t keys f)
+plain_ended (inl (Moving, (p, q))) beyond f = sym (both_true (path_stops p (Some kw_to) refl) (path_stops q (Some semicolon) refl))
+plain_ended (inl (Uniting, (p, q))) beyond f = sym (both_true (component_path_stops p (Some kw_from) refl) (path_stops q (Some semicolon) refl))
+plain_ended (inl (Dissolving, (p, q))) beyond f = sym (both_true (component_path_stops p (Some kw_into) refl) (path_stops q (Some semicolon) refl))
+plain_ended (inl (Wrapping, (p, q))) beyond f = sym (both_true (path_stops p (Some kw_as) refl) (path_stops q (Some semicolon) refl))
+plain_ended (inl (Inserting, (p, q))) beyond f = sym (both_true (path_stops p (Some kw_into) refl) (path_stops q (Some semicolon) refl))
+plain_ended (inl (Connecting, (p, q))) beyond f = sym (both_true (path_stops p (Some kw_to) refl) (path_stops q (Some semicolon) refl))
+plain_ended (inl (Sending, (p, q))) beyond f = sym (both_true (path_stops p (Some kw_to) refl) (path_stops q (Some semicolon) refl))
+plain_ended (inl (Receiving, (p, q))) beyond f = sym (both_true (path_stops p (Some kw_from) refl) (path_stops q (Some semicolon) refl))
+plain_ended (inr (inl (Making, p))) beyond f = sym (path_stops p (Some semicolon) refl)
+plain_ended (inr (inl (Discarding, p))) beyond f = sym (path_stops p (Some semicolon) refl)
+plain_ended (inr (inl (Revealing, p))) beyond f = sym (component_path_stops p (Some semicolon) refl)
+plain_ended (inr (inr (inl (Removing, (r, (t, (keys, none))))))) beyond f = sym (keyed_stop r t keys f)
+plain_ended (inr (inr (inl (Getting, (r, (t, (keys, none))))))) beyond f = sym (keyed_stop r t keys f)
 plain_ended (inr (inr (inr (inl (p, (name, y)))))) beyond f = sym (both_true (path_stops p (Some kw_as) refl) (path_stops y (Some semicolon) refl))
 plain_ended (inr (inr (inr (inr (inl (o, (arguments, none))))))) beyond f =
     let fit = and_parts (path_fits o) (many_fits atom_fits arguments && true) f in
@@ -301,9 +322,19 @@ module _ (levels : ℕ) (read_e : Reader Symbol Expression) (read_s : Reader Sym
 
   pub statement_back : (s : Statement) → statement_fits s levels ≡ true → (found : Plain ⊎ Compound) × (statement_parts.rule.fits found ≡ true) × (statement_of found ≡ s)
   statement_back (Assign x e) f = (inr (inr (inr (inr (inr (inr (inr (x, e))))))), f, refl)
-  statement_back (TwoPaths t first second) f = (inl (inl (t, (first, second))), f, refl)
-  statement_back (OnePath t p) f = (inl (inr (inl (t, p))), f, refl)
-  statement_back (Keyed k r t keys) f = (inl (inr (inr (inl (k, (r, (t, (keys, tt))))))), ap (λ b. path_fits r && (path_fits t && b)) (and-true (separated_fits atom_fits keys)) ∙ f, refl)
+  statement_back (Move y x) f = (inl (inl (Moving, (y, x))), f, refl)
+  statement_back (Unite v y) f = (inl (inl (Uniting, (v, y))), f, refl)
+  statement_back (Dissolve v y) f = (inl (inl (Dissolving, (v, y))), f, refl)
+  statement_back (Wrap y p) f = (inl (inl (Wrapping, (y, p))), f, refl)
+  statement_back (Insert r t) f = (inl (inl (Inserting, (r, t))), f, refl)
+  statement_back (Connect o i) f = (inl (inl (Connecting, (o, i))), f, refl)
+  statement_back (Send x o) f = (inl (inl (Sending, (x, o))), f, refl)
+  statement_back (Receive x i) f = (inl (inl (Receiving, (x, i))), f, refl)
+  statement_back (New x) f = (inl (inr (inl (Making, x))), f, refl)
+  statement_back (Discard x) f = (inl (inr (inl (Discarding, x))), f, refl)
+  statement_back (Reveal v) f = (inl (inr (inl (Revealing, v))), f, refl)
+  statement_back (Remove r t keys) f = (inl (inr (inr (inl (Removing, (r, (t, (keys, tt))))))), ap (λ b. path_fits r && (path_fits t && b)) (and-true (separated_fits atom_fits keys)) ∙ f, refl)
+  statement_back (Get r t keys) f = (inl (inr (inr (inl (Getting, (r, (t, (keys, tt))))))), ap (λ b. path_fits r && (path_fits t && b)) (and-true (separated_fits atom_fits keys)) ∙ f, refl)
   statement_back (Unwrap p name y) f = (inl (inr (inr (inr (inl (p, (name, y)))))), f, refl)
   statement_back (Call o arguments) f = (inl (inr (inr (inr (inr (inl (o, (arguments, tt))))))), ap (λ b. path_fits o && b) (and-true (many_fits atom_fits arguments)) ∙ f, refl)
   statement_back (Return m) f = (inl (inr (inr (inr (inr (inr (inl (m, inr tt))))))), and-true (path_fits m) ∙ f, refl)

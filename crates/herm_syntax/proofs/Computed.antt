@@ -1,7 +1,7 @@
 -- The computed examples.
 use Rattle.std.proofs.Common.{refl}
-use Rattle.herm_alphabet.specs.Letters.{keyword_of}
-use Rattle.herm_syntax.specs.Examples.{Expressions, Plain, Compound, Items, Files, Fitting, Words}
+use Rattle.herm_alphabet.specs.KeywordLetters.{keyword_of}
+use Rattle.herm_syntax.specs.examples.ExampleTrees.{Expressions, Plain, Compound, Items, Files, Fitting, Words}
 
 pub expressions_hold : Expressions
 unfolding keyword_of

@@ -3,7 +3,7 @@ use Rattle.std.proofs.Common.{◌≡◌, ℕ, zero, suc, ◌≤◌, Bool, true, 
 use Rattle.std.proofs.lemmas.Bool.{and_parts, and_from}
 use Rattle.herm_readers.specs.Combinators.{many_fits}
 use Rattle.herm_syntax.specs.Symbols.{is_operator}
-use Rattle.herm_syntax.specs.Trees.{Expression, Chain, Compare, Unary, Operands, NoOperand, Operand, Comparison, NoComparison, With, Primary, Simple, Size, Paren, TextOf, LengthOf, Statement, Assign, TwoPaths, OnePath, Keyed, Unwrap, Call, Return, ReturnBy, Create, Raise, Leave, Case, For, Select, If, While, Try, Statements, NoStatement, Further, Arms, NoArm, Arm, PortArms, NoPortArm, PortArm, Otherwise, NoElse, Else, Module, Definitions, Process}
+use Rattle.herm_syntax.specs.Trees.{Expression, Chain, Compare, Unary, Operands, NoOperand, Operand, Comparison, NoComparison, With, Primary, Simple, Size, Paren, TextOf, LengthOf, Statement, Assign, Move, Unite, Dissolve, Wrap, Insert, Connect, Send, Receive, New, Discard, Reveal, Remove, Get, Unwrap, Call, Return, ReturnBy, Create, Raise, Leave, Case, For, Select, If, While, Try, Statements, NoStatement, Further, Arms, NoArm, Arm, PortArms, NoPortArm, PortArm, Otherwise, NoElse, Else, Module, Definitions, Process}
 use Rattle.herm_syntax.specs.Fitting.{is_name, path_fits, sign_fits, expression_fits, operands_fit, comparison_fits, primary_fits, has_arm, has_port_arm, statement_fits, statements_fit, case_arms_fit, port_arms_fit, handlers_fit, otherwise_fits, field_fits, module_fits, file_fits}
 
 pub both_kept : (a b c d : Bool) → (a ≡ true → c ≡ true) → (b ≡ true → d ≡ true) → (a && b) ≡ true → (c && d) ≡ true
@@ -51,9 +51,19 @@ mutual
 mutual
   pub statement_deeper : (s : Statement) (d m : ℕ) → d ≤ m → statement_fits s d ≡ true → statement_fits s m ≡ true
   statement_deeper (Assign x e) d m l f = second_kept (path_fits x) (expression_fits e 5 d) (expression_fits e 5 m) (expression_deeper e 5 d m l) f
-  statement_deeper (TwoPaths t first second) d m l f = f
-  statement_deeper (OnePath t p) d m l f = f
-  statement_deeper (Keyed k r t keys) d m l f = f
+  statement_deeper (Move y x) d m l f = f
+  statement_deeper (Unite v y) d m l f = f
+  statement_deeper (Dissolve v y) d m l f = f
+  statement_deeper (Wrap y p) d m l f = f
+  statement_deeper (Insert r t) d m l f = f
+  statement_deeper (Connect o i) d m l f = f
+  statement_deeper (Send x o) d m l f = f
+  statement_deeper (Receive x i) d m l f = f
+  statement_deeper (New x) d m l f = f
+  statement_deeper (Discard x) d m l f = f
+  statement_deeper (Reveal v) d m l f = f
+  statement_deeper (Remove r t keys) d m l f = f
+  statement_deeper (Get r t keys) d m l f = f
   statement_deeper (Unwrap p name y) d m l f = f
   statement_deeper (Call o arguments) d m l f = f
   statement_deeper (Return x) d m l f = f

@@ -5,7 +5,7 @@ use Rattle.std.proofs.Math.Bool.{and-true}
 use Rattle.std.specs.Cmp.Derive.{both_true}
 use Rattle.herm_readers.specs.Reader.{Rule, Reads, ahead}
 use Rattle.herm_readers.specs.Combinators.{passes, one, one_rule, many_fits, separated_fits, separated_ends}
-use Rattle.herm_readers.specs.Laws.{IsWritten}
+use Rattle.herm_readers.specs.laws.ReaderLaws.{IsWritten}
 use Rattle.herm_readers.proofs.Simple.{one_reads}
 use Rattle.herm_readers.proofs.Readings.{Reading, nothing_more, turned, refit, refit_reads, both, either_of, many_of, many_end, separated_by, separated_end}
 use Rattle.herm_alphabet.specs.declared.keyword.Keyword.TheVariants.{KwCallmessage, KwCase, KwDefinitions, KwEnum, KwException, KwFull, KwIn, KwInit, KwInout, KwInport, KwKey, KwOf, KwOut, KwOutport, KwProcess, KwRaises, KwRecord, KwTable, KwType, KwVar, KwVariant}

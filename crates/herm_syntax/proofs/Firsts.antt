@@ -3,9 +3,9 @@ use Rattle.std.proofs.Common.{◌≡◌, ◌≢◌, ℕ, zero, suc, Bool, true, 
 use Rattle.std.proofs.lemmas.Bool.{and_parts, and_from}
 use Rattle.herm_readers.specs.Reader.{ahead}
 use Rattle.herm_readers.specs.Combinators.{passes}
-use Rattle.herm_syntax.specs.Symbols.{Symbol, Identifier, is, kw_call, kw_case, kw_create, kw_else, kw_for, kw_if, kw_leave, kw_on, kw_raise, kw_return, kw_select, kw_try, kw_unwrap, kw_var, kw_while, brace_close, comma}
-use Rattle.herm_syntax.specs.Trees.{Path, Move, Unite, Dissolve, Wrap, Insert, Connect, Send, Receive, New, Discard, Reveal, Remove, Get, Statement, Assign, TwoPaths, OnePath, Keyed, Unwrap, Call, Return, ReturnBy, Create, Raise, Leave, Case, For, Select, If, While, Try, Statements, NoStatement, Further, Otherwise, NoElse, Else}
-use Rattle.herm_syntax.specs.Spelling.{transfer, touch, find, statement, statements}
+use Rattle.herm_syntax.specs.Symbols.{Symbol, Identifier, is, kw_call, kw_case, kw_create, kw_else, kw_for, kw_if, kw_leave, kw_on, kw_raise, kw_return, kw_select, kw_try, kw_unwrap, kw_var, kw_while, brace_close, comma, kw_move, kw_unite, kw_dissolve, kw_wrap, kw_insert, kw_connect, kw_send, kw_receive, kw_new, kw_discard, kw_reveal, kw_remove, kw_get}
+use Rattle.herm_syntax.specs.Trees.{Path, Move, Unite, Dissolve, Wrap, Insert, Connect, Send, Receive, New, Discard, Reveal, Remove, Get, Statement, Assign, Unwrap, Call, Return, ReturnBy, Create, Raise, Leave, Case, For, Select, If, While, Try, Statements, NoStatement, Further, Otherwise, NoElse, Else}
+use Rattle.herm_syntax.specs.Spelling.{statement, statements}
 use Rattle.herm_syntax.specs.Fitting.{statement_fits, statements_fit}
 use Rattle.herm_syntax.specs.ReadStatements.{inside, if_ends, statement_ends, further_end, statements_end}
 
@@ -15,9 +15,19 @@ first_of_path (variable ∷ parts) = Identifier variable
 
 abbrev pub first_of : Statement → Symbol
 first_of (Assign x e) = first_of_path x
-first_of (TwoPaths t first second) = transfer t
-first_of (OnePath t p) = touch t
-first_of (Keyed f r t keys) = find f
+first_of (Move y x) = kw_move
+first_of (Unite v y) = kw_unite
+first_of (Dissolve v y) = kw_dissolve
+first_of (Wrap y p) = kw_wrap
+first_of (Insert r t) = kw_insert
+first_of (Connect o i) = kw_connect
+first_of (Send x o) = kw_send
+first_of (Receive x i) = kw_receive
+first_of (New x) = kw_new
+first_of (Discard x) = kw_discard
+first_of (Reveal v) = kw_reveal
+first_of (Remove r t keys) = kw_remove
+first_of (Get r t keys) = kw_get
 first_of (Unwrap p name y) = kw_unwrap
 first_of (Call o arguments) = kw_call
 first_of (Return m) = kw_return
@@ -35,9 +45,19 @@ first_of (Try body handled) = kw_try
 pub statement_first : (s : Statement) (levels : ℕ) (more : List Symbol) (beyond : Option Symbol) → statement_fits s levels ≡ true → ahead (statement s ++ more) beyond ≡ Some (first_of s)
 statement_first (Assign [] e) levels more beyond f = absurd (cc)
 statement_first (Assign (variable ∷ parts) e) levels more beyond f = refl
-statement_first (TwoPaths t first second) levels more beyond g = refl
-statement_first (OnePath t p) levels more beyond g = refl
-statement_first (Keyed f r t keys) levels more beyond g = refl
+statement_first (Move y x) levels more beyond g = refl
+statement_first (Unite v y) levels more beyond g = refl
+statement_first (Dissolve v y) levels more beyond g = refl
+statement_first (Wrap y p) levels more beyond g = refl
+statement_first (Insert r t) levels more beyond g = refl
+statement_first (Connect o i) levels more beyond g = refl
+statement_first (Send x o) levels more beyond g = refl
+statement_first (Receive x i) levels more beyond g = refl
+statement_first (New x) levels more beyond g = refl
+statement_first (Discard x) levels more beyond g = refl
+statement_first (Reveal v) levels more beyond g = refl
+statement_first (Remove r t keys) levels more beyond g = refl
+statement_first (Get r t keys) levels more beyond g = refl
 statement_first (Unwrap p name y) levels more beyond g = refl
 statement_first (Call o arguments) levels more beyond g = refl
 statement_first (Return m) levels more beyond g = refl
@@ -59,19 +79,19 @@ goes_on x = is brace_close x || (is kw_else x || (is kw_on x || is kw_var x))
 pub first_begins : (s : Statement) → goes_on (first_of s) ≡ false
 first_begins (Assign [] e) = refl
 first_begins (Assign (variable ∷ parts) e) = refl
-first_begins (TwoPaths Move first second) = refl
-first_begins (TwoPaths Unite first second) = refl
-first_begins (TwoPaths Dissolve first second) = refl
-first_begins (TwoPaths Wrap first second) = refl
-first_begins (TwoPaths Insert first second) = refl
-first_begins (TwoPaths Connect first second) = refl
-first_begins (TwoPaths Send first second) = refl
-first_begins (TwoPaths Receive first second) = refl
-first_begins (OnePath New p) = refl
-first_begins (OnePath Discard p) = refl
-first_begins (OnePath Reveal p) = refl
-first_begins (Keyed Remove r q keys) = refl
-first_begins (Keyed Get r q keys) = refl
+first_begins (Move first second) = refl
+first_begins (Unite first second) = refl
+first_begins (Dissolve first second) = refl
+first_begins (Wrap first second) = refl
+first_begins (Insert first second) = refl
+first_begins (Connect first second) = refl
+first_begins (Send first second) = refl
+first_begins (Receive first second) = refl
+first_begins (New p) = refl
+first_begins (Discard p) = refl
+first_begins (Reveal p) = refl
+first_begins (Remove r q keys) = refl
+first_begins (Get r q keys) = refl
 first_begins (Unwrap p name y) = refl
 first_begins (Call o arguments) = refl
 first_begins (Return m) = refl
@@ -112,9 +132,19 @@ if_stops (Else body) beyond e = refl
 
 pub statement_stops : (s : Statement) (beyond : Option Symbol) → goes_on_ahead beyond ≡ false → statement_ends s beyond ≡ true
 statement_stops (Assign x e) beyond g = refl
-statement_stops (TwoPaths t first second) beyond g = refl
-statement_stops (OnePath t p) beyond g = refl
-statement_stops (Keyed f r t keys) beyond g = refl
+statement_stops (Move y x) beyond g = refl
+statement_stops (Unite v y) beyond g = refl
+statement_stops (Dissolve v y) beyond g = refl
+statement_stops (Wrap y p) beyond g = refl
+statement_stops (Insert r t) beyond g = refl
+statement_stops (Connect o i) beyond g = refl
+statement_stops (Send x o) beyond g = refl
+statement_stops (Receive x i) beyond g = refl
+statement_stops (New x) beyond g = refl
+statement_stops (Discard x) beyond g = refl
+statement_stops (Reveal v) beyond g = refl
+statement_stops (Remove r t keys) beyond g = refl
+statement_stops (Get r t keys) beyond g = refl
 statement_stops (Unwrap p name y) beyond g = refl
 statement_stops (Call o arguments) beyond g = refl
 statement_stops (Return m) beyond g = refl

@@ -2,8 +2,8 @@
 use Rattle.std.proofs.Common.{◌≡◌, ℕ, zero, suc, Bool, true, false, not, ◌&&◌, ◌⊎◌, inl, inr, List, [], ◌∷◌, ◌++◌, Option, Some, None, nat_eq, true≢false, refl, sym, ap, ◌∙◌}
 use Rattle.std.proofs.lemmas.Bool.{and_parts, and_from}
 use Rattle.herm_readers.specs.Reader.{Reader, Rule, Reads, ahead}
-use Rattle.herm_readers.specs.Combinators.{passes, nothing, nothing_rule, one, one_rule, sequence, sequence_rule, leading, leading_rule, closing, closing_rule, choice, choice_rule, many, many_fits, many_spelling, many_ends, many_rule}
-use Rattle.herm_readers.specs.Laws.{IsWritten}
+use Rattle.herm_readers.specs.Combinators.{passes, nothing, nothing_rule, one, one_rule, sequence, sequence_rule, preceded, preceded_rule, terminated, terminated_rule, choice, choice_rule, many, many_fits, many_spelling, many_ends, many_rule}
+use Rattle.herm_readers.specs.laws.ReaderLaws.{IsWritten}
 use Rattle.herm_readers.proofs.Simple.{nothing_reads, changed_reads}
 use Rattle.herm_readers.proofs.Sequences.{sequence_reads}
 use Rattle.herm_readers.proofs.Marks.{leading_reads, closing_reads}
@@ -15,22 +15,22 @@ use Rattle.herm_syntax.specs.Symbols.{Symbol, is, is_operator, kw_size, kw_text,
 use Rattle.herm_syntax.specs.Trees.{Path, Integer, Text, Boolean, Tag, Atom, Constant, Place, Expression, Chain, Compare, Unary, Operands, NoOperand, Operand, NoComparison, With, Primary, Simple, Size, Paren, TextOf, LengthOf}
 use Rattle.herm_syntax.specs.Spelling.{expression, operands, primary}
 use Rattle.herm_syntax.specs.Fitting.{is_sign, expression_fits, operands_fit, comparison_fits, primary_fits}
-use Rattle.herm_syntax.specs.Reading.{pick_by, path_rule, read_path, atom_rule, read_atom, expression_ends, operands_end, primary_ends, expression_rule, primary_rule, in_parens, simple_of, read_simple, primary_of, read_primary, unary_of, read_unary, operands_of, chain_of, read_chain, comparison_of, read_comparison, read_levels, read_expression}
+use Rattle.herm_syntax.specs.ReadExpressions.{pick_by, path_rule, read_path, atom_rule, read_atom, expression_ends, operands_end, primary_ends, expression_rule, primary_rule, in_parens, simple_of, read_simple, primary_of, read_primary, unary_of, read_unary, operands_of, chain_of, read_chain, comparison_of, read_comparison, read_levels, read_expression}
 use Rattle.herm_syntax.proofs.Names.{keyword_test, sign_test, pick_by_reads}
 use Rattle.herm_syntax.proofs.Paths.{path_reads, atom_reads, path_stops}
 use Rattle.herm_syntax.proofs.Stops.{expression_stops}
 
 -- What `(` and `)` hold.
 abbrev pub parens_rule : {A : Type 0} → Rule Symbol A → Rule Symbol A
-parens_rule rule = leading_rule paren_open (closing_rule paren_close rule)
+parens_rule rule = preceded_rule paren_open (terminated_rule paren_close rule)
 
 pub parens_reads : {A : Type 0} → (rule : Rule Symbol A) (read : Reader Symbol A) → Reads rule read → Reads (parens_rule rule) (in_parens read)
-parens_reads rule read reads = leading_reads paren_open (is paren_open) (closing_rule paren_close rule) (closing (is paren_close) read) (sign_test ParenOpen)
+parens_reads rule read reads = leading_reads paren_open (is paren_open) (terminated_rule paren_close rule) (terminated (is paren_close) read) (sign_test ParenOpen)
     (closing_reads paren_close (is paren_close) rule read (sign_test ParenClose) reads)
 
 -- Operands with no expression in them.
 abbrev simple_parts : Rule Symbol (Path ⊎ Atom)
-simple_parts = choice_rule (is kw_size) (leading_rule kw_size (parens_rule path_rule)) atom_rule
+simple_parts = choice_rule (is kw_size) (preceded_rule kw_size (parens_rule path_rule)) atom_rule
 
 simple_fits : (found : Path ⊎ Atom) → simple_parts.fits found ≡ true → primary_fits (simple_of found) 0 ≡ true
 simple_fits (inl p) f = f
@@ -58,9 +58,9 @@ simple_back (TextOf e) f = absurd (cc)
 simple_back (LengthOf e) f = absurd (cc)
 
 pub simple_reads : Reads (primary_rule 0) read_simple
-simple_reads = changed_reads simple_of simple_parts (primary_rule 0) (choice (is kw_size) (leading (is kw_size) (in_parens read_path)) read_atom)
+simple_reads = changed_reads simple_of simple_parts (primary_rule 0) (choice (is kw_size) (preceded (is kw_size) (in_parens read_path)) read_atom)
     (record { fits = simple_fits; spelling = simple_spelled; ends = simple_ended; back = simple_back })
-    (choice_reads (is kw_size) (leading_rule kw_size (parens_rule path_rule)) atom_rule (leading (is kw_size) (in_parens read_path)) read_atom
+    (choice_reads (is kw_size) (preceded_rule kw_size (parens_rule path_rule)) atom_rule (preceded (is kw_size) (in_parens read_path)) read_atom
     (leading_reads kw_size (is kw_size) (parens_rule path_rule) (in_parens read_path) (keyword_test KwSize) (parens_reads path_rule read_path path_reads)) atom_reads)
 
 -- Operands with an expression in them, one level deeper.
@@ -69,7 +69,7 @@ module _ (levels : ℕ) (read : Reader Symbol Expression) (reads : Reads (expres
   deeper = parens_rule (expression_rule 5 levels)
 
   abbrev primary_parts : Rule Symbol (Expression ⊎ (Expression ⊎ (Expression ⊎ Primary)))
-  primary_parts = choice_rule (is paren_open) deeper (choice_rule (is kw_text) (leading_rule kw_text deeper) (choice_rule (is kw_length) (leading_rule kw_length deeper) (primary_rule 0)))
+  primary_parts = choice_rule (is paren_open) deeper (choice_rule (is kw_text) (preceded_rule kw_text deeper) (choice_rule (is kw_length) (preceded_rule kw_length deeper) (primary_rule 0)))
 
   simple_deeper : (p : Primary) → primary_fits p 0 ≡ true → primary_fits p (suc levels) ≡ true
   simple_deeper (Simple a) f = f
@@ -120,14 +120,14 @@ module _ (levels : ℕ) (read : Reader Symbol Expression) (reads : Reads (expres
   primary_reads =
       let inside = parens_reads (expression_rule 5 levels) read reads in
       changed_reads primary_of primary_parts (primary_rule (suc levels))
-      (choice (is paren_open) (in_parens read) (choice (is kw_text) (leading (is kw_text) (in_parens read)) (choice (is kw_length) (leading (is kw_length) (in_parens read)) read_simple)))
+      (choice (is paren_open) (in_parens read) (choice (is kw_text) (preceded (is kw_text) (in_parens read)) (choice (is kw_length) (preceded (is kw_length) (in_parens read)) read_simple)))
       (record { fits = primary_fits_of; spelling = primary_spelled; ends = primary_ended; back = primary_back })
-      (choice_reads (is paren_open) deeper (choice_rule (is kw_text) (leading_rule kw_text deeper) (choice_rule (is kw_length) (leading_rule kw_length deeper) (primary_rule 0)))
-      (in_parens read) (choice (is kw_text) (leading (is kw_text) (in_parens read)) (choice (is kw_length) (leading (is kw_length) (in_parens read)) read_simple)) inside
-      (choice_reads (is kw_text) (leading_rule kw_text deeper) (choice_rule (is kw_length) (leading_rule kw_length deeper) (primary_rule 0))
-      (leading (is kw_text) (in_parens read)) (choice (is kw_length) (leading (is kw_length) (in_parens read)) read_simple)
+      (choice_reads (is paren_open) deeper (choice_rule (is kw_text) (preceded_rule kw_text deeper) (choice_rule (is kw_length) (preceded_rule kw_length deeper) (primary_rule 0)))
+      (in_parens read) (choice (is kw_text) (preceded (is kw_text) (in_parens read)) (choice (is kw_length) (preceded (is kw_length) (in_parens read)) read_simple)) inside
+      (choice_reads (is kw_text) (preceded_rule kw_text deeper) (choice_rule (is kw_length) (preceded_rule kw_length deeper) (primary_rule 0))
+      (preceded (is kw_text) (in_parens read)) (choice (is kw_length) (preceded (is kw_length) (in_parens read)) read_simple)
       (leading_reads kw_text (is kw_text) deeper (in_parens read) (keyword_test KwText) inside)
-      (choice_reads (is kw_length) (leading_rule kw_length deeper) (primary_rule 0) (leading (is kw_length) (in_parens read)) read_simple
+      (choice_reads (is kw_length) (preceded_rule kw_length deeper) (primary_rule 0) (preceded (is kw_length) (in_parens read)) read_simple
       (leading_reads kw_length (is kw_length) deeper (in_parens read) (keyword_test KwLength) inside) simple_reads)))
 
 -- A sign before an operand.

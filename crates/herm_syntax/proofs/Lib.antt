@@ -15,3 +15,6 @@ pub mod Computed
 pub mod Grammar
 pub mod Agree
 pub mod Places
+pub mod Mended
+pub mod MendedTrees
+pub mod MendedFits

@@ -3,10 +3,10 @@ use Rattle.std.proofs.Common.{◌≡◌, Bool, true, false, not, if◌then◌els
 use Rattle.std.specs.Prelude.{codes}
 use Rattle.herm_readers.specs.Reader.{Reads}
 use Rattle.herm_readers.specs.Combinators.{one, one_rule}
-use Rattle.herm_readers.specs.Laws.{IsTestFor}
+use Rattle.herm_readers.specs.laws.ReaderLaws.{IsTestFor}
 use Rattle.herm_readers.proofs.Simple.{one_reads}
 use Rattle.herm_alphabet.specs.declared.keyword.Keyword.TheVariants.{KwFalse, KwTrue}
-use Rattle.herm_alphabet.specs.Letters.{letters, keyword_of}
+use Rattle.herm_alphabet.specs.KeywordLetters.{letters, keyword_of}
 use Rattle.herm_alphabet.specs.declared.keyword.Keyword.{Keyword}
 use Rattle.herm_alphabet.specs.declared.sign.Mark.{Mark}
 use Rattle.herm_alphabet.proofs.Keywords.{keyword_of-letters, keyword_of-some, one_keyword, own_keyword, one_mark, own_mark}
@@ -14,7 +14,7 @@ use Rattle.herm_syntax.specs.Symbols.{Symbol, Key, Sign, Identifier, Number, Quo
 use Rattle.herm_syntax.specs.Trees.{Letters, Literal, Integer, Text, Boolean, Tag}
 use Rattle.herm_syntax.specs.Spelling.{part_at, part}
 use Rattle.herm_syntax.specs.Fitting.{is_name, any_part}
-use Rattle.herm_syntax.specs.Reading.{pick_by, pick_name, pick_part, pick_constant, read_name, read_part, name_rule, part_rule}
+use Rattle.herm_syntax.specs.ReadExpressions.{pick_by, pick_name, pick_part, pick_constant, read_name, read_part, name_rule, part_rule}
 
 pub keyword_alone : (k : Keyword) (y : Symbol) → is (Key k) y ≡ true → y ≡ Key k
 keyword_alone k (Key other) e = ap Key (one_keyword other k e)
@@ -71,7 +71,7 @@ name_back_at letters false e = refl
 abbrev pub some_name : Letters
 some_name = codes "a"
 
-some_name_fits : is_name some_name ≡ true
+pub some_name_fits : is_name some_name ≡ true
 unfolding keyword_of
 some_name_fits = refl
 
@@ -84,7 +84,7 @@ name_reads = one_reads is_name Identifier pick_name (record {
 })
 
 -- Parts.
-part_of_name_at : (letters : Letters) (found : Option Keyword) → not (is_some found) ≡ true → part_at found letters ≡ Identifier letters
+pub part_of_name_at : (letters : Letters) (found : Option Keyword) → not (is_some found) ≡ true → part_at found letters ≡ Identifier letters
 part_of_name_at letters None f = refl
 part_of_name_at letters (Some n) f = absurd (cc)
 

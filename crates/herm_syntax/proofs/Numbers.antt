@@ -6,18 +6,28 @@ use Rattle.herm_syntax.specs.declared.modules.Module.TheVariants as modules
 use Rattle.herm_syntax.specs.declared.statements.Stmt.{Stmt}
 use Rattle.herm_syntax.specs.declared.statements.StmtForm.{StmtForm}
 use Rattle.herm_syntax.specs.declared.statements.StmtForm.TheBlock as forms
-use Rattle.herm_syntax.specs.Trees.{Statement, Assign, TwoPaths, OnePath, Keyed, Unwrap, Call, Return, ReturnBy, Create, Raise, Leave, Case, For, Select, If, While, Try, Statements, NoStatement, Further, Arms, NoArm, Arm, PortArms, NoPortArm, PortArm, Otherwise, NoElse, Else, Module, Definitions, Process}
+use Rattle.herm_syntax.specs.Trees.{Statement, Assign, Move, Unite, Dissolve, Wrap, Insert, Connect, Send, Receive, New, Discard, Reveal, Remove, Get, Unwrap, Call, Return, ReturnBy, Create, Raise, Leave, Case, For, Select, If, While, Try, Statements, NoStatement, Further, Arms, NoArm, Arm, PortArms, NoPortArm, PortArm, Otherwise, NoElse, Else, Module, Definitions, Process}
 use Rattle.herm_syntax.specs.Views.{statement_of, statements_of, arms_of, port_arms_of, otherwise_of, body_of, module_of, numbers_within, numbers, arms_numbers, port_arms_numbers, otherwise_numbers, body_numbers, module_numbers}
-use Rattle.herm_syntax.specs.Laws.{counting, IsNumbered, HasOneProgram}
+use Rattle.herm_syntax.specs.laws.GrammarLaws.{counting, IsNumbered, HasOneProgram}
 use Rattle.herm_syntax.proofs.Uniqueness.{one_file}
 
 -- How many statements stand within one, and in a list.
 abbrev mutual
   count_within : Statement → ℕ
   count_within (Assign x e) = 0
-  count_within (TwoPaths t first second) = 0
-  count_within (OnePath t p) = 0
-  count_within (Keyed k r t keys) = 0
+  count_within (Move y x) = 0
+  count_within (Unite v y) = 0
+  count_within (Dissolve v y) = 0
+  count_within (Wrap y p) = 0
+  count_within (Insert r t) = 0
+  count_within (Connect o i) = 0
+  count_within (Send x o) = 0
+  count_within (Receive x i) = 0
+  count_within (New x) = 0
+  count_within (Discard x) = 0
+  count_within (Reveal v) = 0
+  count_within (Remove r t keys) = 0
+  count_within (Get r t keys) = 0
   count_within (Unwrap p name y) = 0
   count_within (Call o arguments) = 0
   count_within (Return m) = 0

@@ -2,8 +2,8 @@
 use Rattle.std.proofs.Common.{◌≡◌, true, false, not, ◌⊎◌, inl, inr, List, [], ◌∷◌, Option, true≢false, refl, sym, ap, ◌∙◌}
 use Rattle.std.proofs.lemmas.Bool.{and_parts, and_from}
 use Rattle.herm_readers.specs.Reader.{Rule, Reads, ahead}
-use Rattle.herm_readers.specs.Combinators.{passes, one, one_rule, sequence, sequence_rule, leading, leading_rule, choice, choice_rule, many_fits, separated, separated_rule}
-use Rattle.herm_readers.specs.Laws.{Changes}
+use Rattle.herm_readers.specs.Combinators.{passes, one, one_rule, sequence, sequence_rule, preceded, preceded_rule, choice, choice_rule, many_fits, separated, separated_rule}
+use Rattle.herm_readers.specs.laws.ReaderLaws.{Changes}
 use Rattle.herm_readers.proofs.Simple.{changed_reads}
 use Rattle.herm_readers.proofs.Sequences.{sequence_reads}
 use Rattle.herm_readers.proofs.Marks.{leading_reads}
@@ -15,11 +15,11 @@ use Rattle.herm_syntax.specs.Symbols.{Symbol, is, dot, hash}
 use Rattle.herm_syntax.specs.Trees.{Letters, Path, Literal, Integer, Text, Boolean, Tag, Atom, Constant, Place}
 use Rattle.herm_syntax.specs.Spelling.{path, dotted, atom}
 use Rattle.herm_syntax.specs.Fitting.{is_name, any_part, path_fits, component_path_fits, atom_fits}
-use Rattle.herm_syntax.specs.Reading.{pick_constant, is_constant, read_name, read_part, name_rule, part_rule, read_dotted, dotted_rule, path_of, read_path, path_ends, path_rule, read_component_path, component_path_ends, component_path_rule, behind_name, behind_name_rule, atom_of, read_atom, atom_ends, atom_rule}
+use Rattle.herm_syntax.specs.ReadExpressions.{pick_constant, is_constant, read_name, read_part, name_rule, part_rule, read_dotted, dotted_rule, path_of, read_path, path_ends, path_rule, read_component_path, component_path_ends, component_path_rule, behind_name, behind_name_rule, atom_of, read_atom, atom_ends, atom_rule}
 use Rattle.herm_syntax.proofs.Names.{sign_test, name_reads, part_reads, constant_fits, constant_symbol, constant_reads}
 
 pub dotted_reads : Reads dotted_rule read_dotted
-dotted_reads = many_reads (is dot) (leading_rule dot part_rule) (leading (is dot) read_part) (leading_written dot part_rule) (leading_reads dot (is dot) part_rule read_part (sign_test Dot) part_reads)
+dotted_reads = many_reads (is dot) (preceded_rule dot part_rule) (preceded (is dot) read_part) (leading_written dot part_rule) (leading_reads dot (is dot) part_rule read_part (sign_test Dot) part_reads)
 
 pub all_parts : (parts : List Letters) → many_fits any_part parts ≡ true
 all_parts [] = refl
@@ -41,7 +41,7 @@ pub path_reads : Reads path_rule read_path
 path_reads = changed_reads path_of (sequence_rule name_rule dotted_rule) path_rule (sequence read_name read_dotted) path_changes (sequence_reads name_rule dotted_rule read_name read_dotted name_reads dotted_reads)
 
 abbrev component_path_parts : Rule Symbol (Letters × List Letters)
-component_path_parts = sequence_rule name_rule (leading_rule dot (separated_rule dot (is dot) part_rule))
+component_path_parts = sequence_rule name_rule (preceded_rule dot (separated_rule dot (is dot) part_rule))
 
 component_path_fits_of : (found : Letters × List Letters) → component_path_parts.fits found ≡ true → component_path_fits (path_of found) ≡ true
 component_path_fits_of (variable, []) f = absurd (true≢false (sym (and_parts (is_name variable) false f).1))
@@ -64,13 +64,13 @@ component_path_changes : Changes path_of component_path_parts component_path_rul
 component_path_changes = record { fits = component_path_fits_of; spelling = component_path_spelled; ends = component_path_ended; back = component_path_back }
 
 pub component_path_reads : Reads component_path_rule read_component_path
-component_path_reads = changed_reads path_of component_path_parts component_path_rule (sequence read_name (leading (is dot) (separated (is dot) read_part))) component_path_changes
-    (sequence_reads name_rule (leading_rule dot (separated_rule dot (is dot) part_rule)) read_name (leading (is dot) (separated (is dot) read_part)) name_reads
+component_path_reads = changed_reads path_of component_path_parts component_path_rule (sequence read_name (preceded (is dot) (separated (is dot) read_part))) component_path_changes
+    (sequence_reads name_rule (preceded_rule dot (separated_rule dot (is dot) part_rule)) read_name (preceded (is dot) (separated (is dot) read_part)) name_reads
     (leading_reads dot (is dot) (separated_rule dot (is dot) part_rule) (separated (is dot) read_part) (sign_test Dot) (separated_reads dot (is dot) part_rule read_part (sign_test Dot) part_reads)))
 
 -- Literals and paths.
 behind_name_reads : Reads behind_name_rule behind_name
-behind_name_reads = choice_reads (is hash) (leading_rule hash part_rule) dotted_rule (leading (is hash) read_part) read_dotted (leading_reads hash (is hash) part_rule read_part (sign_test Hash) part_reads) dotted_reads
+behind_name_reads = choice_reads (is hash) (preceded_rule hash part_rule) dotted_rule (preceded (is hash) read_part) read_dotted (leading_reads hash (is hash) part_rule read_part (sign_test Hash) part_reads) dotted_reads
 
 abbrev atom_parts : Rule Symbol (Literal ⊎ (Letters × (Letters ⊎ List Letters)))
 atom_parts = choice_rule is_constant (one_rule constant_fits constant_symbol) (sequence_rule name_rule behind_name_rule)

@@ -8,7 +8,7 @@ use Rattle.herm_syntax.specs.Trees.{Module}
 use Rattle.herm_syntax.specs.Spelling.{file}
 use Rattle.herm_syntax.specs.Fitting.{IsFile, file_fits}
 use Rattle.herm_syntax.specs.ReadModules.{anything, file_rule, read_file}
-use Rattle.herm_syntax.specs.Laws.{IsWithinRoom, read_within, FileIsFound, FileIsAgain, FaultBegins, FaultIsFirst, FaultHasNoFile}
+use Rattle.herm_syntax.specs.laws.GrammarLaws.{IsWithinRoom, read_within, FileIsFound, FileIsAgain, FaultBegins, FaultIsFirst, FaultHasNoFile}
 use Rattle.herm_syntax.proofs.Deeper.{file_deeper}
 use Rattle.herm_syntax.proofs.Files.{file_reads}
 use Rattle.herm_syntax.proofs.Agree.{file_a}

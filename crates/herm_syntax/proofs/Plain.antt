@@ -3,20 +3,21 @@ use Rattle.std.proofs.Common.{◌≡◌, Bool, true, false, not, ◌⊎◌, inl,
 use Rattle.std.proofs.lemmas.Bool.{and_parts, and_from}
 use Rattle.herm_readers.specs.Reader.{Rule, Reads, ahead}
 use Rattle.herm_readers.specs.Combinators.{passes, one, one_rule, many_fits, many_spelling, separated_spelling, separated_ends}
-use Rattle.herm_readers.specs.Laws.{IsTestFor}
+use Rattle.herm_readers.specs.laws.ReaderLaws.{IsTestFor}
 use Rattle.herm_readers.proofs.Simple.{one_reads}
 use Rattle.herm_readers.proofs.Readings.{Reading, nothing_more, turned, with_next, both, led_by, closed_by, either_of, separated_by, separated_end}
-use Rattle.herm_alphabet.specs.Letters.{same_mark}
+use Rattle.herm_alphabet.specs.KeywordLetters.{same_mark}
 use Rattle.herm_alphabet.specs.declared.keyword.Keyword.{Keyword}
 use Rattle.herm_alphabet.specs.declared.sign.Mark.{Mark}
 use Rattle.herm_alphabet.specs.declared.keyword.Keyword.TheVariants.{KwAs, KwCall, KwConnect, KwCreate, KwDiscard, KwDissolve, KwException, KwFrom, KwGet, KwInsert, KwInto, KwLeave, KwMove, KwNew, KwOf, KwRaise, KwReceive, KwRemove, KwReturn, KwReveal, KwSend, KwTo, KwUnite, KwUnwrap, KwWrap}
 use Rattle.herm_alphabet.specs.declared.sign.Mark.TheVariants.{ParenOpen, ParenClose, BraceOpen, BraceClose, BracketOpen, BracketClose, Comma, Semicolon}
 use Rattle.herm_syntax.specs.Symbols.{Symbol, Key, Sign, is, kw_exception, comma}
-use Rattle.herm_syntax.specs.Trees.{Letters, Path, Atom, Transfer, Move, Unite, Dissolve, Wrap, Insert, Connect, Send, Receive, Touch, New, Discard, Reveal, Find, Remove, Get}
-use Rattle.herm_syntax.specs.Spelling.{path, transfer, between, touch, find}
-use Rattle.herm_syntax.specs.Fitting.{first_path_fits, touched_fits}
-use Rattle.herm_syntax.specs.Reading.{name_rule, read_name, part_rule, read_part, path_rule, path_ends, read_path, component_path_ends, atom_rule, read_atom}
-use Rattle.herm_syntax.specs.ReadStatements.{pick_transfer, pick_touch, pick_find, is_transfer, is_touch, is_find, read_first_path, read_touched, listed_of, Plain}
+use Rattle.herm_syntax.specs.Trees.{Letters, Path, Atom}
+use Rattle.herm_syntax.specs.Words.{Transfer, Moving, Uniting, Dissolving, Wrapping, Inserting, Connecting, Sending, Receiving, Touch, Making, Discarding, Revealing, Find, Removing, Getting, transfer, between, touch, find, pick_transfer, pick_touch, pick_find, is_transfer, is_touch, is_find, read_first_path, read_touched}
+use Rattle.herm_syntax.specs.Spelling.{path}
+use Rattle.herm_syntax.specs.Fitting.{path_fits, component_path_fits}
+use Rattle.herm_syntax.specs.ReadExpressions.{name_rule, read_name, part_rule, read_part, path_rule, path_ends, read_path, component_path_ends, atom_rule, read_atom}
+use Rattle.herm_syntax.specs.ReadStatements.{listed_of, Plain}
 use Rattle.herm_syntax.proofs.Names.{keyword_test, sign_test, name_reads, part_reads}
 use Rattle.herm_syntax.proofs.Paths.{path_reads, component_path_reads, atom_reads}
 
@@ -106,116 +107,131 @@ picked_if n v symbol s x tree rest false p e more = more e
 
 pub transfer_from : (x : Symbol) (tree : Transfer) → pick_transfer x ≡ Some tree → x ≡ transfer tree
 transfer_from x tree e =
-    picked_if KwMove Move transfer refl x tree (if is (Key KwUnite) x then Some Unite else (if is (Key KwDissolve) x then Some Dissolve else (if is (Key KwWrap) x then Some Wrap else (if is (Key KwInsert) x then Some Insert else (if is (Key KwConnect) x then Some Connect else (if is (Key KwSend) x then Some Send else (if is (Key KwReceive) x then Some Receive else None))))))) (is (Key KwMove) x) refl e (λ e0.
-    picked_if KwUnite Unite transfer refl x tree (if is (Key KwDissolve) x then Some Dissolve else (if is (Key KwWrap) x then Some Wrap else (if is (Key KwInsert) x then Some Insert else (if is (Key KwConnect) x then Some Connect else (if is (Key KwSend) x then Some Send else (if is (Key KwReceive) x then Some Receive else None)))))) (is (Key KwUnite) x) refl e0 (λ e1.
-    picked_if KwDissolve Dissolve transfer refl x tree (if is (Key KwWrap) x then Some Wrap else (if is (Key KwInsert) x then Some Insert else (if is (Key KwConnect) x then Some Connect else (if is (Key KwSend) x then Some Send else (if is (Key KwReceive) x then Some Receive else None))))) (is (Key KwDissolve) x) refl e1 (λ e2.
-    picked_if KwWrap Wrap transfer refl x tree (if is (Key KwInsert) x then Some Insert else (if is (Key KwConnect) x then Some Connect else (if is (Key KwSend) x then Some Send else (if is (Key KwReceive) x then Some Receive else None)))) (is (Key KwWrap) x) refl e2 (λ e3.
-    picked_if KwInsert Insert transfer refl x tree (if is (Key KwConnect) x then Some Connect else (if is (Key KwSend) x then Some Send else (if is (Key KwReceive) x then Some Receive else None))) (is (Key KwInsert) x) refl e3 (λ e4.
-    picked_if KwConnect Connect transfer refl x tree (if is (Key KwSend) x then Some Send else (if is (Key KwReceive) x then Some Receive else None)) (is (Key KwConnect) x) refl e4 (λ e5.
-    picked_if KwSend Send transfer refl x tree (if is (Key KwReceive) x then Some Receive else None) (is (Key KwSend) x) refl e5 (λ e6.
-    picked_if KwReceive Receive transfer refl x tree None (is (Key KwReceive) x) refl e6 (λ e7.
+    picked_if KwMove Moving transfer refl x tree (if is (Key KwUnite) x then Some Uniting else (if is (Key KwDissolve) x then Some Dissolving else (if is (Key KwWrap) x then Some Wrapping else (if is (Key KwInsert) x then Some Inserting else (if is (Key KwConnect) x then Some Connecting else (if is (Key KwSend) x then Some Sending else (if is (Key KwReceive) x then Some Receiving else None))))))) (is (Key KwMove) x) refl e (λ e0.
+    picked_if KwUnite Uniting transfer refl x tree (if is (Key KwDissolve) x then Some Dissolving else (if is (Key KwWrap) x then Some Wrapping else (if is (Key KwInsert) x then Some Inserting else (if is (Key KwConnect) x then Some Connecting else (if is (Key KwSend) x then Some Sending else (if is (Key KwReceive) x then Some Receiving else None)))))) (is (Key KwUnite) x) refl e0 (λ e1.
+    picked_if KwDissolve Dissolving transfer refl x tree (if is (Key KwWrap) x then Some Wrapping else (if is (Key KwInsert) x then Some Inserting else (if is (Key KwConnect) x then Some Connecting else (if is (Key KwSend) x then Some Sending else (if is (Key KwReceive) x then Some Receiving else None))))) (is (Key KwDissolve) x) refl e1 (λ e2.
+    picked_if KwWrap Wrapping transfer refl x tree (if is (Key KwInsert) x then Some Inserting else (if is (Key KwConnect) x then Some Connecting else (if is (Key KwSend) x then Some Sending else (if is (Key KwReceive) x then Some Receiving else None)))) (is (Key KwWrap) x) refl e2 (λ e3.
+    picked_if KwInsert Inserting transfer refl x tree (if is (Key KwConnect) x then Some Connecting else (if is (Key KwSend) x then Some Sending else (if is (Key KwReceive) x then Some Receiving else None))) (is (Key KwInsert) x) refl e3 (λ e4.
+    picked_if KwConnect Connecting transfer refl x tree (if is (Key KwSend) x then Some Sending else (if is (Key KwReceive) x then Some Receiving else None)) (is (Key KwConnect) x) refl e4 (λ e5.
+    picked_if KwSend Sending transfer refl x tree (if is (Key KwReceive) x then Some Receiving else None) (is (Key KwSend) x) refl e5 (λ e6.
+    picked_if KwReceive Receiving transfer refl x tree None (is (Key KwReceive) x) refl e6 (λ e7.
     absurd (cc)))))))))
 
 pub transfer_back : (tree : Transfer) → pick_transfer (transfer tree) ≡ Some tree
-transfer_back Move = refl
-transfer_back Unite = refl
-transfer_back Dissolve = refl
-transfer_back Wrap = refl
-transfer_back Insert = refl
-transfer_back Connect = refl
-transfer_back Send = refl
-transfer_back Receive = refl
+transfer_back Moving = refl
+transfer_back Uniting = refl
+transfer_back Dissolving = refl
+transfer_back Wrapping = refl
+transfer_back Inserting = refl
+transfer_back Connecting = refl
+transfer_back Sending = refl
+transfer_back Receiving = refl
 
 abbrev pub transfer_r : Reading Symbol Transfer
 transfer_r = record {
   rule = one_rule (λ tree. true) transfer;
   read = one pick_transfer;
-  reads = one_reads (λ tree. true) transfer pick_transfer (record { example = Move; example_fits = refl; from = λ x tree e. (refl, transfer_from x tree e); back = λ tree f. transfer_back tree });
+  reads = one_reads (λ tree. true) transfer pick_transfer (record { example = Moving; example_fits = refl; from = λ x tree e. (refl, transfer_from x tree e); back = λ tree f. transfer_back tree });
 }
 
 pub touch_from : (x : Symbol) (tree : Touch) → pick_touch x ≡ Some tree → x ≡ touch tree
 touch_from x tree e =
-    picked_if KwNew New touch refl x tree (if is (Key KwDiscard) x then Some Discard else (if is (Key KwReveal) x then Some Reveal else None)) (is (Key KwNew) x) refl e (λ e0.
-    picked_if KwDiscard Discard touch refl x tree (if is (Key KwReveal) x then Some Reveal else None) (is (Key KwDiscard) x) refl e0 (λ e1.
-    picked_if KwReveal Reveal touch refl x tree None (is (Key KwReveal) x) refl e1 (λ e2.
+    picked_if KwNew Making touch refl x tree (if is (Key KwDiscard) x then Some Discarding else (if is (Key KwReveal) x then Some Revealing else None)) (is (Key KwNew) x) refl e (λ e0.
+    picked_if KwDiscard Discarding touch refl x tree (if is (Key KwReveal) x then Some Revealing else None) (is (Key KwDiscard) x) refl e0 (λ e1.
+    picked_if KwReveal Revealing touch refl x tree None (is (Key KwReveal) x) refl e1 (λ e2.
     absurd (cc))))
 
 pub touch_back : (tree : Touch) → pick_touch (touch tree) ≡ Some tree
-touch_back New = refl
-touch_back Discard = refl
-touch_back Reveal = refl
+touch_back Making = refl
+touch_back Discarding = refl
+touch_back Revealing = refl
 
 abbrev pub touch_r : Reading Symbol Touch
 touch_r = record {
   rule = one_rule (λ tree. true) touch;
   read = one pick_touch;
-  reads = one_reads (λ tree. true) touch pick_touch (record { example = New; example_fits = refl; from = λ x tree e. (refl, touch_from x tree e); back = λ tree f. touch_back tree });
+  reads = one_reads (λ tree. true) touch pick_touch (record { example = Making; example_fits = refl; from = λ x tree e. (refl, touch_from x tree e); back = λ tree f. touch_back tree });
 }
 
 pub find_from : (x : Symbol) (tree : Find) → pick_find x ≡ Some tree → x ≡ find tree
 find_from x tree e =
-    picked_if KwRemove Remove find refl x tree (if is (Key KwGet) x then Some Get else None) (is (Key KwRemove) x) refl e (λ e0.
-    picked_if KwGet Get find refl x tree None (is (Key KwGet) x) refl e0 (λ e1.
+    picked_if KwRemove Removing find refl x tree (if is (Key KwGet) x then Some Getting else None) (is (Key KwRemove) x) refl e (λ e0.
+    picked_if KwGet Getting find refl x tree None (is (Key KwGet) x) refl e0 (λ e1.
     absurd (cc)))
 
 pub find_back : (tree : Find) → pick_find (find tree) ≡ Some tree
-find_back Remove = refl
-find_back Get = refl
+find_back Removing = refl
+find_back Getting = refl
 
 abbrev pub find_r : Reading Symbol Find
 find_r = record {
   rule = one_rule (λ tree. true) find;
   read = one pick_find;
-  reads = one_reads (λ tree. true) find pick_find (record { example = Remove; example_fits = refl; from = λ x tree e. (refl, find_from x tree e); back = λ tree f. find_back tree });
+  reads = one_reads (λ tree. true) find pick_find (record { example = Removing; example_fits = refl; from = λ x tree e. (refl, find_from x tree e); back = λ tree f. find_back tree });
 }
 
 -- The word between two paths.
 pub between_test : (t : Transfer) → IsTestFor (between t) (is (between t))
-between_test Move = keyword_test KwTo
-between_test Unite = keyword_test KwFrom
-between_test Dissolve = keyword_test KwInto
-between_test Wrap = keyword_test KwAs
-between_test Insert = keyword_test KwInto
-between_test Connect = keyword_test KwTo
-between_test Send = keyword_test KwTo
-between_test Receive = keyword_test KwFrom
+between_test Moving = keyword_test KwTo
+between_test Uniting = keyword_test KwFrom
+between_test Dissolving = keyword_test KwInto
+between_test Wrapping = keyword_test KwAs
+between_test Inserting = keyword_test KwInto
+between_test Connecting = keyword_test KwTo
+between_test Sending = keyword_test KwTo
+between_test Receiving = keyword_test KwFrom
 
 -- The path behind the first word, by that word.
 abbrev pub first_path_ends : Transfer → Path → Option Symbol → Bool
-first_path_ends Move p beyond = path_ends p beyond
-first_path_ends Unite p beyond = component_path_ends p beyond
-first_path_ends Dissolve p beyond = component_path_ends p beyond
-first_path_ends Wrap p beyond = path_ends p beyond
-first_path_ends Insert p beyond = path_ends p beyond
-first_path_ends Connect p beyond = path_ends p beyond
-first_path_ends Send p beyond = path_ends p beyond
-first_path_ends Receive p beyond = path_ends p beyond
+first_path_ends Moving p beyond = path_ends p beyond
+first_path_ends Uniting p beyond = component_path_ends p beyond
+first_path_ends Dissolving p beyond = component_path_ends p beyond
+first_path_ends Wrapping p beyond = path_ends p beyond
+first_path_ends Inserting p beyond = path_ends p beyond
+first_path_ends Connecting p beyond = path_ends p beyond
+first_path_ends Sending p beyond = path_ends p beyond
+first_path_ends Receiving p beyond = path_ends p beyond
+
+abbrev pub first_path_fits : Transfer → Path → Bool
+first_path_fits Moving p = path_fits p
+first_path_fits Uniting p = component_path_fits p
+first_path_fits Dissolving p = component_path_fits p
+first_path_fits Wrapping p = path_fits p
+first_path_fits Inserting p = path_fits p
+first_path_fits Connecting p = path_fits p
+first_path_fits Sending p = path_fits p
+first_path_fits Receiving p = path_fits p
 
 abbrev pub first_path_rule : Transfer → Rule Symbol Path
 first_path_rule t = record { fits = first_path_fits t; spelling = path; ends = first_path_ends t }
 
 pub first_path_reads : (t : Transfer) → Reads (first_path_rule t) (read_first_path t)
-first_path_reads Move = path_reads
-first_path_reads Unite = component_path_reads
-first_path_reads Dissolve = component_path_reads
-first_path_reads Wrap = path_reads
-first_path_reads Insert = path_reads
-first_path_reads Connect = path_reads
-first_path_reads Send = path_reads
-first_path_reads Receive = path_reads
+first_path_reads Moving = path_reads
+first_path_reads Uniting = component_path_reads
+first_path_reads Dissolving = component_path_reads
+first_path_reads Wrapping = path_reads
+first_path_reads Inserting = path_reads
+first_path_reads Connecting = path_reads
+first_path_reads Sending = path_reads
+first_path_reads Receiving = path_reads
 
 abbrev pub touched_ends : Touch → Path → Option Symbol → Bool
-touched_ends New p beyond = path_ends p beyond
-touched_ends Discard p beyond = path_ends p beyond
-touched_ends Reveal p beyond = component_path_ends p beyond
+touched_ends Making p beyond = path_ends p beyond
+touched_ends Discarding p beyond = path_ends p beyond
+touched_ends Revealing p beyond = component_path_ends p beyond
+
+abbrev pub touched_fits : Touch → Path → Bool
+touched_fits Making p = path_fits p
+touched_fits Discarding p = path_fits p
+touched_fits Revealing p = component_path_fits p
 
 abbrev pub touched_rule : Touch → Rule Symbol Path
 touched_rule t = record { fits = touched_fits t; spelling = path; ends = touched_ends t }
 
 pub touched_reads : (t : Touch) → Reads (touched_rule t) (read_touched t)
-touched_reads New = path_reads
-touched_reads Discard = path_reads
-touched_reads Reveal = component_path_reads
+touched_reads Making = path_reads
+touched_reads Discarding = path_reads
+touched_reads Revealing = component_path_reads
 
 abbrev pub first_path_r : Transfer → Reading Symbol Path
 first_path_r t = record { rule = first_path_rule t; read = read_first_path t; reads = first_path_reads t }

@@ -3,7 +3,7 @@ use Rattle.std.proofs.Common.{◌≡◌, ℕ, zero, suc, Bool, true, false, not,
 use Rattle.std.proofs.lemmas.Bool.{and_parts, and_from}
 use Rattle.herm_readers.specs.Reader.{ahead}
 use Rattle.herm_readers.specs.Combinators.{passes}
-use Rattle.herm_alphabet.specs.Letters.{same_mark}
+use Rattle.herm_alphabet.specs.KeywordLetters.{same_mark}
 use Rattle.herm_alphabet.specs.declared.sign.Mark.{Mark}
 use Rattle.herm_alphabet.specs.declared.sign.Mark.TheVariants.{Dot, Hash}
 use Rattle.herm_alphabet.proofs.Keywords.{one_mark}
@@ -11,7 +11,7 @@ use Rattle.herm_syntax.specs.Symbols.{Symbol, Key, Sign, Identifier, Number, Quo
 use Rattle.herm_syntax.specs.Trees.{Expression, Chain, Compare, Unary, Operands, NoOperand, Operand, Comparison, NoComparison, With, Primary, Simple, Size, Paren, TextOf, LengthOf}
 use Rattle.herm_syntax.specs.Spelling.{operands, comparison}
 use Rattle.herm_syntax.specs.Fitting.{expression_fits, operands_fit, comparison_fits}
-use Rattle.herm_syntax.specs.Reading.{expression_ends, operands_end, comparison_ends, primary_ends}
+use Rattle.herm_syntax.specs.ReadExpressions.{expression_ends, operands_end, comparison_ends, primary_ends}
 use Rattle.herm_syntax.proofs.Paths.{atom_stops}
 
 -- Whether what is ahead is of a level above n.

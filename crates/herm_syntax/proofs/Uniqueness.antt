@@ -4,7 +4,7 @@ use Rattle.herm_readers.proofs.Consequences.{one_tree}
 use Rattle.herm_syntax.specs.Symbols.{Symbol}
 use Rattle.herm_syntax.specs.Trees.{Module}
 use Rattle.herm_syntax.specs.ReadModules.{file_rule, read_file}
-use Rattle.herm_syntax.specs.Laws.{HasOneFile}
+use Rattle.herm_syntax.specs.laws.GrammarLaws.{HasOneFile}
 use Rattle.herm_syntax.proofs.Deeper.{file_deeper}
 use Rattle.herm_syntax.proofs.Files.{file_reads}
 

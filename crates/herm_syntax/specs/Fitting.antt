@@ -5,7 +5,7 @@
 use Rattle.std.specs.Prelude.{◌≡◌, ℕ, zero, suc, Bool, true, false, not, ◌&&◌, if◌then◌else◌, List, [], ◌∷◌, Option, Some, None, nat_eq}
 use Rattle.herm_readers.specs.Combinators.{many_fits, separated_fits}
 use Rattle.herm_syntax.specs.Symbols.{Symbol, is, is_operator, is_keyword, minus, kw_not}
-use Rattle.herm_syntax.specs.Trees.{Letters, Path, Literal, Integer, Text, Boolean, Tag, Atom, Constant, Place, Expression, Chain, Compare, Unary, Operands, NoOperand, Operand, Comparison, NoComparison, With, Primary, Simple, Size, Paren, TextOf, LengthOf, Transfer, Move, Unite, Dissolve, Wrap, Insert, Connect, Send, Receive, Touch, New, Discard, Reveal, Statement, Assign, TwoPaths, OnePath, Keyed, Unwrap, Call, Return, ReturnBy, Create, Raise, Leave, Case, For, Select, If, While, Try, Statements, NoStatement, Further, Arms, NoArm, Arm, PortArms, NoPortArm, PortArm, Otherwise, NoElse, Else, Field, Param, Raising, DeclaredFact, InitFact, FullFact, CaseFact, Shape, Names, Fields, Cases, Rows, Inport, Outport, CallMessage, Item, TypeItem, ExceptionItem, Module, Definitions, Process}
+use Rattle.herm_syntax.specs.Trees.{Letters, Path, Literal, Integer, Text, Boolean, Tag, Atom, Constant, Place, Expression, Chain, Compare, Unary, Operands, NoOperand, Operand, Comparison, NoComparison, With, Primary, Simple, Size, Paren, TextOf, LengthOf, Move, Unite, Dissolve, Wrap, Insert, Connect, Send, Receive, New, Discard, Reveal, Statement, Assign, Remove, Get, Unwrap, Call, Return, ReturnBy, Create, Raise, Leave, Case, For, Select, If, While, Try, Statements, NoStatement, Further, Arms, NoArm, Arm, PortArms, NoPortArm, PortArm, Otherwise, NoElse, Else, Field, Param, Raising, DeclaredFact, InitFact, FullFact, CaseFact, Shape, Names, Fields, Cases, Rows, Inport, Outport, CallMessage, Item, TypeItem, ExceptionItem, Module, Definitions, Process}
 
 -- A name has no keyword's letters: language reference, "Names, parts and paths".
 abbrev pub is_name : Letters → Bool
@@ -76,23 +76,6 @@ abbrev mutual
   primary_fits (LengthOf e) zero = false
   primary_fits (LengthOf e) (suc depth) = expression_fits e 5 depth
 
--- `unite` and `dissolve` name a component first: language reference, "Statements".
-abbrev pub first_path_fits : Transfer → Path → Bool
-first_path_fits Move p = path_fits p
-first_path_fits Unite p = component_path_fits p
-first_path_fits Dissolve p = component_path_fits p
-first_path_fits Wrap p = path_fits p
-first_path_fits Insert p = path_fits p
-first_path_fits Connect p = path_fits p
-first_path_fits Send p = path_fits p
-first_path_fits Receive p = path_fits p
-
--- `reveal` names a component.
-abbrev pub touched_fits : Touch → Path → Bool
-touched_fits New p = path_fits p
-touched_fits Discard p = path_fits p
-touched_fits Reveal p = component_path_fits p
-
 -- A `case` has an arm, and a `try` a handler.
 abbrev pub has_arm : Arms → Bool
 has_arm NoArm = false
@@ -103,13 +86,24 @@ abbrev pub has_port_arm : PortArms → Bool
 has_port_arm NoPortArm = false
 has_port_arm (PortArm port target body others) = true
 
--- Statements by their parts; those of a block stand one deeper: language reference, "Statements".
+-- Statements by their parts; `unite`, `dissolve` and `reveal` name a component first, and the statements of a block
+-- stand one deeper: language reference, "Statements".
 abbrev mutual
   pub statement_fits : Statement → ℕ → Bool
   statement_fits (Assign x e) depth = path_fits x && expression_fits e 5 depth
-  statement_fits (TwoPaths t first second) depth = first_path_fits t first && path_fits second
-  statement_fits (OnePath t p) depth = touched_fits t p
-  statement_fits (Keyed f r t keys) depth = path_fits r && (path_fits t && separated_fits atom_fits keys)
+  statement_fits (Move y x) depth = path_fits y && path_fits x
+  statement_fits (Unite v y) depth = component_path_fits v && path_fits y
+  statement_fits (Dissolve v y) depth = component_path_fits v && path_fits y
+  statement_fits (Wrap y p) depth = path_fits y && path_fits p
+  statement_fits (Insert r t) depth = path_fits r && path_fits t
+  statement_fits (Connect o i) depth = path_fits o && path_fits i
+  statement_fits (Send x o) depth = path_fits x && path_fits o
+  statement_fits (Receive x i) depth = path_fits x && path_fits i
+  statement_fits (New x) depth = path_fits x
+  statement_fits (Discard x) depth = path_fits x
+  statement_fits (Reveal v) depth = component_path_fits v
+  statement_fits (Remove r t keys) depth = path_fits r && (path_fits t && separated_fits atom_fits keys)
+  statement_fits (Get r t keys) depth = path_fits r && (path_fits t && separated_fits atom_fits keys)
   statement_fits (Unwrap p name y) depth = path_fits p && (is_name name && path_fits y)
   statement_fits (Call o arguments) depth = path_fits o && many_fits atom_fits arguments
   statement_fits (Return m) depth = path_fits m

@@ -3,9 +3,10 @@ pub mod Symbols
 pub mod Trees
 pub mod Spelling
 pub mod Fitting
-pub mod Reading
+pub mod Words
 pub mod ReadStatements
 pub mod ReadModules
-pub mod Laws
 pub mod Views
-pub mod Examples
+pub mod laws
+pub mod examples
+pub mod ReadExpressions

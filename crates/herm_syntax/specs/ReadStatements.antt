@@ -1,47 +1,21 @@
 -- The readers of statements, and where the reading of one ends: language reference, "Grammar".
-use Rattle.std.specs.Prelude.{ℕ, zero, suc, Bool, true, not, ◌&&◌, ◌⊎◌, if◌then◌else◌, List, [], ◌∷◌, Option, Some, None, is_some}
+use Rattle.std.specs.Prelude.{ℕ, zero, suc, Bool, true, not, ◌&&◌, ◌⊎◌, if◌then◌else◌, List, [], ◌∷◌, Option, None}
 use mathlib.Core.Logic.{inl, inr}
 use Rattle.herm_readers.specs.Reader.{Reader, Rule, ahead}
-use Rattle.herm_readers.specs.Combinators.{passes, nothing, one, changed, depending, sequence, leading, closing, choice, many, separated}
-use Rattle.herm_syntax.specs.Symbols.{Symbol, is, kw_as, kw_call, kw_case, kw_connect, kw_create, kw_discard, kw_dissolve, kw_else, kw_exception, kw_for, kw_from, kw_get, kw_if, kw_in, kw_insert, kw_into, kw_leave, kw_move, kw_new, kw_of, kw_on, kw_raise, kw_receive, kw_remove, kw_return, kw_reveal, kw_select, kw_send, kw_try, kw_unite, kw_unwrap, kw_when, kw_while, kw_wrap, paren_open, paren_close, brace_open, brace_close, bracket_open, bracket_close, comma, semicolon, becomes}
-use Rattle.herm_syntax.specs.Trees.{Letters, Path, Atom, Expression, Transfer, Move, Unite, Dissolve, Wrap, Insert, Connect, Send, Receive, Touch, New, Discard, Reveal, Find, Remove, Get, Statement, Assign, TwoPaths, OnePath, Keyed, Unwrap, Call, Return, ReturnBy, Create, Raise, Leave, Case, For, Select, If, While, Try, Statements, NoStatement, Further, Arms, NoArm, Arm, PortArms, NoPortArm, PortArm, Otherwise, NoElse, Else}
-use Rattle.herm_syntax.specs.Spelling.{between, statement, statements}
+use Rattle.herm_readers.specs.Combinators.{passes, nothing, one, mapped, and_then, sequence, preceded, terminated, choice, many, separated}
+use Rattle.herm_syntax.specs.Symbols.{Symbol, is, kw_as, kw_call, kw_case, kw_create, kw_else, kw_exception, kw_for, kw_from, kw_if, kw_in, kw_into, kw_leave, kw_of, kw_on, kw_raise, kw_receive, kw_return, kw_select, kw_try, kw_unwrap, kw_when, kw_while, paren_open, paren_close, brace_open, brace_close, bracket_open, bracket_close, comma, semicolon, becomes}
+use Rattle.herm_syntax.specs.Trees.{Letters, Path, Atom, Expression, Move, Unite, Dissolve, Wrap, Insert, Connect, Send, Receive, New, Discard, Reveal, Remove, Get, Statement, Assign, Unwrap, Call, Return, ReturnBy, Create, Raise, Leave, Case, For, Select, If, While, Try, Statements, NoStatement, Further, Arms, NoArm, Arm, PortArms, NoPortArm, PortArm, Otherwise, NoElse, Else}
+use Rattle.herm_syntax.specs.Spelling.{statement, statements}
 use Rattle.herm_syntax.specs.Fitting.{statement_fits, statements_fit}
-use Rattle.herm_syntax.specs.Reading.{read_name, read_part, read_path, read_component_path, read_atom, read_expression}
-
--- The statements that begin with one of a few keywords.
-abbrev pub pick_transfer : Symbol → Option Transfer
-pick_transfer x =
-    if is kw_move x then Some Move else
-    if is kw_unite x then Some Unite else
-    if is kw_dissolve x then Some Dissolve else
-    if is kw_wrap x then Some Wrap else
-    if is kw_insert x then Some Insert else
-    if is kw_connect x then Some Connect else
-    if is kw_send x then Some Send else
-    if is kw_receive x then Some Receive else None
-
-abbrev pub pick_touch : Symbol → Option Touch
-pick_touch x = if is kw_new x then Some New else if is kw_discard x then Some Discard else if is kw_reveal x then Some Reveal else None
-
-abbrev pub pick_find : Symbol → Option Find
-pick_find x = if is kw_remove x then Some Remove else if is kw_get x then Some Get else None
-
-abbrev pub is_transfer : Symbol → Bool
-is_transfer x = is_some (pick_transfer x)
-
-abbrev pub is_touch : Symbol → Bool
-is_touch x = is_some (pick_touch x)
-
-abbrev pub is_find : Symbol → Bool
-is_find x = is_some (pick_find x)
+use Rattle.herm_syntax.specs.ReadExpressions.{read_name, read_part, read_path, read_atom, read_expression}
+use Rattle.herm_syntax.specs.Words.{Transfer, Touch, Find, two_paths, one_path, keyed, between, pick_transfer, pick_touch, pick_find, is_transfer, is_touch, is_find, read_first_path, read_touched}
 
 -- A `;` at the end, and what stands in braces.
 abbrev pub read_end : Reader Symbol (Unit {0})
-read_end = leading (is semicolon) nothing
+read_end = preceded (is semicolon) nothing
 
 abbrev pub in_braces : {A : Type 0} → Reader Symbol A → Reader Symbol A
-in_braces read = leading (is brace_open) (closing (is brace_close) read)
+in_braces read = preceded (is brace_open) (terminated (is brace_close) read)
 
 -- Items with commas, none where the closing sign stands at once.
 abbrev pub listed_of : {A : Type 0} → Unit {0} ⊎ List A → List A
@@ -49,64 +23,49 @@ listed_of (inl none) = []
 listed_of (inr items) = items
 
 abbrev pub listed : {A : Type 0} → Symbol → Reader Symbol A → Reader Symbol (List A)
-listed close item = changed listed_of (choice (is close) nothing (separated (is comma) item))
-
-abbrev pub read_first_path : Transfer → Reader Symbol Path
-read_first_path Move = read_path
-read_first_path Unite = read_component_path
-read_first_path Dissolve = read_component_path
-read_first_path Wrap = read_path
-read_first_path Insert = read_path
-read_first_path Connect = read_path
-read_first_path Send = read_path
-read_first_path Receive = read_path
-
-abbrev pub read_touched : Touch → Reader Symbol Path
-read_touched New = read_path
-read_touched Discard = read_path
-read_touched Reveal = read_component_path
+listed close item = mapped listed_of (choice (is close) nothing (separated (is comma) item))
 
 -- The statements without statements in them.
 abbrev pub read_two_paths : Reader Symbol (Transfer × (Path × Path))
-read_two_paths = depending (one pick_transfer) (λ t. sequence (read_first_path t) (leading (is (between t)) (closing (is semicolon) read_path)))
+read_two_paths = and_then (one pick_transfer) (λ t. sequence (read_first_path t) (preceded (is (between t)) (terminated (is semicolon) read_path)))
 
 abbrev pub read_one_path : Reader Symbol (Touch × Path)
-read_one_path = depending (one pick_touch) (λ t. closing (is semicolon) (read_touched t))
+read_one_path = and_then (one pick_touch) (λ t. terminated (is semicolon) (read_touched t))
 
 abbrev pub read_keyed : Reader Symbol (Find × (Path × (Path × (List Atom × Unit {0}))))
-read_keyed = sequence (one pick_find) (sequence read_path (leading (is kw_from) (sequence read_path
-    (leading (is bracket_open) (sequence (separated (is comma) read_atom) (leading (is bracket_close) read_end))))))
+read_keyed = sequence (one pick_find) (sequence read_path (preceded (is kw_from) (sequence read_path
+    (preceded (is bracket_open) (sequence (separated (is comma) read_atom) (preceded (is bracket_close) read_end))))))
 
 abbrev pub read_unwrap : Reader Symbol (Path × (Letters × Path))
-read_unwrap = leading (is kw_unwrap) (sequence read_path (leading (is kw_as) (sequence read_name (leading (is kw_into) (closing (is semicolon) read_path)))))
+read_unwrap = preceded (is kw_unwrap) (sequence read_path (preceded (is kw_as) (sequence read_name (preceded (is kw_into) (terminated (is semicolon) read_path)))))
 
 abbrev pub read_call : Reader Symbol (Path × (List Atom × Unit {0}))
-read_call = leading (is kw_call) (sequence read_path (leading (is paren_open) (sequence (listed paren_close read_atom) (leading (is paren_close) read_end))))
+read_call = preceded (is kw_call) (sequence read_path (preceded (is paren_open) (sequence (listed paren_close read_atom) (preceded (is paren_close) read_end))))
 
 abbrev pub read_return : Reader Symbol (Path × (Letters ⊎ Unit {0}))
-read_return = leading (is kw_return) (sequence read_path (choice (is kw_exception) (leading (is kw_exception) (closing (is semicolon) read_name)) read_end))
+read_return = preceded (is kw_return) (sequence read_path (choice (is kw_exception) (preceded (is kw_exception) (terminated (is semicolon) read_name)) read_end))
 
 abbrev pub read_create : Reader Symbol (Path × Letters)
-read_create = leading (is kw_create) (sequence read_path (leading (is kw_of) (closing (is semicolon) read_name)))
+read_create = preceded (is kw_create) (sequence read_path (preceded (is kw_of) (terminated (is semicolon) read_name)))
 
 abbrev pub read_raise : Reader Symbol Letters
-read_raise = leading (is kw_raise) (closing (is semicolon) read_name)
+read_raise = preceded (is kw_raise) (terminated (is semicolon) read_name)
 
 abbrev pub read_leave : Reader Symbol (Unit {0})
-read_leave = leading (is kw_leave) read_end
+read_leave = preceded (is kw_leave) read_end
 
 abbrev pub read_assign : Reader Symbol Expression → Reader Symbol (Path × Expression)
-read_assign read = sequence read_path (leading (is becomes) (closing (is semicolon) read))
+read_assign read = sequence read_path (preceded (is becomes) (terminated (is semicolon) read))
 
 -- The arms of a case, of a select and of a try: one and further ones, each led by its keyword.
 abbrev pub read_case_arm : Reader Symbol Statements → Reader Symbol (Letters × Statements)
-read_case_arm read = leading (is kw_when) (sequence read_part (in_braces read))
+read_case_arm read = preceded (is kw_when) (sequence read_part (in_braces read))
 
 abbrev pub read_handler : Reader Symbol Statements → Reader Symbol (Letters × Statements)
-read_handler read = leading (is kw_on) (sequence read_name (in_braces read))
+read_handler read = preceded (is kw_on) (sequence read_name (in_braces read))
 
 abbrev pub read_port_arm : Reader Symbol Statements → Reader Symbol (Path × (Path × Statements))
-read_port_arm read = leading (is kw_when) (sequence read_path (leading (is kw_receive) (sequence read_path (in_braces read))))
+read_port_arm read = preceded (is kw_when) (sequence read_path (preceded (is kw_receive) (sequence read_path (in_braces read))))
 
 abbrev pub arms_of : List (Letters × Statements) → Arms
 arms_of [] = NoArm
@@ -123,39 +82,39 @@ abbrev pub some_port_arms_of : (Path × (Path × Statements)) × List (Path × (
 some_port_arms_of found = port_arms_of (found.0 ∷ found.1)
 
 abbrev pub read_case_arms : Reader Symbol Statements → Reader Symbol Arms
-read_case_arms read = changed some_arms_of (sequence (read_case_arm read) (many (is kw_when) (read_case_arm read)))
+read_case_arms read = mapped some_arms_of (sequence (read_case_arm read) (many (is kw_when) (read_case_arm read)))
 
 abbrev pub read_handlers : Reader Symbol Statements → Reader Symbol Arms
-read_handlers read = changed some_arms_of (sequence (read_handler read) (many (is kw_on) (read_handler read)))
+read_handlers read = mapped some_arms_of (sequence (read_handler read) (many (is kw_on) (read_handler read)))
 
 abbrev pub read_port_arms : Reader Symbol Statements → Reader Symbol PortArms
-read_port_arms read = changed some_port_arms_of (sequence (read_port_arm read) (many (is kw_when) (read_port_arm read)))
+read_port_arms read = mapped some_port_arms_of (sequence (read_port_arm read) (many (is kw_when) (read_port_arm read)))
 
 abbrev pub otherwise_of : Statements ⊎ Unit {0} → Otherwise
 otherwise_of (inl body) = Else body
 otherwise_of (inr none) = NoElse
 
 abbrev pub read_otherwise : Reader Symbol Statements → Reader Symbol Otherwise
-read_otherwise read = changed otherwise_of (choice (is kw_else) (leading (is kw_else) (in_braces read)) nothing)
+read_otherwise read = mapped otherwise_of (choice (is kw_else) (preceded (is kw_else) (in_braces read)) nothing)
 
 -- The statements with statements in them.
 abbrev pub read_case : Reader Symbol Statements → Reader Symbol (Path × Arms)
-read_case read = leading (is kw_case) (sequence read_path (in_braces (read_case_arms read)))
+read_case read = preceded (is kw_case) (sequence read_path (in_braces (read_case_arms read)))
 
 abbrev pub read_for : Reader Symbol Statements → Reader Symbol (Path × (Path × Statements))
-read_for read = leading (is kw_for) (sequence read_path (leading (is kw_in) (sequence read_path (in_braces read))))
+read_for read = preceded (is kw_for) (sequence read_path (preceded (is kw_in) (sequence read_path (in_braces read))))
 
 abbrev pub read_select : Reader Symbol Statements → Reader Symbol PortArms
-read_select read = leading (is kw_select) (in_braces (read_port_arms read))
+read_select read = preceded (is kw_select) (in_braces (read_port_arms read))
 
 abbrev pub read_if : Reader Symbol Expression → Reader Symbol Statements → Reader Symbol (Expression × (Statements × Otherwise))
-read_if read_expression read = leading (is kw_if) (sequence read_expression (leading (is brace_open) (sequence read (leading (is brace_close) (read_otherwise read)))))
+read_if read_expression read = preceded (is kw_if) (sequence read_expression (preceded (is brace_open) (sequence read (preceded (is brace_close) (read_otherwise read)))))
 
 abbrev pub read_while : Reader Symbol Expression → Reader Symbol Statements → Reader Symbol (Expression × Statements)
-read_while read_expression read = leading (is kw_while) (sequence read_expression (in_braces read))
+read_while read_expression read = preceded (is kw_while) (sequence read_expression (in_braces read))
 
 abbrev pub read_try : Reader Symbol Statements → Reader Symbol (Statements × Arms)
-read_try read = leading (is kw_try) (leading (is brace_open) (sequence read (leading (is brace_close) (read_handlers read))))
+read_try read = preceded (is kw_try) (preceded (is brace_open) (sequence read (preceded (is brace_close) (read_handlers read))))
 
 -- A statement, by its first symbol. What begins with no keyword of these is an assignment.
 abbrev pub Plain : Type 0
@@ -170,9 +129,9 @@ return_of m (inl name) = ReturnBy m name
 return_of m (inr none) = Return m
 
 abbrev pub plain_of : Plain → Statement
-plain_of (inl x) = TwoPaths x.0 x.1.0 x.1.1
-plain_of (inr (inl x)) = OnePath x.0 x.1
-plain_of (inr (inr (inl x))) = Keyed x.0 x.1.0 x.1.1.0 x.1.1.1.0
+plain_of (inl x) = two_paths x.0 x.1.0 x.1.1
+plain_of (inr (inl x)) = one_path x.0 x.1
+plain_of (inr (inr (inl x))) = keyed x.0 x.1.0 x.1.1.0 x.1.1.1.0
 plain_of (inr (inr (inr (inl x)))) = Unwrap x.0 x.1.0 x.1.1
 plain_of (inr (inr (inr (inr (inl x))))) = Call x.0 x.1.0
 plain_of (inr (inr (inr (inr (inr (inl x)))))) = return_of x.0 x.1
@@ -213,7 +172,7 @@ statement_of (inl x) = plain_of x
 statement_of (inr x) = compound_of x
 
 abbrev pub read_statement : Reader Symbol Expression → Reader Symbol Statements → Reader Symbol Statement
-read_statement read_expression read = changed statement_of (choice is_plain read_plain (read_compound read_expression read))
+read_statement read_expression read = mapped statement_of (choice is_plain read_plain (read_compound read_expression read))
 
 -- Statements up to the brace that closes their block. At depth 0 there are none.
 abbrev pub inside : Symbol → Bool
@@ -227,8 +186,8 @@ abbrev pub no_statement : Unit {0} → Statements
 no_statement none = NoStatement
 
 abbrev pub read_statements : ℕ → Reader Symbol Statements
-read_statements zero = changed no_statement nothing
-read_statements (suc depth) = changed statements_of (many inside (read_statement (read_expression depth) (read_statements depth)))
+read_statements zero = mapped no_statement nothing
+read_statements (suc depth) = mapped statements_of (many inside (read_statement (read_expression depth) (read_statements depth)))
 
 -- Where the reading of a statement ends: an `else` goes on behind an `if` without one, and an `on` behind a `try`.
 abbrev pub if_ends : Otherwise → Option Symbol → Bool
@@ -237,9 +196,19 @@ if_ends (Else body) beyond = true
 
 abbrev pub statement_ends : Statement → Option Symbol → Bool
 statement_ends (Assign x e) beyond = true
-statement_ends (TwoPaths t first second) beyond = true
-statement_ends (OnePath t p) beyond = true
-statement_ends (Keyed f r t keys) beyond = true
+statement_ends (Move y x) beyond = true
+statement_ends (Unite v y) beyond = true
+statement_ends (Dissolve v y) beyond = true
+statement_ends (Wrap y p) beyond = true
+statement_ends (Insert r t) beyond = true
+statement_ends (Connect o i) beyond = true
+statement_ends (Send x o) beyond = true
+statement_ends (Receive x i) beyond = true
+statement_ends (New x) beyond = true
+statement_ends (Discard x) beyond = true
+statement_ends (Reveal v) beyond = true
+statement_ends (Remove r t keys) beyond = true
+statement_ends (Get r t keys) beyond = true
 statement_ends (Unwrap p name y) beyond = true
 statement_ends (Call o arguments) beyond = true
 statement_ends (Return m) beyond = true

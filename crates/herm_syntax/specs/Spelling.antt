@@ -1,10 +1,10 @@
 -- The symbols that each tree spells: language reference, "Grammar". One clause for each alternative.
 use Rattle.std.specs.Prelude.{true, false, List, [], ◌∷◌, ◌++◌, Option, Some, None}
 use Rattle.herm_readers.specs.Combinators.{many_spelling, separated_spelling}
-use Rattle.herm_alphabet.specs.Letters.{keyword_of}
+use Rattle.herm_alphabet.specs.KeywordLetters.{keyword_of}
 use Rattle.herm_alphabet.specs.declared.keyword.Keyword.{Keyword}
 use Rattle.herm_syntax.specs.Symbols.{Symbol, Key, Identifier, Number, Quoted, kw_as, kw_call, kw_callmessage, kw_case, kw_connect, kw_create, kw_definitions, kw_discard, kw_dissolve, kw_else, kw_enum, kw_exception, kw_false, kw_for, kw_from, kw_full, kw_get, kw_if, kw_in, kw_init, kw_inout, kw_inport, kw_insert, kw_into, kw_key, kw_leave, kw_length, kw_move, kw_new, kw_of, kw_on, kw_out, kw_outport, kw_process, kw_raise, kw_raises, kw_receive, kw_record, kw_remove, kw_return, kw_reveal, kw_select, kw_send, kw_size, kw_table, kw_text, kw_to, kw_true, kw_try, kw_type, kw_unite, kw_unwrap, kw_var, kw_variant, kw_when, kw_while, kw_wrap, paren_open, paren_close, brace_open, brace_close, bracket_open, bracket_close, comma, semicolon, colon, becomes, dot, hash, equal}
-use Rattle.herm_syntax.specs.Trees.{Letters, Path, Literal, Integer, Text, Boolean, Tag, Atom, Constant, Place, Expression, Chain, Compare, Unary, Operands, NoOperand, Operand, Comparison, NoComparison, With, Primary, Simple, Size, Paren, TextOf, LengthOf, Transfer, Move, Unite, Dissolve, Wrap, Insert, Connect, Send, Receive, Touch, New, Discard, Reveal, Find, Remove, Get, Statement, Assign, TwoPaths, OnePath, Keyed, Unwrap, Call, Return, ReturnBy, Create, Raise, Leave, Case, For, Select, If, While, Try, Statements, NoStatement, Further, Arms, NoArm, Arm, PortArms, NoPortArm, PortArm, Otherwise, NoElse, Else, Field, Mode, In, Inout, Out, Param, Raising, DeclaredFact, InitFact, FullFact, CaseFact, Shape, Names, Fields, Cases, Rows, Inport, Outport, CallMessage, Item, TypeItem, ExceptionItem, Module, Definitions, Process}
+use Rattle.herm_syntax.specs.Trees.{Letters, Path, Literal, Integer, Text, Boolean, Tag, Atom, Constant, Place, Expression, Chain, Compare, Unary, Operands, NoOperand, Operand, Comparison, NoComparison, With, Primary, Simple, Size, Paren, TextOf, LengthOf, Move, Unite, Dissolve, Wrap, Insert, Connect, Send, Receive, New, Discard, Reveal, Remove, Get, Statement, Assign, Unwrap, Call, Return, ReturnBy, Create, Raise, Leave, Case, For, Select, If, While, Try, Statements, NoStatement, Further, Arms, NoArm, Arm, PortArms, NoPortArm, PortArm, Otherwise, NoElse, Else, Field, Mode, In, Inout, Out, Param, Raising, DeclaredFact, InitFact, FullFact, CaseFact, Shape, Names, Fields, Cases, Rows, Inport, Outport, CallMessage, Item, TypeItem, ExceptionItem, Module, Definitions, Process}
 
 -- A part is a name, or a keyword with the same letters.
 abbrev pub part_at : Option Keyword → Letters → Symbol
@@ -64,45 +64,23 @@ abbrev mutual
   primary (TextOf e) = kw_text ∷ paren_open ∷ expression e ++ paren_close ∷ []
   primary (LengthOf e) = kw_length ∷ paren_open ∷ expression e ++ paren_close ∷ []
 
--- The word that begins a statement with two paths, and the word between them.
-abbrev pub transfer : Transfer → Symbol
-transfer Move = kw_move
-transfer Unite = kw_unite
-transfer Dissolve = kw_dissolve
-transfer Wrap = kw_wrap
-transfer Insert = kw_insert
-transfer Connect = kw_connect
-transfer Send = kw_send
-transfer Receive = kw_receive
-
-abbrev pub between : Transfer → Symbol
-between Move = kw_to
-between Unite = kw_from
-between Dissolve = kw_into
-between Wrap = kw_as
-between Insert = kw_into
-between Connect = kw_to
-between Send = kw_to
-between Receive = kw_from
-
--- The word that begins a statement with one path.
-abbrev pub touch : Touch → Symbol
-touch New = kw_new
-touch Discard = kw_discard
-touch Reveal = kw_reveal
-
--- The word that begins a statement with keys.
-abbrev pub find : Find → Symbol
-find Remove = kw_remove
-find Get = kw_get
-
 -- Language reference, "Statements".
 abbrev mutual
   pub statement : Statement → List Symbol
   statement (Assign x e) = path x ++ (becomes ∷ expression e ++ (semicolon ∷ []))
-  statement (TwoPaths t first second) = transfer t ∷ path first ++ (between t ∷ path second ++ (semicolon ∷ []))
-  statement (OnePath t p) = touch t ∷ path p ++ semicolon ∷ []
-  statement (Keyed f r t keys) = find f ∷ path r ++ (kw_from ∷ path t ++ (bracket_open ∷ atoms keys ++ (bracket_close ∷ semicolon ∷ [])))
+  statement (Move y x) = kw_move ∷ path y ++ (kw_to ∷ path x ++ (semicolon ∷ []))
+  statement (Unite v y) = kw_unite ∷ path v ++ (kw_from ∷ path y ++ (semicolon ∷ []))
+  statement (Dissolve v y) = kw_dissolve ∷ path v ++ (kw_into ∷ path y ++ (semicolon ∷ []))
+  statement (Wrap y p) = kw_wrap ∷ path y ++ (kw_as ∷ path p ++ (semicolon ∷ []))
+  statement (Insert r t) = kw_insert ∷ path r ++ (kw_into ∷ path t ++ (semicolon ∷ []))
+  statement (Connect o i) = kw_connect ∷ path o ++ (kw_to ∷ path i ++ (semicolon ∷ []))
+  statement (Send x o) = kw_send ∷ path x ++ (kw_to ∷ path o ++ (semicolon ∷ []))
+  statement (Receive x i) = kw_receive ∷ path x ++ (kw_from ∷ path i ++ (semicolon ∷ []))
+  statement (New x) = kw_new ∷ path x ++ semicolon ∷ []
+  statement (Discard x) = kw_discard ∷ path x ++ semicolon ∷ []
+  statement (Reveal v) = kw_reveal ∷ path v ++ semicolon ∷ []
+  statement (Remove r t keys) = kw_remove ∷ path r ++ (kw_from ∷ path t ++ (bracket_open ∷ atoms keys ++ (bracket_close ∷ semicolon ∷ [])))
+  statement (Get r t keys) = kw_get ∷ path r ++ (kw_from ∷ path t ++ (bracket_open ∷ atoms keys ++ (bracket_close ∷ semicolon ∷ [])))
   statement (Unwrap p name y) = kw_unwrap ∷ path p ++ (kw_as ∷ Identifier name ∷ kw_into ∷ path y ++ (semicolon ∷ []))
   statement (Call o arguments) = kw_call ∷ path o ++ (paren_open ∷ atoms arguments ++ (paren_close ∷ semicolon ∷ []))
   statement (Return m) = kw_return ∷ path m ++ semicolon ∷ []

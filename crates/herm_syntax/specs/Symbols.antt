@@ -2,7 +2,7 @@
 -- lexer reads: keywords, names, integers, quoted texts by their content, and signs (language reference, "Tokens").
 use Rattle.std.specs.Prelude.{ℕ, Bool, false, List, is_some, nat_eq}
 use Rattle.herm_readers.specs.Brackets.{Side, Opening, Closing, Neither}
-use Rattle.herm_alphabet.specs.Letters.{keyword_of, same_keyword, same_mark}
+use Rattle.herm_alphabet.specs.KeywordLetters.{keyword_of, same_keyword, same_mark}
 use Rattle.herm_alphabet.specs.declared.keyword.Keyword.{Keyword}
 use Rattle.herm_alphabet.specs.declared.keyword.Keyword.TheVariants.{KwAnd, KwAs, KwCall, KwCallmessage, KwCase, KwConnect, KwCreate, KwDefinitions, KwDiscard, KwDissolve, KwDiv, KwElse, KwEnum, KwException, KwFalse, KwFor, KwFrom, KwFull, KwGet, KwIf, KwIn, KwInit, KwInout, KwInport, KwInsert, KwInto, KwKey, KwLeave, KwLength, KwMod, KwMove, KwNew, KwNot, KwOf, KwOn, KwOr, KwOut, KwOutport, KwProcess, KwRaise, KwRaises, KwReceive, KwRecord, KwRemove, KwReturn, KwReveal, KwSelect, KwSend, KwSize, KwTable, KwText, KwTo, KwTrue, KwTry, KwType, KwUnite, KwUnwrap, KwVar, KwVariant, KwWhen, KwWhile, KwWrap}
 use Rattle.herm_alphabet.specs.declared.sign.Mark.{Mark}

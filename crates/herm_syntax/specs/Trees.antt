@@ -43,22 +43,13 @@ mutual
     TextOf : Expression → Primary
     LengthOf : Expression → Primary
 
--- The statements with two paths, with one, and with keys in brackets.
-pub data Transfer : Type 0 where
-  Move Unite Dissolve Wrap Insert Connect Send Receive : Transfer
-
-pub data Touch : Type 0 where
-  New Discard Reveal : Touch
-
-pub data Find : Type 0 where
-  Remove Get : Find
-
+-- One constructor for each form of statement.
 mutual
   pub data Statement : Type 0 where
     Assign : Path → Expression → Statement
-    TwoPaths : Transfer → Path → Path → Statement
-    OnePath : Touch → Path → Statement
-    Keyed : Find → Path → Path → List Atom → Statement
+    Move Unite Dissolve Wrap Insert Connect Send Receive : Path → Path → Statement
+    New Discard Reveal : Path → Statement
+    Remove Get : Path → Path → List Atom → Statement
     Unwrap : Path → Letters → Path → Statement
     Call : Path → List Atom → Statement
     Return : Path → Statement

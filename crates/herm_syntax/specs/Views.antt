@@ -41,7 +41,7 @@ use Rattle.herm_syntax.specs.declared.statements.StmtForm.{StmtForm}
 use Rattle.herm_syntax.specs.declared.statements.StmtForm.TheBlock as forms
 use Rattle.herm_base.specs.declared.word.Name.{Name}
 use Rattle.herm_syntax.specs.Symbols.{Symbol, kw_and, kw_or, kw_not, kw_div, kw_mod, equal, unequal, less, at_most, greater, at_least, plus, minus, star, ampersand}
-use Rattle.herm_syntax.specs.Trees.{Letters, Path, Literal, Integer, Text, Boolean, Tag, Atom, Constant, Place, Expression, Chain, Compare, Unary, Operands, NoOperand, Operand, Comparison, NoComparison, With, Primary, Simple, Size, Paren, TextOf, LengthOf, Move, Unite, Dissolve, Wrap, Insert, Connect, Send, Receive, New, Discard, Reveal, Remove, Get, Statement, Assign, TwoPaths, OnePath, Keyed, Unwrap, Call, Return, ReturnBy, Create, Raise, Leave, Case, For, Select, If, While, Try, Statements, NoStatement, Further, Arms, NoArm, Arm, PortArms, NoPortArm, PortArm, Otherwise, NoElse, Else, Field, Mode, In, Inout, Out, Param, Raising, DeclaredFact, InitFact, FullFact, CaseFact, Shape, Names, Fields, Cases, Rows, Inport, Outport, CallMessage, Item, TypeItem, ExceptionItem, Module, Definitions, Process}
+use Rattle.herm_syntax.specs.Trees.{Letters, Path, Literal, Integer, Text, Boolean, Tag, Atom, Constant, Place, Expression, Chain, Compare, Unary, Operands, NoOperand, Operand, Comparison, NoComparison, With, Primary, Simple, Size, Paren, TextOf, LengthOf, Move, Unite, Dissolve, Wrap, Insert, Connect, Send, Receive, New, Discard, Reveal, Remove, Get, Statement, Assign, Unwrap, Call, Return, ReturnBy, Create, Raise, Leave, Case, For, Select, If, While, Try, Statements, NoStatement, Further, Arms, NoArm, Arm, PortArms, NoPortArm, PortArm, Otherwise, NoElse, Else, Field, Mode, In, Inout, Out, Param, Raising, DeclaredFact, InitFact, FullFact, CaseFact, Shape, Names, Fields, Cases, Rows, Inport, Outport, CallMessage, Item, TypeItem, ExceptionItem, Module, Definitions, Process}
 
 abbrev pub letters : Name → Letters
 letters n = n.text
@@ -101,7 +101,7 @@ abbrev mutual
 
   pub compared_of : expressions.Held-Comp-right → Comparison
   compared_of expressions.None' = NoComparison
-  compared_of (expressions.Some' operator right) = With (compare_symbol operator) (sum_of right)
+  compared_of (expressions.Some' operator pointer right) = With (compare_symbol operator) (sum_of right)
 
   pub sum_of : Sum → Expression
   sum_of (expressions.struct-Sum first shape rest) = Chain (product_of first) (products_of rest)
@@ -128,22 +128,22 @@ abbrev mutual
 abbrev mutual
   pub statement_of : StmtForm → Statement
   statement_of (forms.Assign x e) = Assign (path_of x) (expression_of e)
-  statement_of (forms.Move y x) = TwoPaths Move (path_of y) (path_of x)
-  statement_of (forms.New x) = OnePath New (path_of x)
-  statement_of (forms.Discard x) = OnePath Discard (path_of x)
-  statement_of (forms.Unite v y) = TwoPaths Unite (path_of v) (path_of y)
-  statement_of (forms.Dissolve v y) = TwoPaths Dissolve (path_of v) (path_of y)
-  statement_of (forms.Reveal v) = OnePath Reveal (path_of v)
+  statement_of (forms.Move y x) = Move (path_of y) (path_of x)
+  statement_of (forms.New x) = New (path_of x)
+  statement_of (forms.Discard x) = Discard (path_of x)
+  statement_of (forms.Unite v y) = Unite (path_of v) (path_of y)
+  statement_of (forms.Dissolve v y) = Dissolve (path_of v) (path_of y)
+  statement_of (forms.Reveal v) = Reveal (path_of v)
   statement_of (forms.Case' v shape arms) = Case (path_of v) (arms_of arms)
-  statement_of (forms.Wrap y p) = TwoPaths Wrap (path_of y) (path_of p)
+  statement_of (forms.Wrap y p) = Wrap (path_of y) (path_of p)
   statement_of (forms.Unwrap p name y) = Unwrap (path_of p) (letters name) (path_of y)
-  statement_of (forms.Insert r t) = TwoPaths Insert (path_of r) (path_of t)
-  statement_of (forms.Remove r t keys) = Keyed Remove (path_of r) (path_of t) (map atom_of keys.items)
-  statement_of (forms.Get r t keys) = Keyed Get (path_of r) (path_of t) (map atom_of keys.items)
+  statement_of (forms.Insert r t) = Insert (path_of r) (path_of t)
+  statement_of (forms.Remove r t keys) = Remove (path_of r) (path_of t) (map atom_of keys.items)
+  statement_of (forms.Get r t keys) = Get (path_of r) (path_of t) (map atom_of keys.items)
   statement_of (forms.For' r t shape body) = For (path_of r) (path_of t) (statements_of body)
-  statement_of (forms.Connect o i) = TwoPaths Connect (path_of o) (path_of i)
-  statement_of (forms.Send x o) = TwoPaths Send (path_of x) (path_of o)
-  statement_of (forms.Receive x i) = TwoPaths Receive (path_of x) (path_of i)
+  statement_of (forms.Connect o i) = Connect (path_of o) (path_of i)
+  statement_of (forms.Send x o) = Send (path_of x) (path_of o)
+  statement_of (forms.Receive x i) = Receive (path_of x) (path_of i)
   statement_of (forms.Select' shape arms) = Select (port_arms_of arms)
   statement_of (forms.Call o arguments) = Call (path_of o) (map atom_of arguments.items)
   statement_of (forms.Return m) = Return (path_of m)

@@ -44,7 +44,7 @@ pub struct Conj {
 #[cycle(expressions)]
 pub struct Comp {
     pub left: Sum,
-    pub right: Option<(CompOp, Sum)>,
+    pub right: Option<(CompOp, Box<Sum>)>,
 }
 
 /// Operands of `+`, `-` and `&`, each behind its operator.

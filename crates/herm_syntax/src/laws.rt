@@ -1,6 +1,6 @@
 //! Laws of the grammar. No function here does any work: each states a law, which the check proves.
-ghost use Rattle.herm_syntax.specs.Examples.{Expressions, Plain, Compound, Items, Files, Fitting, Words};
-ghost use Rattle.herm_syntax.specs.Laws.{ExpressionsAreRead, StatementsAreRead, FilesAreRead, FileIsFound, FileIsAgain, FaultBegins, FaultIsFirst, FaultHasNoFile, HasOneFile, HasOneProgram};
+ghost use Rattle.herm_syntax.specs.examples.ExampleTrees.{Expressions, Plain, Compound, Items, Files, Fitting, Words};
+ghost use Rattle.herm_syntax.specs.laws.GrammarLaws.{ExpressionsAreRead, StatementsAreRead, FilesAreRead, FileIsFound, FileIsAgain, FaultBegins, FaultBeginsSource, FaultIsFirst, FaultHasNoFile, HasOneFile, HasOneProgram};
 
 /// The readers of expressions read the rules of expressions, all seven levels, however deep they
 /// stand in one another: what is read is spelled so, what is spelled so is read, and a fault stands
@@ -27,9 +27,11 @@ pub fn files_within_room_are_read()
 {}
 
 /// The place of a fault, where the symbols have room: the symbols before it begin a file, those up to
-/// it, with it, begin none, and no file has exactly these symbols.
+/// it, with it, begin none, and no file has exactly these symbols. Where the symbols are ones that tokens
+/// of a source file can be, those before the fault begin a file that has such symbols alone.
 pub fn faults_have_their_place()
     ensures begins { FaultBegins }
+    ensures source { FaultBeginsSource }
     ensures first { FaultIsFirst }
     ensures none { FaultHasNoFile }
 {}

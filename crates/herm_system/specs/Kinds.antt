@@ -1,10 +1,10 @@
 -- The cells of a system by their kinds: those that are not finalised, and those that stand at places with types.
 use Rattle.std.specs.Prelude.{ℕ, List, [], ◌∷◌, ◌++◌, flat_map, Bool, false, ◌&&◌, nat_eq, Option, slice_get, option_map}
-use Rattle.herm_model.specs.Lists.{list_of, numbered, some_of}
+use Rattle.herm_model.specs.Lists.{list_of, numbered, any_pass}
 use Rattle.herm_model.specs.Types.{TypeTable}
 use Rattle.herm_model.specs.Values.{Name, Kind, a_callmessage, an_inport, Cell, cell, Parts, no_parts, gap, part}
 pub use Rattle.herm_journal.specs.PartTypes.{PartTypes, each, all_of, part_types, part_types_at}
-use Rattle.herm_journal.specs.Places.{Port, left_in, Replies}
+use Rattle.herm_journal.specs.PlaceStates.{Port, left_in, Replies}
 use Rattle.herm_journal.specs.Messages.{CellReply, cells_in, message_of_port, types_of_reply}
 use Rattle.herm_system.specs.Machines.{Held, OpenCall, Machine}
 use Rattle.herm_system.specs.Systems.{System, numbered_from_one, console_port}
@@ -94,7 +94,7 @@ open_number machine x = option_map (λ (call : OpenCall). call.number) (machine.
 
 -- process p has this call open
 abbrev pub has_open : {P : Type 0} → Machine Name P → System P → ℕ → ℕ → Bool
-has_open machine s p k = some_of (λ x. some_of (nat_eq k) (list_of (λ call. call ∷ []) (open_number machine x))) (list_of (λ x. x ∷ []) (numbered_from_one p s.processes))
+has_open machine s p k = any_pass (λ x. any_pass (nat_eq k) (list_of (λ call. call ∷ []) (open_number machine x))) (list_of (λ x. x ∷ []) (numbered_from_one p s.processes))
 
 abbrev pub is_open_port : {P : Type 0} → System P → ℕ → Bool
-is_open_port s n = some_of (λ (p : Port (Cell Name)). p.is_open) (list_of (λ p. p ∷ []) (slice_get s.ports n))
+is_open_port s n = any_pass (λ (p : Port (Cell Name)). p.is_open) (list_of (λ p. p ∷ []) (slice_get s.ports n))

@@ -5,5 +5,10 @@ pub mod Ledger
 pub mod Statuses
 pub mod Kinds
 pub mod Sound
-pub mod Along
 pub mod Reports
+pub mod Lines
+pub mod Summary
+pub mod RunTexts
+pub mod DiaryStates
+pub mod Suiting
+pub mod ProcessFates

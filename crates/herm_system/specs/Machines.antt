@@ -47,7 +47,7 @@ pub record Machine (N P : Type 0) : Type 0 where
   -- a process of this module begins with its number and its port; none where there is no such module
   pub begin : (code number : ℕ) → Cell N → Option P
   -- the module that a process runs, and the process's number
-  pub code : P → ℕ
+  pub module_number : P → ℕ
   pub number : P → ℕ
   -- how many cells it has made, and how many steps and actions
   pub serial : P → ℕ

@@ -1,13 +1,17 @@
 -- What a report says of a run.
 use Rattle.std.specs.Prelude.{ℕ, List, [], ◌++◌, Some, ◌≡◌}
 use Rattle.herm_model.specs.Values.{Name}
-use Rattle.herm_journal.specs.Places.{Limits}
+use Rattle.herm_journal.specs.PlaceStates.{Limits}
 use Rattle.herm_journal.specs.Entries.{Text, Entry}
-use Rattle.herm_journal.specs.Journals.{IsRising, IsStamped}
+use Rattle.herm_journal.specs.Journals.{IsRising}
+use Rattle.herm_journal.specs.Stamps.{IsStamped}
 use Rattle.herm_system.specs.Machines.{Machine}
 use Rattle.herm_system.specs.Systems.{System, opening, Event, run, numbered_from_one, IsFinal}
 use Rattle.herm_system.specs.Ledger.{HasLedger, IsMadeOnce}
-use Rattle.herm_system.specs.Statuses.{Fate, fates, status_of, queues, Counts, counts, Asked, plainly, text_of_run}
+use Rattle.herm_system.specs.Statuses.{status_of}
+use Rattle.herm_system.specs.RunTexts.{queues, Asked, plainly, text_of_run}
+use Rattle.herm_system.specs.Summary.{Counts, counts}
+use Rattle.herm_system.specs.ProcessFates.{Fate, fates}
 use Rattle.herm_system.specs.Sound.{IsSoundFor}
 
 -- The entries in order are actions that lead from one state to another, with the local steps of processes between

@@ -3,12 +3,12 @@ use Rattle.std.specs.Prelude.{ℕ, suc, ◌+◌, List, Bool, cond, nat_eq, Some,
 use Rattle.herm_model.specs.Lists.{IsIn}
 use Rattle.herm_model.specs.Calls.{led_to}
 use Rattle.herm_model.specs.Values.{Name, a_callmessage, an_inport, an_outport, Cell}
-use Rattle.herm_journal.specs.Places.{Port, left_in}
+use Rattle.herm_journal.specs.PlaceStates.{Port, left_in}
 use Rattle.herm_journal.specs.Messages.{CellReply, is_inport, IsMessage, IsReplyTo}
 use Rattle.herm_system.specs.Machines.{OpenCall, Machine}
 use Rattle.herm_system.specs.Systems.{System, numbered_from_one}
 use Rattle.herm_system.specs.Ledger.{HasLedger, IsMadeOnce}
-use Rattle.herm_system.specs.Statuses.{how_many}
+use Rattle.herm_system.specs.Summary.{how_many}
 use Rattle.herm_system.specs.Kinds.{unfinalised, typed_cells, replies_of, is_inport_of, is_callmessage_of, has_open, is_open_port}
 
 abbrev pub one_if : Bool → ℕ
@@ -20,7 +20,7 @@ console_type = 4
 
 -- a process of this number runs a module that there is
 abbrev pub RunsModule : {P : Type 0} → Machine Name P → ℕ → P → Type 0
-RunsModule {P} machine p x = (port : Cell Name) × (first : P) × (machine.begin (machine.code x) p port ≡ Some first)
+RunsModule {P} machine p x = (port : Cell Name) × (first : P) × (machine.begin (machine.module_number x) p port ≡ Some first)
 
 -- Numbers agree: a process has its number, its module and a reply cell, and the book counts what was made.
 pub record IsNumbered {P : Type 0} (machine : Machine Name P) (s : System P) : Type 0 where

@@ -1,11 +1,11 @@
 -- The whole system: processes, ports, reply cells and the book; its opening state, its events, its journal and runs.
 use Rattle.std.specs.Prelude.{ℕ, zero, suc, List, [], ◌∷◌, ◌++◌, map, Bool, true, false, cond, Option, Some, None, is_some, option_map, option_and_then, slice_get, slice_set, length, ◌≡◌, ◌||◌}
-use Rattle.herm_model.specs.Lists.{some_of, list_of}
+use Rattle.herm_model.specs.Lists.{any_pass, list_of}
 use Rattle.herm_model.specs.Values.{Name, a_scalar, a_text, a_record, an_inport, an_outport, Cell, cell, no_parts, part}
 use Rattle.herm_journal.specs.Actions.{Want, new_port, new_process, to_put, to_take, to_close, to_answer, to_hear, Action, make_port, make_process, put, take, close, answer, hear}
-use Rattle.herm_journal.specs.Places.{Port, empty_port, port_with, number_for, first_of, left_in, Replies, Limits, Book, first_book, next_port, next_process, Holding, a_port, replies, a_book, after}
+use Rattle.herm_journal.specs.PlaceStates.{Port, empty_port, port_with, number_for, first_of, left_in, Replies, Limits, Book, first_book, next_port, next_process, PlaceState, a_port, replies, a_book, after}
 use Rattle.herm_journal.specs.Entries.{Text, Place, port, reply_cell, book, same_place, Entry, recorded}
-use Rattle.herm_journal.specs.Journals.{entry_behind}
+use Rattle.herm_journal.specs.Stamps.{entry_behind}
 use Rattle.herm_journal.specs.Messages.{CellReply, CellWant, CellAction}
 use Rattle.herm_system.specs.Machines.{Machine, Standing, ended, out_of_steps, out_of_actions, waiting, local, acting, is_local, is_acting, inport_of}
 
@@ -53,12 +53,12 @@ set_from_one zero x xs = xs
 set_from_one (suc i) x xs = slice_set xs i x
 
 -- what is at a place, where there is such a place
-abbrev pub holding_at : {P : Type 0} → Place → System P → Option (Holding (Cell Name) (CellReply Name))
+abbrev pub holding_at : {P : Type 0} → Place → System P → Option (PlaceState (Cell Name) (CellReply Name))
 holding_at (port n) s = option_map a_port (slice_get s.ports n)
 holding_at (reply_cell p) s = option_map replies (numbered_from_one p s.replies)
 holding_at book s = Some (a_book s.book)
 
-abbrev pub set_holding : {P : Type 0} → Place → Holding (Cell Name) (CellReply Name) → System P → System P
+abbrev pub set_holding : {P : Type 0} → Place → PlaceState (Cell Name) (CellReply Name) → System P → System P
 set_holding (port n) (a_port p) s = record s { ports = slice_set s.ports n p }
 set_holding (reply_cell p) (replies rs) s = record s { replies = set_from_one p rs s.replies }
 set_holding book (a_book b) s = record s { book = b }
@@ -76,7 +76,7 @@ places_for p to_hear = reply_cell p ∷ []
 
 -- What is done there of what is wanted, with the answer; none where nothing can be done there now.
 -- Language reference, "Actions".
-abbrev pub done_at : {M R : Type 0} → Want M R → Holding M R → Option (Action M R)
+abbrev pub done_at : {M R : Type 0} → Want M R → PlaceState M R → Option (Action M R)
 done_at new_port (a_book b) = Some (make_port (next_port b))
 done_at (new_process code) (a_book b) = Some (make_process code (next_process b))
 done_at (to_put n m) (a_port p) = Some (put (number_for p) m)
@@ -91,7 +91,7 @@ done_in w s place = option_and_then (done_at w) (holding_at place s)
 
 -- something of what is wanted can be done now
 abbrev pub can : {P : Type 0} → System P → (process : ℕ) → CellWant Name → Bool
-can s p w = some_of (λ place. is_some (done_in w s place)) (places_for p w)
+can s p w = any_pass (λ place. is_some (done_in w s place)) (places_for p w)
 
 -- whether what is wanted can be done, by a test; an action that wants nothing is tried
 abbrev pub can_be_done : {N : Type 0} → (CellWant N → Bool) → Option (CellWant N) → Bool
@@ -116,7 +116,7 @@ abbrev pub standing_of : {P : Type 0} → Machine Name P → System P → ℕ �
 standing_of machine s p = option_map (standing machine s.book.limits.steps (can s p)) (numbered_from_one p s.processes)
 
 abbrev pub stands : {P : Type 0} → (Standing → Bool) → Machine Name P → System P → ℕ → Bool
-stands test machine s p = some_of test (list_of (λ x. x ∷ []) (standing_of machine s p))
+stands test machine s p = any_pass test (list_of (λ x. x ∷ []) (standing_of machine s p))
 
 abbrev pub set_process : {P : Type 0} → ℕ → P → System P → System P
 set_process p x s = record s { processes = set_from_one p x s.processes }
@@ -159,7 +159,7 @@ local_event machine p s =
     None
 
 -- what an action that a process has done leaves, where this was at its place before
-abbrev pub behind_action : {P : Type 0} → Machine Name P → ℕ → Place → System P → P → Holding (Cell Name) (CellReply Name) → CellAction Name → Option (Moved P)
+abbrev pub behind_action : {P : Type 0} → Machine Name P → ℕ → Place → System P → P → PlaceState (Cell Name) (CellReply Name) → CellAction Name → Option (Moved P)
 behind_action machine p place s x h a =
     option_and_then
     (λ y. option_map (λ t. record { system = t; done = Some a }) (with_made machine x a (set_process p y (set_holding place (after a h) s))))
@@ -168,7 +168,7 @@ behind_action machine p place s x h a =
 -- what is wanted is done at a place, if it may be done there
 abbrev pub act_at : {P : Type 0} → Machine Name P → ℕ → Place → System P → P → CellWant Name → Option (Moved P)
 act_at machine p place s x w =
-    cond (some_of (same_place place) (places_for p w))
+    cond (any_pass (same_place place) (places_for p w))
     (option_and_then (λ h. option_and_then (behind_action machine p place s x h) (done_at w h)) (holding_at place s))
     None
 

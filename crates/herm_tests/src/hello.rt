@@ -78,18 +78,98 @@ fn a_failing_write_cuts_the_text_off(rt: HostRuntime) -> Result<(), Fail> {
 }
 
 #[test]
-fn other_files_are_not_built(rt: HostRuntime) -> Result<(), Fail> {
-    let rows: [(&str, &[u8]); 4] = [
-        ("empty", b""),
-        ("a comment", b"-- hi"),
-        ("cut", b"process main(start: main_start) {"),
-        ("an empty body", b"process main(start: main_start) { }"),
+fn other_files_are_refused(rt: HostRuntime) -> Result<(), Fail> {
+    let rows: [(&str, &[u8], &[u8]); 7] = [
+        ("empty", b"", b"a.hm:1:1: F12 not built\n"),
+        ("a comment", b"-- hi", b"a.hm:1:1: F12 not built\n"),
+        (
+            "cut",
+            b"process main(start: main_start) {",
+            b"a.hm:1:34: F4 syntax\n",
+        ),
+        (
+            "cut before a comment",
+            b"process main(start: main_start) { send -- x\n",
+            b"a.hm:1:39: F4 syntax\n",
+        ),
+        ("closed", b"\n } {", b"a.hm:2:2: F4 syntax\n"),
+        (
+            "nested",
+            b"\n((((((((((((((((((((((((((((((((((((((((((((((((((((((((((((((((((",
+            b"a.hm:2:65: F5 nesting\n",
+        ),
+        (
+            "an empty body",
+            b"process main(start: main_start) { }",
+            b"a.hm:1:1: F12 not built\n",
+        ),
     ];
-    for (about, bytes) in rows {
+    for (about, bytes, text) in rows {
         let files: [(&str, &[u8]); 1] = [("a.hm", bytes)];
         let got = call(rt.alloc(), &["run", "a.hm"], &plain(&files))?;
-        ends(&rt, &got, 1, b"a.hm:1:1: F12 not built\n", about);
+        ends(&rt, &got, 1, text, about);
         assert!(rt; got.0.report.is_none());
+    }
+    Ok(())
+}
+
+const WRONG_TYPES: &[u8] = b"definitions d {
+  type a = record { x: b };
+  type c = record { x: c };
+  type f = record { k: integer };
+  type e = table of f key (y);
+}
+";
+
+const WRONG_KEPT: &[u8] = b"definitions d {
+  exception Busy;
+  type ask = callmessage (in q: string, inout w: string) raises (Busy {full(q)});
+}
+";
+
+#[test]
+fn definitions_are_refused_at_their_names(rt: HostRuntime) -> Result<(), Fail> {
+    let rows: [(&str, &[u8], &[u8]); 4] = [
+        (
+            "three codes",
+            WRONG_TYPES,
+            b"a.hm:2:24: F6 unknown\na.hm:3:8: F8 cycle\na.hm:5:28: F10 bad key\n",
+        ),
+        ("an input kept", WRONG_KEPT, b"a.hm:3:8: F11 bad state\n"),
+        (
+            "twice",
+            b"definitions d { exception E; } definitions e { type integer = enum {a, a}; exception E; }",
+            b"a.hm:1:53: F7 twice\na.hm:1:72: F7 twice\na.hm:1:86: F7 twice\n",
+        ),
+        (
+            "two that reach each other",
+            b"definitions d { type a = table of b key (k); type b = record {k: integer, x: a}; }",
+            b"a.hm:1:22: F8 cycle\na.hm:1:51: F8 cycle\n",
+        ),
+    ];
+    for (about, bytes, text) in rows {
+        let files: [(&str, &[u8]); 1] = [("a.hm", bytes)];
+        let got = call(rt.alloc(), &["run", "a.hm"], &plain(&files))?;
+        ends(&rt, &got, 1, text, about);
+        assert!(rt; got.0.report.is_none());
+    }
+    Ok(())
+}
+
+#[test]
+fn the_greeting_cut_at_any_byte_has_one_fault(rt: HostRuntime) -> Result<(), Fail> {
+    let brace = HELLO.iter().rposition(|byte| *byte == b'}');
+    for length in 1..brace.unwrap_or(0) {
+        let files: [(&str, &[u8]); 1] = [("a.hm", &HELLO[..length])];
+        let got = call(rt.alloc(), &["run", "a.hm"], &plain(&files))?;
+        assert_eq!(rt; got.0.status, 1);
+        let line = got.1.as_slice();
+        assert!(rt;
+            line.ends_with(b": F4 syntax\n") || line.ends_with(b": F2 token\n"),
+            "{length}"
+        );
+        let lines = line.iter().filter(|byte| **byte == b'\n').count();
+        assert_eq!(rt; lines, 1, "{length}");
     }
     Ok(())
 }

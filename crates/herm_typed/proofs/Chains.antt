@@ -2,7 +2,7 @@
 use Rattle.std.proofs.Math.Seq.{drop-cons}
 use Rattle.std.proofs.Common.{◌≡◌, ℕ, ◌+◌, ◌<◌, length, drop, get_or, add-one, List, [], ◌∷◌, map, Bool, true, false, ◌||◌, Option, Some, None, refl, sym, ap, ap₂, ◌∙◌}
 use denote.Hole.Carrier
-use Rattle.herm_model.specs.Expressions.{Expression, Operator, either, both, operation, is_arithmetic, is_joining, can_overflow, can_deplete}
+use Rattle.herm_model.specs.Expressions.{Expression, Operator, logical_or, logical_and, operation, is_arithmetic, is_joining, can_overflow, can_deplete}
 use Rattle.herm_typed.specs.declared.expressions.TypedProd.{TypedProd, out-TypedProd}
 use Rattle.herm_typed.specs.declared.expressions.TypedSum.{TypedSum, out-TypedSum}
 use Rattle.herm_typed.specs.declared.expressions.TypedConj.{TypedConj, out-TypedConj}
@@ -58,25 +58,25 @@ sum_chain (expressions.struct-TypedSum first shape rest) =
     sum_rows rest (product_expression_view first)
     ∙ ap (λ items. chained (product_expression_view first) (map (λ o. (sum_view o.0, product_expression_view o.1)) items)) (sym (expressions.items_shown-the_row-TypedSum-rest-2-3 shape rest))
 
-both_rows : {m : _} (rest : expressions.Row_of-TypedComp m) (left : Expression) → both_view rest left ≡ chained left (map (λ c. (both, comparison_view c)) (expressions.items-the_row-TypedComp m rest))
+both_rows : {m : _} (rest : expressions.Row_of-TypedComp m) (left : Expression) → both_view rest left ≡ chained left (map (λ c. (logical_and, comparison_view c)) (expressions.items-the_row-TypedComp m rest))
 both_rows expressions.end_of-TypedComp left = refl
-both_rows (expressions.more_of-TypedComp c rest) left = both_rows rest (operation both left (comparison_view c))
+both_rows (expressions.more_of-TypedComp c rest) left = both_rows rest (operation logical_and left (comparison_view c))
 
-pub conjunction_chain : (n : TypedConj) → conjunction_view n ≡ chained (comparison_view (out-TypedConj n).first) (map (λ c. (both, comparison_view c)) (out-TypedConj n).rest.items)
+pub conjunction_chain : (n : TypedConj) → conjunction_view n ≡ chained (comparison_view (out-TypedConj n).first) (map (λ c. (logical_and, comparison_view c)) (out-TypedConj n).rest.items)
 unfolding out-TypedConj denote.Hole.Carrier.out
 conjunction_chain (expressions.struct-TypedConj first shape rest) =
     both_rows rest (comparison_view first)
-    ∙ ap (λ items. chained (comparison_view first) (map (λ c. (both, comparison_view c)) items)) (sym (expressions.items_shown-the_row-TypedComp-0 shape rest))
+    ∙ ap (λ items. chained (comparison_view first) (map (λ c. (logical_and, comparison_view c)) items)) (sym (expressions.items_shown-the_row-TypedComp-0 shape rest))
 
-either_rows : {m : _} (rest : expressions.Row_of-TypedConj m) (left : Expression) → either_view rest left ≡ chained left (map (λ c. (either, conjunction_view c)) (expressions.items-the_row-TypedConj m rest))
+either_rows : {m : _} (rest : expressions.Row_of-TypedConj m) (left : Expression) → either_view rest left ≡ chained left (map (λ c. (logical_or, conjunction_view c)) (expressions.items-the_row-TypedConj m rest))
 either_rows expressions.end_of-TypedConj left = refl
-either_rows (expressions.more_of-TypedConj c rest) left = either_rows rest (operation either left (conjunction_view c))
+either_rows (expressions.more_of-TypedConj c rest) left = either_rows rest (operation logical_or left (conjunction_view c))
 
-pub expression_chain : (n : TypedExpr) → expression_view n ≡ chained (conjunction_view (out-TypedExpr n).first) (map (λ c. (either, conjunction_view c)) (out-TypedExpr n).rest.items)
+pub expression_chain : (n : TypedExpr) → expression_view n ≡ chained (conjunction_view (out-TypedExpr n).first) (map (λ c. (logical_or, conjunction_view c)) (out-TypedExpr n).rest.items)
 unfolding out-TypedExpr denote.Hole.Carrier.out
 expression_chain (expressions.struct-TypedExpr first shape rest) =
     either_rows rest (conjunction_view first)
-    ∙ ap (λ items. chained (conjunction_view first) (map (λ c. (either, conjunction_view c)) items)) (sym (expressions.items_shown-the_row-TypedConj-1 shape rest))
+    ∙ ap (λ items. chained (conjunction_view first) (map (λ c. (logical_or, conjunction_view c)) items)) (sym (expressions.items_shown-the_row-TypedConj-1 shape rest))
 
 -- a list of operands goes on one by one
 pub each_step : {X : Type 0} (f : X → Raises) (a : Raises) (xs : List X) (i : ℕ) (d : X) → i < length xs → raised_each a (map f (drop i xs)) ≡ raised_each (raised_together a (f (get_or xs i d))) (map f (drop (i + 1) xs))
@@ -99,8 +99,8 @@ product_raises n = chained-raises (λ o. (product_view o.0, unary_view o.1)) (un
 pub sum_raises : (n : TypedSum) → raised_each (raises_of (product_expression_view (out-TypedSum n).first)) (map (λ o. raises_behind (sum_view o.0) (product_expression_view o.1)) (out-TypedSum n).rest.items) ≡ raises_of (sum_expression_view n)
 sum_raises n = chained-raises (λ o. (sum_view o.0, product_expression_view o.1)) (product_expression_view (out-TypedSum n).first) (out-TypedSum n).rest.items ∙ ap raises_of (sym (sum_chain n))
 
-pub conjunction_raises : (n : TypedConj) → raised_each (raises_of (comparison_view (out-TypedConj n).first)) (map (λ o. raises_behind both (comparison_view o)) (out-TypedConj n).rest.items) ≡ raises_of (conjunction_view n)
-conjunction_raises n = chained-raises (λ o. (both, comparison_view o)) (comparison_view (out-TypedConj n).first) (out-TypedConj n).rest.items ∙ ap raises_of (sym (conjunction_chain n))
+pub conjunction_raises : (n : TypedConj) → raised_each (raises_of (comparison_view (out-TypedConj n).first)) (map (λ o. raises_behind logical_and (comparison_view o)) (out-TypedConj n).rest.items) ≡ raises_of (conjunction_view n)
+conjunction_raises n = chained-raises (λ o. (logical_and, comparison_view o)) (comparison_view (out-TypedConj n).first) (out-TypedConj n).rest.items ∙ ap raises_of (sym (conjunction_chain n))
 
-pub expression_chain_raises : (n : TypedExpr) → raised_each (raises_of (conjunction_view (out-TypedExpr n).first)) (map (λ o. raises_behind either (conjunction_view o)) (out-TypedExpr n).rest.items) ≡ raises_of (expression_view n)
-expression_chain_raises n = chained-raises (λ o. (either, conjunction_view o)) (conjunction_view (out-TypedExpr n).first) (out-TypedExpr n).rest.items ∙ ap raises_of (sym (expression_chain n))
+pub expression_chain_raises : (n : TypedExpr) → raised_each (raises_of (conjunction_view (out-TypedExpr n).first)) (map (λ o. raises_behind logical_or (conjunction_view o)) (out-TypedExpr n).rest.items) ≡ raises_of (expression_view n)
+expression_chain_raises n = chained-raises (λ o. (logical_or, conjunction_view o)) (conjunction_view (out-TypedExpr n).first) (out-TypedExpr n).rest.items ∙ ap raises_of (sym (expression_chain n))

@@ -61,8 +61,8 @@ product_view products.Div = model.divided
 product_view products.Mod = model.modulo
 
 abbrev pub sign_view : UnaryOp → model.Expression → model.Expression
-sign_view signs.Neg e = model.negated e
-sign_view signs.Not e = model.inverted e
+sign_view signs.Neg e = model.negation e
+sign_view signs.Not e = model.logical_not e
 
 abbrev pub signed_view : Option UnaryOp → model.Expression → model.Expression
 signed_view None e = e
@@ -75,14 +75,14 @@ abbrev mutual
 
   pub either_view : {m : _} → expressions.Row_of-TypedConj m → model.Expression → model.Expression
   either_view expressions.end_of-TypedConj left = left
-  either_view (expressions.more_of-TypedConj c rest) left = either_view rest (model.operation model.either left (conjunction_view c))
+  either_view (expressions.more_of-TypedConj c rest) left = either_view rest (model.operation model.logical_or left (conjunction_view c))
 
   pub conjunction_view : TypedConj → model.Expression
   conjunction_view (expressions.struct-TypedConj first shape rest) = both_view rest (comparison_view first)
 
   pub both_view : {m : _} → expressions.Row_of-TypedComp m → model.Expression → model.Expression
   both_view expressions.end_of-TypedComp left = left
-  both_view (expressions.more_of-TypedComp c rest) left = both_view rest (model.operation model.both left (comparison_view c))
+  both_view (expressions.more_of-TypedComp c rest) left = both_view rest (model.operation model.logical_and left (comparison_view c))
 
   pub comparison_view : TypedComp → model.Expression
   comparison_view (expressions.struct-TypedComp left right) = compared_view right (sum_expression_view left)

@@ -1,6 +1,6 @@
 //! Which exceptions expressions can raise.
 ghost use Rattle.std.specs.Prelude.{◌≡◌, map};
-ghost use Rattle.herm_model.specs.Expressions.{either, both};
+ghost use Rattle.herm_model.specs.Expressions.{logical_or, logical_and};
 ghost use Rattle.herm_typed.specs.Views.{sum_view, product_view, signed_view, expression_view, conjunction_view, comparison_view, sum_expression_view, product_expression_view, primary_view};
 ghost use Rattle.herm_typed.specs.Raising.{none_raised, raised_together, raised_each, raises_of, raises_by, raises_behind, raised_signed, unary_view};
 
@@ -170,7 +170,7 @@ fn comparison(e: &TypedComp) -> Raises
 /// What operands of `and` add.
 #[cycle(raising)]
 fn and_operands(found: Raises, operands: &[TypedComp]) -> Raises
-    ensures { result ≡ raised_each found (map (λ o. raises_behind both (comparison_view o)) operands.now) }
+    ensures { result ≡ raised_each found (map (λ o. raises_behind logical_and (comparison_view o)) operands.now) }
 {
     let mut found = found;
     'ands: for e in operands {
@@ -191,7 +191,7 @@ fn conjunction(e: &TypedConj) -> Raises
 /// What operands of `or` add.
 #[cycle(raising)]
 fn or_operands(found: Raises, operands: &[TypedConj]) -> Raises
-    ensures { result ≡ raised_each found (map (λ o. raises_behind either (conjunction_view o)) operands.now) }
+    ensures { result ≡ raised_each found (map (λ o. raises_behind logical_or (conjunction_view o)) operands.now) }
 {
     let mut found = found;
     'ors: for e in operands {

@@ -4,9 +4,9 @@ use Rattle.std.specs.Prelude.{◌==◌}
 use Rattle.std.proofs.lemmas.Bool.{eqb-true}
 use Rattle.std.proofs.lemmas.Option.{slice_get-get_or}
 use Rattle.herm_model.specs.Paths as model
-use Rattle.herm_model.specs.Types.{TypeTable, steps, steps_within, all_parts, full_parts, greatest_depth, inport}
+use Rattle.herm_model.specs.Types.{TypeTable, part_paths, part_paths_within, all_parts, full_parts, greatest_depth, inport}
 use Rattle.herm_model.specs.Facts.{full_facts, said_at, message_of, message_facts, declared_facts, with_prefixes, without_repeats}
-use Rattle.herm_model.specs.Lists.{with_some, list_of}
+use Rattle.herm_model.specs.Lists.{map_or, list_of}
 use Rattle.herm_model.specs.WellFormedTables.{IsWellFormedTable}
 use Rattle.herm_meaning.specs.Names.{NamedTable}
 use Rattle.herm_types.specs.declared.paths.Choice.{Choice}
@@ -22,7 +22,7 @@ pub shallow : (exceptions : ℕ) (table : TypeTable) (t : ℕ) → IsWellFormedT
 unfolding IsShallow
 shallow exceptions table t good l = good.shallow t (known table t l)
 
-pub started : (c : Choice) (table : TypeTable) (t : ℕ) (from at : List ℕ) (before out : List (List ℕ)) → at ≡ from → before ≡ [] → out ≡ before ++ map (at ++◌) (steps_within (chosen c) greatest_depth table t) → out ≡ map (from ++◌) (paths_through c table t)
+pub started : (c : Choice) (table : TypeTable) (t : ℕ) (from at : List ℕ) (before out : List (List ℕ)) → at ≡ from → before ≡ [] → out ≡ before ++ map (at ++◌) (part_paths_within (chosen c) greatest_depth table t) → out ≡ map (from ++◌) (paths_through c table t)
 unfolding paths_through
 started c table t from at before out a b e = e ∙ rw (a, b) refl
 
@@ -30,27 +30,27 @@ map-nothing : (xs : List (List ℕ)) → map ([] ++◌) xs ≡ xs
 map-nothing [] = refl
 map-nothing (x ∷ xs) = ap (x ∷◌) (map-nothing xs)
 
-pub all-paths : (table : TypeTable) (t : ℕ) (out : List (List ℕ)) → out ≡ map ([] ++◌) (paths_through All table t) → out ≡ steps all_parts table t
+pub all-paths : (table : TypeTable) (t : ℕ) (out : List (List ℕ)) → out ≡ map ([] ++◌) (paths_through All table t) → out ≡ part_paths all_parts table t
 unfolding paths_through
-all-paths table t out e = e ∙ map-nothing (steps all_parts table t)
+all-paths table t out e = e ∙ map-nothing (part_paths all_parts table t)
 
 pub full-facts : (table : TypeTable) (t v : ℕ) (from : List ℕ) (facts : List model.Fact) (out : List (List ℕ)) → out ≡ map (from ++◌) (paths_through Full table t) → facts ≡ map (λ q. model.init (v ∷ q)) out → facts ≡ full_facts table t (v ∷ from)
 unfolding paths_through
-full-facts table t v from facts out e f = f ∙ (ap (map (λ q. model.init (v ∷ q))) e ∙ map-map (λ q. model.init (v ∷ q)) (from ++◌) (λ q. model.init (v ∷ (from ++ q))) (steps full_parts table t) (λ q. refl))
+full-facts table t v from facts out e f = f ∙ (ap (map (λ q. model.init (v ∷ q))) e ∙ map-map (λ q. model.init (v ∷ q)) (from ++◌) (λ q. model.init (v ∷ (from ++ q))) (part_paths full_parts table t) (λ q. refl))
 
 -- ---- declared facts
 
 said-full : (table : TypeTable) (t : ℕ) (p : model.Path) → full_facts table t p ≡ map (said_at p) (full_facts table t (0 ∷ []))
-said-full table t p = sym (map-map (said_at p) (λ q. model.init ((0 ∷ []) ++ q)) (λ q. model.init (p ++ q)) (steps full_parts table t) (λ q. refl))
+said-full table t p = sym (map-map (said_at p) (λ q. model.init ((0 ∷ []) ++ q)) (λ q. model.init (p ++ q)) (part_paths full_parts table t) (λ q. refl))
 
 pub declared-full : (table : TypeTable) (t message : ℕ) (p : model.Path) (declared : List model.Fact) (out : List model.Fact) → slice_get table t ≡ Some (inport message declared) → declared ≡ [] → out ≡ full_facts table message p → out ≡ declared_facts table t p
 declared-full table t message p declared out e none o =
-    o ∙ (said-full table message p ∙ sym (ap (with_some [] (λ s. list_of (λ m. map (said_at p) (message_facts table m.0 m.1)) (message_of s))) (e ∙ ap (λ ds. Some (inport message ds)) none)))
+    o ∙ (said-full table message p ∙ sym (ap (map_or [] (λ s. list_of (λ m. map (said_at p) (message_facts table m.0 m.1)) (message_of s))) (e ∙ ap (λ ds. Some (inport message ds)) none)))
 
 pub declared-listed : (table : TypeTable) (t message : ℕ) (p : model.Path) (declared : List model.Fact) (out distinct listed : List model.Fact) → slice_get table t ≡ Some (inport message declared) → (declared ≡ [] → ⊥) → listed ≡ model.init (0 ∷ []) ∷ flat_map (with_prefixes table (message ∷ [])) declared → distinct ≡ without_repeats listed → out ≡ map (said_at p) distinct → out ≡ declared_facts table t p
 declared-listed table t message p [] out distinct listed e some l d o = absurd (some refl)
 declared-listed table t message p (f ∷ declared) out distinct listed e some l d o =
-    o ∙ (ap (map (said_at p)) (d ∙ ap without_repeats l) ∙ sym (ap (with_some [] (λ s. list_of (λ m. map (said_at p) (message_facts table m.0 m.1)) (message_of s))) e))
+    o ∙ (ap (map (said_at p)) (d ∙ ap without_repeats l) ∙ sym (ap (map_or [] (λ s. list_of (λ m. map (said_at p) (message_facts table m.0 m.1)) (message_of s))) e))
 
 pub empty-is : {X : Type 0} (f : X → model.Fact) (xs : List X) → true ≡ (length xs == 0) → map f xs ≡ []
 empty-is f [] e = refl

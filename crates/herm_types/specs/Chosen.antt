@@ -19,7 +19,7 @@ chosen Full = types.full_parts
 
 -- the paths that go on from a path through each of these parts, of at most so many types on the way
 abbrev pub onward : Choice → ℕ → types.TypeTable → List ℕ → List (ℕ × ℕ) → List (List ℕ)
-onward choice n table at parts = flat_map (λ part. map ((at ++ part.0 ∷ []) ++◌) (types.steps_within (chosen choice) n table part.1)) parts
+onward choice n table at parts = flat_map (λ part. map ((at ++ part.0 ∷ []) ++◌) (types.part_paths_within (chosen choice) n table part.1)) parts
 
 -- how many parts a shape has
 abbrev pub width : Shape → ℕ
@@ -42,4 +42,4 @@ IsShallow table t = IsTrue (types.is_within_depth types.greatest_depth table t)
 
 -- the paths through chosen parts
 unfoldable pub paths_through : Choice → types.TypeTable → ℕ → List (List ℕ)
-paths_through c table t = types.steps (chosen c) table t
+paths_through c table t = types.part_paths (chosen c) table t

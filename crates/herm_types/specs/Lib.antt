@@ -3,3 +3,4 @@ pub mod View
 pub mod Table
 pub mod Chosen
 pub mod Messages
+pub mod Sample

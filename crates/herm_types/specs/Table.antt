@@ -1,7 +1,8 @@
 -- What a table of types of the code stands for, and what it keeps.
 use Rattle.std.specs.Prelude.{ℕ, List, [], ◌∷◌, map, Bool, true, false, slice_get, Some, ◌≡◌, ◌↔◌, ◌&&◌, ◌||◌, IsTrue, length, ◌<◌, ◌^◌}
 use Rattle.herm_model.specs.Types as types
-use Rattle.herm_model.specs.Lists.{with_some, every}
+use Rattle.herm_model.specs.Copyable as copyable
+use Rattle.herm_model.specs.Lists.{map_or, all_pass}
 use Rattle.herm_syntax.specs.Trees.{Letters}
 use Rattle.herm_meaning.specs.Names.{NamedTable, behind_predefined, IsWellNamed}
 use Rattle.herm_types.specs.declared.shape.Shape.{Shape}
@@ -25,20 +26,25 @@ table_view a = table_of a.names.items a.shapes.items a.exceptions.items
 
 -- what a list of tests says of a type
 abbrev pub says : List Bool → ℕ → Bool
-says tests t = with_some false (λ b. b) (slice_get tests t)
+says tests t = map_or false (λ b. b) (slice_get tests t)
 
 -- whether a type of this shape is copyable where the tests say it of the types that it names
 abbrev pub copies : List Bool → types.Shape → Bool
-copies tests s = types.is_plain s || (types.is_composed s && every (says tests) (types.named_types s))
+copies tests s = copyable.is_plain s || (copyable.is_composed s && all_pass (says tests) (types.named_types s))
 
 -- the tests say which types are copyable within so many types on the way
 abbrev pub SayCopyable : ℕ → types.TypeTable → List Bool → Type 0
-SayCopyable n table tests = (t : ℕ) → says tests t ≡ types.is_copyable_within n table t
+SayCopyable n table tests = (t : ℕ) → says tests t ≡ copyable.is_copyable_within n table t
+
+-- the numbers of types are of 32 bits, and those of each type's parts
+pub record IsSized (t : NamedTable) : Type 0 where
+  pub few : length t.shapes < 2 ^ 32
+  pub few_parts : (t' : ℕ) (names : List Letters) → slice_get t.parts t' ≡ Some names → length names < 2 ^ 32
 
 -- A table is well formed, its names are found by their bytes, and its tests say which types are copyable.
 pub record IsKept (a : Inside) : Type 0 where
   pub well_named : IsWellNamed (table_view a)
-  pub few : length a.names.items < 2 ^ 32
+  pub sized : IsSized (table_view a)
   pub tested : length a.copyable.items ≡ length a.shapes.items
   pub indexed : map (λ k. k.items) a.index.keys ≡ a.names.items
   pub copyable : SayCopyable types.greatest_depth (shapes_view a.shapes.items) a.copyable.items

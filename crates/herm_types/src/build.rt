@@ -1,8 +1,8 @@
 //! Tables are made.
-ghost use Rattle.std.specs.Prelude.{◌≡◌, ◌<◌, ◌^◌, IfOk, OnOk, map, length, ◌++◌};
+ghost use Rattle.std.specs.Prelude.{◌≡◌, IfOk, OnOk, map, ◌++◌};
 ghost use Rattle.herm_model.specs.Statements.{Differ};
 ghost use Rattle.herm_meaning.specs.Names.{IsWellNamed};
-ghost use Rattle.herm_types.specs.Table.{table_of, defined_table};
+ghost use Rattle.herm_types.specs.Table.{table_of, defined_table, IsSized};
 
 use crate::copyable::copyable_of;
 use crate::copying::{copy_shapes, copy_words};
@@ -34,7 +34,7 @@ pub fn assemble(
     exceptions: Vec<Word>,
 ) -> Result<TypeTable, AllocError>
     requires well_named { IsWellNamed (table_of names.items shapes.items exceptions.items) }
-    requires few { length names.items < 2 ^ 32 }
+    requires sized { IsSized (table_of names.items shapes.items exceptions.items) }
     ensures { IfOk result (λ t. t ≡ table_of names.items shapes.items exceptions.items) }
 {
     let copyable = copyable_of(alloc, shapes.as_slice())?;
@@ -82,7 +82,7 @@ impl TypeTable {
         exceptions: Vec<Word>,
     ) -> Result<TypeTable, AllocError>
         requires well_named { IsWellNamed (defined_table defined.items exceptions.items) }
-        requires few { length defined.items < 2 ^ 31 }
+        requires sized { IsSized (defined_table defined.items exceptions.items) }
         ensures { IfOk result (λ t. t ≡ defined_table defined.items exceptions.items) }
     {
         let mut names = predefined_names(alloc)?;

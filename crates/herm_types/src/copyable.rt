@@ -1,7 +1,7 @@
 //! Which types are copyable, for all types at once.
 ghost use Rattle.std.specs.Prelude.{◌≡◌, IfOk, map, length};
 ghost use Rattle.std.specs.List.{list_all};
-ghost use Rattle.herm_model.specs.Lists.{every};
+ghost use Rattle.herm_model.specs.Lists.{all_pass};
 ghost use Rattle.herm_model.specs.Types.{greatest_depth};
 ghost use Rattle.herm_types.specs.View.{shape_view};
 ghost use Rattle.herm_types.specs.Table.{says, copies, SayCopyable, shapes_view};
@@ -31,7 +31,7 @@ fn all_parts(tests: &[bool], parts: &[Part]) -> bool
 
 /// Whether the tests say it of all types of these parts.
 fn every_part(tests: &[bool], parts: &[Part]) -> bool
-    ensures { result ≡ every (says tests.now) (map (λ p. p.of.0) parts.now) }
+    ensures { result ≡ all_pass (says tests.now) (map (λ p. p.of.0) parts.now) }
 {
     all_parts(tests, parts)
 }

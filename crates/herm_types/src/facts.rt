@@ -1,7 +1,7 @@
 //! The facts of full values and of messages.
 ghost use Rattle.std.specs.Prelude.{◌≡◌, ◌<◌, ◌∷◌, IfOk, map, length};
 ghost use Rattle.herm_model.specs.Paths as model;
-ghost use Rattle.herm_model.specs.Types.{all_parts, steps};
+ghost use Rattle.herm_model.specs.Types.{all_parts, part_paths};
 ghost use Rattle.herm_model.specs.Facts.{full_facts, declared_facts};
 ghost use Rattle.herm_types.specs.View.{path_view, fact_view};
 ghost use Rattle.herm_types.specs.Chosen.{lists};
@@ -30,7 +30,7 @@ impl TypeTable {
     /// The paths of a type: its root and the paths of its fields, components or parameters, parents first.
     pub fn record_paths(&self, alloc: Global, t: TypeNo) -> Result<Vec<Vec<u32>>, AllocError>
         requires { t.0 < length self.now.shapes }
-        ensures { IfOk result (λ v. lists v.items ≡ steps all_parts self.now.shapes t.0) }
+        ensures { IfOk result (λ v. lists v.items ≡ part_paths all_parts self.now.shapes t.0) }
     {
         let paths = paths_from(alloc, self.shapes.as_slice(), Choice::All, t, &[])?;
         Ok(paths)

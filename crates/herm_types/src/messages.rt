@@ -2,7 +2,7 @@
 ghost use Rattle.std.specs.Prelude.{◌≡◌, ◌++◌, [], ◌∷◌, false, IfOk, OnOk, map, cond, slice_get, option_map, Some, flat_map};
 ghost use Rattle.std.specs.List.{list_any};
 ghost use Rattle.herm_model.specs.Paths as model;
-ghost use Rattle.herm_model.specs.Lists.{some_of};
+ghost use Rattle.herm_model.specs.Lists.{any_pass};
 ghost use Rattle.herm_model.specs.Types as types;
 ghost use Rattle.herm_model.specs.Facts as facts;
 ghost use Rattle.herm_types.specs.View.{path_view, fact_view, shape_view};
@@ -237,14 +237,14 @@ fn any_same(list: &[Fact], fact: &Fact) -> bool
 
 /// Whether a fact is in the list.
 fn is_listed(list: &[Fact], fact: &Fact) -> bool
-    ensures { result ≡ some_of (λ f. model.same_fact f (fact_view fact.now)) (map fact_view list.now) }
+    ensures { result ≡ any_pass (λ f. model.same_fact f (fact_view fact.now)) (map fact_view list.now) }
 {
     any_same(list, fact)
 }
 
 /// Appends a fact that is not yet in the list.
 fn push_new(list: &mut Vec<Fact>, fact: Fact) -> Result<(), AllocError>
-    ensures { OnOk result (map fact_view list.new.items ≡ map fact_view list.old.items ++ cond (some_of (λ f. model.same_fact f (fact_view fact)) (map fact_view list.old.items)) [] (fact_view fact ∷ [])) }
+    ensures { OnOk result (map fact_view list.new.items ≡ map fact_view list.old.items ++ cond (any_pass (λ f. model.same_fact f (fact_view fact)) (map fact_view list.old.items)) [] (fact_view fact ∷ [])) }
 {
     if is_listed(list.as_slice(), &fact) {
         return Ok(());

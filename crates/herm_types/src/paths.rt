@@ -1,7 +1,7 @@
 //! Paths within types.
 ghost use Rattle.std.specs.Prelude.{◌≡◌, ◌<◌, ◌^◌, ◌++◌, [], ◌∷◌, IfOk, OnOk, map, length, IsTrue, IfSome};
 ghost use Rattle.herm_model.specs.Lists.{numbered};
-ghost use Rattle.herm_model.specs.Types.{all_parts, full_parts, filled, steps_within, is_within_depth};
+ghost use Rattle.herm_model.specs.Types.{all_parts, full_parts, filled, part_paths_within, is_within_depth};
 ghost use Rattle.herm_types.specs.View.{shape_view, param_view};
 ghost use Rattle.herm_types.specs.Table.{shapes_view};
 ghost use Rattle.herm_types.specs.Chosen.{chosen, part_seen, lists, width, FewParts, IsShallow, paths_through};
@@ -124,7 +124,7 @@ fn walk(
     requires within { IsTrue (is_within_depth depth (shapes_view shapes.now) t.0) }
     requires few { FewParts shapes.now }
     ensures at { OnOk result (at.new.items ≡ at.old.items) }
-    ensures out { OnOk result (lists out.new.items ≡ lists out.old.items ++ map (at.old.items ++◌) (steps_within (chosen choice) depth (shapes_view shapes.now) t.0)) }
+    ensures out { OnOk result (lists out.new.items ≡ lists out.old.items ++ map (at.old.items ++◌) (part_paths_within (chosen choice) depth (shapes_view shapes.now) t.0)) }
 {
     let step = Vec::from_slice(alloc, at.as_slice())?;
     out.push(step)?;

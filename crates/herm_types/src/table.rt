@@ -3,7 +3,9 @@ ghost use Rattle.std.specs.Prelude.{◌≡◌, ◌<◌, ◌↔◌, length, map, 
 ghost use Rattle.herm_types.specs.View.{shape_view, parts_view};
 ghost use Rattle.std.specs.List.{position};
 ghost use Rattle.std.specs.Str.{bytes_eq};
-ghost use Rattle.herm_model.specs.Types.{IsCopyable};
+ghost use Rattle.herm_model.specs.Copyable.{IsCopyable};
+ghost use Rattle.herm_meaning.specs.Names.{IsWellNamed};
+ghost use Rattle.herm_types.specs.Table.{IsSized};
 
 use crate::shape::Shape;
 use herm_base::{TypeNo, Word};
@@ -33,6 +35,14 @@ impl Model for TypeTable {
 }
 
 impl TypeTable {
+    /// What every table keeps: the rules of definitions, and numbers of 32 bits. Nothing is done.
+    pub fn keeps(&self)
+        ensures well_named { IsWellNamed self.now }
+        ensures sized { IsSized self.now }
+    {
+        let _count = self.shapes.len();
+    }
+
     /// How many types there are.
     pub fn len(&self) -> usize
         ensures { result ≡ length self.now.shapes }

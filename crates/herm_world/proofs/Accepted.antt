@@ -4,19 +4,20 @@ use Rattle.std.specs.List.{AllByRecursion}
 use Rattle.std.proofs.Math.Seq.{take-append_seam}
 use Rattle.herm_model.specs.Paths.{Fact, init}
 use Rattle.herm_model.specs.Types.{predefined}
-use Rattle.herm_model.specs.Nodes.{node}
-use Rattle.herm_model.specs.Values.{Cell, tells}
-use Rattle.herm_model.specs.Control.{Flow, flow_of, held_at_start, Point, Holds}
+use Rattle.herm_model.specs.Targets.{node}
+use Rattle.herm_model.specs.Values.{Cell}
+use Rattle.herm_model.specs.FactsOfValues.{satisfies}
+use Rattle.herm_model.specs.ControlPaths.{Flow, flow_of, held_at_start, Point, Holds}
 use Rattle.herm_model.specs.Refusals.{AreExact, IsMissing, IsAccepted, AreRefusals, none, missing, holds, Demand, demands, demands_at, Refusal}
 use Rattle.herm_model.specs.Lists.{IsIn, numbered}
 use Rattle.herm_model.proofs.Walks.{walk-common}
 use Rattle.herm_model.proofs.FactTests.{numbered-IsIn}
 use Rattle.herm_model.proofs.Lists.{in-map, in-flat_map}
-use Rattle.herm_forms.specs.Bodies.{Name}
+use Rattle.herm_forms.specs.Frames.{Name}
 use Rattle.herm_journal.specs.Entries.{Text}
-use Rattle.herm_forms.specs.Edges.{code_of}
+use Rattle.herm_forms.specs.Modules.{module_of}
 use Rattle.herm_source.specs.Modules.{Modules}
-use Rattle.herm_source.specs.Headline.{AreAccepted}
+use Rattle.herm_source.specs.AcceptedRuns.{AreAccepted}
 use Rattle.herm_compile.specs.Form.{IsLine, IsBody, IsProgram}
 use Rattle.herm_compile.specs.Reading.{IsNumbered}
 use Rattle.herm_compile.specs.Straight.{variable, process_of, is_held, gap_at, gaps_from, gaps, ok_hops, refusal_of}
@@ -51,7 +52,7 @@ straight-exact lines i f reached =
 
 -- ---- nothing is missing
 
-is-held : (arg : Text) (slots : Slots) (before : List Line) (n : ℕ) (m : Made) → ((f : Fact) → tells (variables_with arg slots) f ≡ carry f (held_at_start f) before) → slot_at n slots ≡ Some m → is_held n false before ≡ true
+is-held : (arg : Text) (slots : Slots) (before : List Line) (n : ℕ) (m : Made) → ((f : Fact) → satisfies (variables_with arg slots) f ≡ carry f (held_at_start f) before) → slot_at n slots ≡ Some m → is_held n false before ≡ true
 is-held arg slots before n m told e =
     sym (string_held n before) ∙ sym (told (init (variable n))) ∙ ap there (part-slot n slots ∙ ap (λ (o : Option Made). option_map string_cell o) e)
   where
@@ -61,7 +62,7 @@ is-held arg slots before n m told e =
 
 module _ (arg : Text) (count : ℕ) where
   no-gaps : (lines before : List Line) (at : ℕ) (p : Progress) → AllByRecursion (IsLine count) lines → FindsStrings (values_of p.slots) lines → length p.slots ≡ count
-      → ((f : Fact) → tells (variables_with arg p.slots) f ≡ carry f (held_at_start f) before) → gaps_from at before lines ≡ []
+      → ((f : Fact) → satisfies (variables_with arg p.slots) f ≡ carry f (held_at_start f) before) → gaps_from at before lines ≡ []
   no-gaps [] before at p well finds size told = refl
   no-gaps (line ∷ lines) before at p well finds size told =
       let behind = behind-line line p (able count line lines (values_of p.slots) well.0 finds) in
@@ -70,7 +71,7 @@ module _ (arg : Text) (count : ℕ) where
       first-gap line lines before at p well.0 finds told rest
     where
       first-gap : (line : Line) (lines before : List Line) (at : ℕ) (p : Progress) → IsLine count line → FindsStrings (values_of p.slots) (line ∷ lines)
-          → ((f : Fact) → tells (variables_with arg p.slots) f ≡ carry f (held_at_start f) before) → gaps_from (suc at) (before ++ line ∷ []) lines ≡ [] → gaps_from at before (line ∷ lines) ≡ []
+          → ((f : Fact) → satisfies (variables_with arg p.slots) f ≡ carry f (held_at_start f) before) → gaps_from (suc at) (before ++ line ∷ []) lines ≡ [] → gaps_from at before (line ∷ lines) ≡ []
       first-gap TheVariants.Receive lines before at p h finds told rest = rest
       first-gap (TheVariants.Set n bytes) lines before at p h finds told rest = rest
       first-gap (TheVariants.Send n) lines before at p h finds told rest =
@@ -89,7 +90,7 @@ numbered-of count (TheVariants.Discard n ∷ lines) well = (well.0, numbered-of 
 
 -- the modules of lines
 abbrev modules_of : ℕ → List Line → Modules
-modules_of count lines = record { types = predefined; codes = code_of predefined (process_of count lines) (label_of lines) ∷ []; main = 0 }
+modules_of count lines = record { types = predefined; codes = module_of predefined (process_of count lines) (label_of lines) ∷ []; main = 0 }
 
 abbrev HasModules : ℕ → List Line → Type 0
 HasModules count lines = (modules : Modules) × AreAccepted (program_of count lines) modules
@@ -101,7 +102,7 @@ rest-accepted count lines well finds =
     let exact : AreExact (flow_of predefined (process_of count all)) (label_of all) = subst (λ (flow : Flow). AreExact flow (label_of all)) (sym is) (straight-exact all) in
     let found = subst (λ v. FindsStrings v lines) (sym (values-empty count)) finds in
     let p : Progress = record { slots = empty_slots count; queue = []; placed = 0; serial = 0; steps = 0; actions = 0; finalised = []; journal = [] } in
-    let told : (f : Fact) → tells (variables_with [] (empty_slots count)) f ≡ carry f (held_at_start f) (TheVariants.Receive ∷ []) = λ f. receive-told [] (empty_slots count) f ∙ ap (hold f TheVariants.Receive) (start-told count f) in
+    let told : (f : Fact) → satisfies (variables_with [] (empty_slots count)) f ≡ carry f (held_at_start f) (TheVariants.Receive ∷ []) = λ f. receive-told [] (empty_slots count) f ∙ ap (hold f TheVariants.Receive) (start-told count f) in
     let none : gaps all ≡ [] = no-gaps [] count lines (TheVariants.Receive ∷ []) 1 p well found (length-empty count) told in
     let accepted : IsAccepted predefined (process_of count all) = subst (λ gs. IsMissing predefined (process_of count all) (map refusal_of gs)) none (gaps_are_missing count all (numbered-of count lines well)) in
     (modules_of count all, record { types = refl; codes = ((label_of all, refl, exact, accepted), tt); main = refl })
@@ -144,14 +145,14 @@ there-string (Some m) e = (m, refl)
 
 module _ (count : ℕ) (all : List Line) (hold_all : (d : Demand) → IsIn d (demands (straight all)) → Holds (straight all) d.fact d.at) where
   a-string : (before : List Line) (line : Line) (behind : List Line) (n : ℕ) (slots : Slots) → all ≡ before ++ line ∷ behind → slice_get (straight all).points (length before) ≡ Some (point_of (length before) line (next_of (suc (length before)) behind))
-      → IsIn (init (variable n)) (needed line) → ((f : Fact) → tells (variables_with [] slots) f ≡ carry f (held_at_start f) before) → (m : Made) × (slot_at n slots ≡ Some m)
+      → IsIn (init (variable n)) (needed line) → ((f : Fact) → satisfies (variables_with [] slots) f ≡ carry f (held_at_start f) before) → (m : Made) × (slot_at n slots ≡ Some m)
   a-string before line behind n slots parts here member told =
       let p = point_of (length before) line (next_of (suc (length before)) behind) in
       let held = hold_all (record { at = length before; number = p.number; fact = init (variable n) }) (a-demand (straight all) (length before) p (init (variable n)) here member) in
       there-string (slot_at n slots) (ap (λ (o : Option (Cell Name)). is_some o) (sym (part-slot n slots)) ∙ told (init (variable n)) ∙ carried all before line behind (init (variable n)) parts held)
 
   finds-along : (lines before : List Line) (p : Progress) → all ≡ before ++ lines → At (straight all) (length before) lines → AllByRecursion (IsLine count) lines → length p.slots ≡ count
-      → ((f : Fact) → tells (variables_with [] p.slots) f ≡ carry f (held_at_start f) before) → FindsStrings (values_of p.slots) lines
+      → ((f : Fact) → satisfies (variables_with [] p.slots) f ≡ carry f (held_at_start f) before) → FindsStrings (values_of p.slots) lines
   finds-along [] before p parts here well size told = tt
   finds-along (TheVariants.Receive ∷ lines) before p parts here well size told = absurd well.0
   finds-along (TheVariants.Set n bytes ∷ lines) before p parts here well size told =
@@ -189,7 +190,7 @@ finds-rest count lines well accepted =
     let is : flow_of predefined (process_of count all) ≡ straight all = flow_is count all (tt, steps-of count lines well) in
     let accepted_here : AreRefusals (straight all) (demands (straight all)) [] = subst (λ (flow : Flow). AreRefusals flow (demands flow) []) is accepted in
     let p : Progress = record { slots = empty_slots count; queue = []; placed = 0; serial = 0; steps = 0; actions = 0; finalised = []; journal = [] } in
-    let told : (f : Fact) → tells (variables_with [] (empty_slots count)) f ≡ carry f (held_at_start f) (TheVariants.Receive ∷ []) = λ f. receive-told [] (empty_slots count) f ∙ ap (hold f TheVariants.Receive) (start-told count f) in
+    let told : (f : Fact) → satisfies (variables_with [] (empty_slots count)) f ≡ carry f (held_at_start f) (TheVariants.Receive ∷ []) = λ f. receive-told [] (empty_slots count) f ∙ ap (hold f TheVariants.Receive) (start-told count f) in
     subst (λ v. FindsStrings v lines) (values-empty count)
     (finds-along count all (all-hold (straight all) (demands (straight all)) [] accepted_here refl) lines (TheVariants.Receive ∷ []) p refl (at_start all).1 well (length-empty count) told)
 

@@ -1,18 +1,21 @@
 -- What edges finalise in a straight-line program: nothing between lines, and everything at the end.
 use Rattle.std.proofs.Common.{◌≡◌, ℕ, zero, suc, ◌+◌, List, [], ◌∷◌, ◌++◌, Bool, true, false, cond, not, ◌&&◌, Option, Some, None, is_some, length, replicate, slice_get, nat_lt, flat_map, refl, sym, ap, ◌∙◌, arith}
-use Rattle.herm_model.specs.Lists.{with_some, numbered}
+use Rattle.herm_model.specs.Lists.{map_or, numbered}
 use Rattle.herm_model.specs.Paths.{Path, Fact, init}
 use Rattle.herm_model.specs.Types.{TypeTable, Shape, predefined, greatest_depth, held_parts}
-use Rattle.herm_model.specs.Nodes.{node, end, Node}
+use Rattle.herm_model.specs.Nodes.{Node}
+use Rattle.herm_model.specs.Targets.{node, end}
 use Rattle.herm_model.specs.Values.{Cell, Parts, gap, part, part_at, set_part, gaps, behind_gaps, has_value}
 use Rattle.herm_model.specs.Finalising.{is_left, excess_from, excess_at, excess}
 use Rattle.herm_model.proofs.Options.{is_some-map}
-use Rattle.herm_journal.specs.Places.{Limits}
+use Rattle.herm_journal.specs.PlaceStates.{Limits}
 use Rattle.herm_journal.specs.Entries.{Text, Entry, port}
-use Rattle.herm_journal.specs.Journals.{entry_behind}
+use Rattle.herm_journal.specs.Stamps.{entry_behind}
 use Rattle.herm_journal.specs.Actions.{close}
-use Rattle.herm_forms.specs.Bodies.{Name, Body, drop, drop_at}
-use Rattle.herm_forms.specs.Edges.{Code, arrive, leave_loops, keeps, keeps_loop}
+use Rattle.herm_forms.specs.Frames.{Name, Frame, drop, drop_at}
+use Rattle.herm_forms.specs.EdgeFinalising.{arrive, keeps}
+use Rattle.herm_forms.specs.LeavingLoops.{leave_loops, keeps_loop}
+use Rattle.herm_forms.specs.Modules.{Module}
 use Rattle.herm_system.specs.Machines.{greatest_actions}
 use Rattle.herm_system.specs.Systems.{run_on, acts, main_port}
 use Rattle.herm_world.proofs.Slots.{Made, Slots, string_cell, strings_of, slot_at, part-slot}
@@ -28,14 +31,14 @@ flat-none f none (x ∷ xs) = rw (none x) (flat-none f none xs)
 abbrev parts_from : (Path → Bool) → ℕ → TypeTable → Path → Shape → List Path
 parts_from left n table p s = flat_map (λ part. excess_from left n table (p ++ part.0 ∷ []) part.1) (held_parts s)
 
-no-parts : (left : Path → Bool) (n : ℕ) (table : TypeTable) (p : Path) (o : Option Shape) → ((q : Path) (t : ℕ) → excess_from left n table q t ≡ []) → with_some [] (parts_from left n table p) o ≡ []
+no-parts : (left : Path → Bool) (n : ℕ) (table : TypeTable) (p : Path) (o : Option Shape) → ((q : Path) (t : ℕ) → excess_from left n table q t ≡ []) → map_or [] (parts_from left n table p) o ≡ []
 no-parts left n table p None none = refl
 no-parts left n table p (Some s) none = flat-none (λ (part : ℕ × ℕ). excess_from left n table (p ++ part.0 ∷ []) part.1) (λ part. none (p ++ part.0 ∷ []) part.1) (held_parts s)
 
 none-from : (left : Path → Bool) → ((p : Path) → left p ≡ false) → (n : ℕ) (table : TypeTable) (p : Path) (t : ℕ) → excess_from left n table p t ≡ []
 none-from left none zero table p t = refl
 none-from left none (suc n) table p t =
-    ap (λ b. cond b (p ∷ []) (with_some [] (parts_from left n table p) (slice_get table t))) (none p)
+    ap (λ b. cond b (p ∷ []) (map_or [] (parts_from left n table p) (slice_get table t))) (none p)
     ∙ no-parts left n table p (slice_get table t) (none-from left none n table)
 
 no-excess : (here kept : Path → Bool) → ((p : Path) → is_left here kept p ≡ false) → (table : TypeTable) (variables : List ℕ) → excess table variables here kept ≡ []
@@ -100,7 +103,7 @@ clear-behind zero c ps = refl
 clear-behind (suc i) c ps = ap gap (clear-behind i c ps)
 
 -- the body at the end, whose work list has the port
-abbrev pub ending : Parts Name → (stepped acted serial : ℕ) → List Name → Body Name
+abbrev pub ending : Parts Name → (stepped acted serial : ℕ) → List Name → Frame Name
 ending v s a m f = body_of v (main_port ∷ []) s a m f
 
 abbrev Drops : ℕ → Slots → (s a m : ℕ) → List Name → Parts Name → Type 0
@@ -127,7 +130,7 @@ module _ (nodes : List Node) (label : ℕ → Fact → Bool) (arg : Text) where
       )
 
 -- the port is closed
-pub close-run : (c : Code) (limits : Limits) (v : Parts Name) (s a m : ℕ) (f : List Name) (queue : List (ℕ × Cell Name)) (placed : ℕ) (journal : List Entry) → nat_lt a greatest_actions ≡ true →
+pub close-run : (c : Module) (limits : Limits) (v : Parts Name) (s a m : ℕ) (f : List Name) (queue : List (ℕ × Cell Name)) (placed : ℕ) (journal : List Entry) → nat_lt a greatest_actions ≡ true →
     run_on (source (modules_with c)) (acts 1 (port 1)) (run_with limits end (ending v s a m f) queue placed journal)
     ≡ Some (record {
       system = system_with limits end (body_of v [] s (suc a) m ((f ++ (0, 1) ∷ []) ++ [])) (open_port queue placed ∷ record { is_open = false; queue = []; placed = 1 } ∷ []);

@@ -3,7 +3,7 @@ use Rattle.std.proofs.Common.{◌≡◌, ℕ, zero, suc, List, [], ◌∷◌, �
 use Rattle.std.specs.Prelude.{IsTrue, ⊤}
 use Rattle.herm_model.specs.Typed.{is_text}
 use Rattle.herm_model.specs.Values.{Cell}
-use Rattle.herm_forms.specs.Bodies.{Name}
+use Rattle.herm_forms.specs.Frames.{Name}
 use Rattle.herm_compile.specs.Form.{IsLine}
 use Rattle.herm_compile.specs.declared.compiled.Line.{Line}
 use Rattle.herm_compile.specs.declared.compiled.Line.TheVariants

@@ -2,14 +2,14 @@
 -- that it needs.
 use Rattle.std.proofs.Common.{◌≡◌, ℕ, List, [], ◌∷◌, inl, inr, refl, sym, subst}
 use Rattle.herm_model.specs.Statements.{Process, goes_on, branching_of, IsWellFormedBlock}
-use Rattle.herm_journal.specs.Places.{Limits}
+use Rattle.herm_journal.specs.PlaceStates.{Limits}
 use Rattle.herm_journal.specs.Entries.{Text, Entry}
 use Rattle.herm_source.specs.Modules.{Modules}
 use Rattle.herm_system.specs.Systems.{System, opening}
 use Rattle.herm_source.specs.Instance.{IsSound, source}
-use Rattle.herm_source.specs.Headline.{AreAccepted, FindsNeeds}
+use Rattle.herm_source.specs.AcceptedRuns.{AreAccepted, FindsNeeds}
 use Rattle.herm_system.specs.Reports.{IsAlong}
-use Rattle.herm_source.specs.NeedsLaws.{HasWellFormedBodies}
+use Rattle.herm_source.specs.laws.NeedsLaws.{HasWellFormedBodies}
 use Rattle.herm_source.proofs.reached.RunsReach.{along-finds}
 use Rattle.herm_compile.specs.Straight.{form_of, body_of}
 use Rattle.herm_compile.specs.declared.compiled.Line.{Line}

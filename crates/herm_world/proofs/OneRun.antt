@@ -4,12 +4,14 @@ use Rattle.std.specs.Prelude.{⊤}
 use Rattle.std.proofs.Common.{◌≡◌, ◌<◌, ◌≤◌, ℕ, zero, suc, ◌+◌, List, [], ◌∷◌, ◌++◌, map, Bool, true, false, Option, Some, length, nat_lt, slice_get, refl, sym, ap, subst, ◌∙◌, arith, true≢false, option_and_then}
 use Rattle.std.proofs.lemmas.Bool.{lt-ltb}
 use Rattle.herm_model.specs.Paths.{Fact}
-use Rattle.herm_model.specs.Nodes.{node, end, Node, Target}
-use Rattle.herm_model.specs.Values.{Cell, Parts, gap, gaps, tells}
+use Rattle.herm_model.specs.Nodes.{Node}
+use Rattle.herm_model.specs.Targets.{node, end, Target}
+use Rattle.herm_model.specs.Values.{Cell, Parts, gap, gaps}
+use Rattle.herm_model.specs.FactsOfValues.{satisfies}
 use Rattle.herm_journal.specs.Actions.{to_put}
-use Rattle.herm_journal.specs.Places.{Limits}
+use Rattle.herm_journal.specs.PlaceStates.{Limits}
 use Rattle.herm_journal.specs.Entries.{Text, Entry, port, reply_cell, book, Place, same_place}
-use Rattle.herm_forms.specs.Bodies.{Name}
+use Rattle.herm_forms.specs.Frames.{Name}
 use Rattle.herm_forms.specs.Acts.{is_action, wants}
 use Rattle.herm_system.specs.Machines.{greatest_actions, is_local, is_acting}
 use Rattle.herm_source.specs.Modules.{Modules}
@@ -17,7 +19,8 @@ use Rattle.herm_system.specs.Systems.{Run, run, run_on, Event, steps, acts, Syst
 use Rattle.herm_source.specs.States.{own_name, State, ready_in}
 use Rattle.herm_model.proofs.Options.{chain-some, some-injective, none-not_some, map-some}
 use Rattle.std.specs.List.{AllByRecursion}
-use Rattle.herm_forms.specs.Edges.{Code, arrive}
+use Rattle.herm_forms.specs.EdgeFinalising.{arrive}
+use Rattle.herm_forms.specs.Modules.{Module}
 use Rattle.herm_compile.specs.Form.{IsLine}
 use Rattle.herm_compile.specs.declared.compiled.Line.{Line}
 use Rattle.herm_compile.specs.declared.compiled.Line.TheVariants
@@ -34,8 +37,9 @@ use Rattle.herm_world.proofs.HeldTexts.{AreTexts, AreQueued}
 use Rattle.herm_world.proofs.KeptTexts.{texts-empty, texts-kept, queued-kept}
 use Rattle.herm_source.specs.Instance.{source}
 use Rattle.herm_journal.specs.Messages.{CellWant}
-use Rattle.herm_model.specs.Lists.{some_of}
-use Rattle.herm_runs.proofs.Stands.{cond-both, stands-as, seen-local}
+use Rattle.herm_model.specs.Lists.{any_pass}
+use Rattle.herm_runs.proofs.ActionParts.{cond-both}
+use Rattle.herm_runs.proofs.Stands.{stands-as, seen-local}
 
 -- no event but this one can be
 abbrev pub Only : Modules → Event → Run (State Name) → Type 0
@@ -81,11 +85,11 @@ everywhere modules IsSo (y ∷ events) r only (x ∷ xs) t e =
 
 -- an action is done only at a place where what is wanted may be done
 wrong-place : (modules : Modules) (p : ℕ) (place : Place) (s : System (State Name)) (state : State Name) (w : CellWant Name) (m : Moved (State Name)) → numbered_from_one p s.processes ≡ Some state → (source modules).wanted state ≡ Some w
-    → some_of (same_place place) (places_for p w) ≡ false → action_event (source modules) p place s ≡ Some m → ⊥
+    → any_pass (same_place place) (places_for p w) ≡ false → action_event (source modules) p place s ≡ Some m → ⊥
 wrong-place modules p place s state w m is wants wrong e =
     let acting = cond-both (stands is_acting (source modules) s p) _ m e in
     let here = sym (ap (option_and_then (λ x. option_and_then (act_at (source modules) p place s x) ((source modules).wanted x))) is ∙ ap (option_and_then (act_at (source modules) p place s state)) wants) ∙ acting.1 in
-    true≢false (sym (cond-both (some_of (same_place place) (places_for p w)) _ m here).0 ∙ wrong)
+    true≢false (sym (cond-both (any_pass (same_place place) (places_for p w)) _ m here).0 ∙ wrong)
 
 -- a local step is done only where one is next
 not-next : (modules : Modules) (p : ℕ) (s : System (State Name)) (state : State Name) (m : Moved (State Name)) → numbered_from_one p s.processes ≡ Some state → is_local ((source modules).ready s.book.limits.steps state) ≡ false
@@ -132,7 +136,7 @@ module _ (count : ℕ) (nodes : List Node) (label : ℕ → Fact → Bool) (limi
       wants_it : (source modules).wanted (state_of (node i) (body_of v [] s a m f)) ≡ Some (to_put 0 x)
       wants_it = rw (here, acting) wanted
 
-      at_wrong : (place : Place) → some_of (same_place place) (port 0 ∷ []) ≡ false → run_on (source modules) (acts 1 place) r ≡ Some t → acts 1 place ≡ acts 1 (port 0)
+      at_wrong : (place : Place) → any_pass (same_place place) (port 0 ∷ []) ≡ false → run_on (source modules) (acts 1 place) r ≡ Some t → acts 1 place ≡ acts 1 (port 0)
       at_wrong place wrong e =
           let k = map-some _ (step (source modules) (acts 1 place) r.system) t e in
           absurd (wrong-place modules 1 place r.system (state_of (node i) (body_of v [] s a m f)) (to_put 0 x) k.0 refl wants_it wrong k.1)
@@ -144,7 +148,7 @@ module _ (count : ℕ) (nodes : List Node) (label : ℕ → Fact → Bool) (limi
       by_place book e = at_wrong book refl e
   only-put i n v s a m f x queue placed journal here below fewer acting wanted (acts (suc (suc k)) place) t e = none-not_some e
 
-only-close : (c : Code) (limits : Limits) (v : Parts Name) (s a m : ℕ) (f : List Name) (queue : List (ℕ × Cell Name)) (placed : ℕ) (journal : List Entry) → nat_lt a greatest_actions ≡ true
+only-close : (c : Module) (limits : Limits) (v : Parts Name) (s a m : ℕ) (f : List Name) (queue : List (ℕ × Cell Name)) (placed : ℕ) (journal : List Entry) → nat_lt a greatest_actions ≡ true
     → Only (modules_with c) (acts 1 (port 1)) (run_with limits end (ending v s a m f) queue placed journal)
 only-close c limits v s a m f queue placed journal fewer (steps zero) t e = none-not_some e
 only-close c limits v s a m f queue placed journal fewer (steps (suc zero)) t e = let g = rw fewer at e in none-not_some g
@@ -157,7 +161,7 @@ only-close c limits v s a m f queue placed journal fewer (acts (suc zero) (reply
 only-close c limits v s a m f queue placed journal fewer (acts (suc zero) book) t e = let g = rw fewer at e in none-not_some g
 only-close c limits v s a m f queue placed journal fewer (acts (suc (suc k)) place) t e = none-not_some e
 
-none-final : (c : Code) (limits : Limits) (p : Progress) (g : List Name) (journal : List Entry) → NoneGoes (modules_with c) (record { system = final_system limits p g; journal = journal })
+none-final : (c : Module) (limits : Limits) (p : Progress) (g : List Name) (journal : List Entry) → NoneGoes (modules_with c) (record { system = final_system limits p g; journal = journal })
 none-final c limits p g journal (steps zero) t e = none-not_some e
 none-final c limits p g journal (steps (suc zero)) t e = none-not_some e
 none-final c limits p g journal (steps (suc (suc k))) t e = none-not_some e
@@ -174,8 +178,8 @@ module _ (count : ℕ) (nodes : List Node) (label : ℕ → Fact → Bool) (limi
 
   -- what is so in the opening state, between lines, at the end before the port is closed, and in the final state
   pub record IsSoThroughout (IsSo : System (State Name) → Type 0) : Type 0 where
-    pub opening : ((f : Fact) → label 0 f ≡ tells (before_receive (empty_slots count)) f) → IsSo (first_run count nodes label limits arg).system
-    pub between : (i : ℕ) (p : Progress) → ((f : Fact) → label i f ≡ tells (variables_with arg p.slots) f) → length p.slots ≡ count → AreTexts p.slots → AreQueued p.queue
+    pub opening : ((f : Fact) → label 0 f ≡ satisfies (before_receive (empty_slots count)) f) → IsSo (first_run count nodes label limits arg).system
+    pub between : (i : ℕ) (p : Progress) → ((f : Fact) → label i f ≡ satisfies (variables_with arg p.slots) f) → length p.slots ≡ count → AreTexts p.slots → AreQueued p.queue
         → IsSo (run_at limits arg (node i) p).system
     pub ending : (p : Progress) (g : List Name) → length p.slots ≡ count → AreQueued p.queue
         → IsSo (run_with limits end (ending (gap (gap (gaps (length p.slots)))) p.steps p.actions p.serial g) p.queue p.placed p.journal).system

@@ -3,7 +3,9 @@ use Rattle.std.proofs.Common.{flat_map, ◌≡◌, ℕ, ◌+◌, ◌-◌, List, 
 use Rattle.herm_model.proofs.Lists.{length-map}
 use Rattle.herm_journal.specs.Entries.{Text, Entry}
 use Rattle.herm_system.specs.Reports.{Report}
-use Rattle.herm_system.specs.Statuses.{Fate, Counts, ended_normally, line}
+use Rattle.herm_system.specs.Summary.{Counts}
+use Rattle.herm_system.specs.Lines.{line}
+use Rattle.herm_system.specs.ProcessFates.{Fate, ended_normally}
 use Rattle.herm_compile.specs.declared.compiled.Line.{Line}
 use Rattle.herm_world.specs.Lines.{Values, sent_from}
 use Rattle.herm_world.specs.StringTexts.{quoted}

@@ -1,22 +1,22 @@
 -- How many inports and callmessages are not finalised in the states of a straight-line program.
 use Rattle.std.proofs.Common.{◌≡◌, ℕ, zero, suc, ◌+◌, List, [], ◌∷◌, ◌++◌, map, flat_map, filter, Bool, true, false, cond, nat_eq, None, Some, length, refl, ap, ◌∙◌, arith, add-zero}
-use Rattle.herm_model.specs.Nodes.{Target}
+use Rattle.herm_model.specs.Targets.{Target}
 use Rattle.herm_model.specs.Values.{Kind, Scalar, a_scalar, a_text, an_inport, Cell, Parts, gap, gaps}
-use Rattle.herm_journal.specs.Places.{Limits, Port, left_in}
-use Rattle.herm_forms.specs.Bodies.{Name}
+use Rattle.herm_journal.specs.PlaceStates.{Limits, Port, left_in}
+use Rattle.herm_forms.specs.Frames.{Name}
 use Rattle.herm_system.specs.Kinds.{kinds_of, kinds_in, unfinalised, is_inport_of, is_open_port}
 use Rattle.herm_system.specs.Sound.{one_if}
-use Rattle.herm_system.specs.Statuses.{how_many}
+use Rattle.herm_system.specs.Summary.{how_many}
 use Rattle.herm_system.specs.Systems.{console_port}
 use Rattle.herm_world.proofs.Slots.{Made, Slots, string_cell, strings_of, empty_slots, gaps-empty}
 use Rattle.herm_world.proofs.Progress.{body_of, system_with, modules_with, state_of}
 use Rattle.herm_world.proofs.Apart.{zero-not, one-far}
 use Rattle.herm_world.proofs.HeldTexts.{AreQueued}
-use Rattle.herm_forms.specs.Edges.{Code}
+use Rattle.herm_forms.specs.Modules.{Module}
 use Rattle.herm_source.specs.Instance.{source}
 use Rattle.herm_source.specs.States.{State}
 use Rattle.herm_system.specs.Machines.{Held}
-use Rattle.herm_source.specs.Looking.{values_held}
+use Rattle.herm_source.specs.SeenBySystem.{values_held}
 use Rattle.herm_source.proofs.instance.HeldValues.{kinds-values}
 
 many-append : (test : Kind → Bool) (xs ys : List Kind) → how_many test (xs ++ ys) ≡ how_many test xs + how_many test ys
@@ -58,7 +58,7 @@ module _ (test : Kind → Bool) (fails : (x : Scalar) → test (a_scalar x) ≡ 
 
 -- ---- in the system
 
-module _ (c : Code) (limits : Limits) (t : Target) (v : Parts Name) (work : List (Cell Name)) (s a m : ℕ) (g : List Name) (p q : Port (Cell Name)) where
+module _ (c : Module) (limits : Limits) (t : Target) (v : Parts Name) (work : List (Cell Name)) (s a m : ℕ) (g : List Name) (p q : Port (Cell Name)) where
   pub many-unfinalised : (test : Kind → Bool) → how_many test (unfinalised (source (modules_with c)) (system_with limits t (body_of v work s a m g) (p ∷ q ∷ [])))
       ≡ how_many test (kinds_of console_port) + how_many test (kinds_in v) + how_many test (flat_map kinds_of work) + how_many test (flat_map kinds_of (left_in p)) + how_many test (flat_map kinds_of (left_in q))
   many-unfinalised test =

@@ -1,14 +1,15 @@
 -- The messages that a straight-line program queues are those that its ports take.
 use Rattle.std.proofs.Common.{◌≡◌, ℕ, zero, suc, List, [], ◌∷◌, map, false, IsTrue, inl, inr, refl, sym, subst, ◌∙◌, true≢false}
-use Rattle.herm_model.specs.Lists.{IsIn, some_of}
+use Rattle.herm_model.specs.Lists.{IsIn, any_pass}
 use Rattle.herm_model.specs.Paths.{Path, Fact, init, case, same_fact}
 use Rattle.herm_model.specs.Types.{predefined}
 use Rattle.herm_model.specs.Facts.{declared_facts}
-use Rattle.herm_model.specs.Values.{Cell, Parts, no_parts, part, has_value, HasExactly}
+use Rattle.herm_model.specs.Values.{Cell, Parts, no_parts, part, has_value}
+use Rattle.herm_model.specs.FactsOfValues.{HasExactly}
 use Rattle.herm_model.specs.Typed.{is_text}
 use Rattle.herm_model.proofs.FactTests.{listed-IsIn, IsIn-listed}
 use Rattle.herm_journal.specs.Entries.{Text}
-use Rattle.herm_forms.specs.Bodies.{Name}
+use Rattle.herm_forms.specs.Frames.{Name}
 use Rattle.herm_journal.specs.Messages.{IsMessage}
 use Rattle.herm_system.specs.Systems.{first_message}
 use Rattle.herm_world.proofs.Slots.{Made, string_cell}
@@ -18,7 +19,7 @@ use Rattle.herm_world.proofs.TypedTexts.{text-typed, message-typed}
 use Rattle.herm_world.proofs.HeldTexts.{AreQueued}
 
 -- values have exactly the listed facts where the test of the list says so at each path
-exactly-listed : (ps : Parts Name) (facts : List Fact) → ((p : Path) → has_value ps p ≡ some_of (same_fact (init p)) facts) → ((p : Path) (c : ℕ) → some_of (same_fact (case p c)) facts ≡ false) → HasExactly ps (λ f. IsIn f facts)
+exactly-listed : (ps : Parts Name) (facts : List Fact) → ((p : Path) → has_value ps p ≡ any_pass (same_fact (init p)) facts) → ((p : Path) (c : ℕ) → any_pass (same_fact (case p c)) facts ≡ false) → HasExactly ps (λ f. IsIn f facts)
 exactly-listed ps facts values components = record {
   values = λ p. (λ h. listed-IsIn (init p) facts (sym (values p) ∙ h), λ h. values p ∙ IsIn-listed (init p) facts h);
   components = λ p c h. absurd (true≢false (sym (IsIn-listed (case p c) facts h) ∙ components p c));
@@ -26,7 +27,7 @@ exactly-listed ps facts values components = record {
 
 -- ---- a string at the console's port
 
-string-told : (m : Made) (p : Path) → has_value (part (string_cell m) no_parts) p ≡ some_of (same_fact (init p)) (init (0 ∷ []) ∷ [])
+string-told : (m : Made) (p : Path) → has_value (part (string_cell m) no_parts) p ≡ any_pass (same_fact (init p)) (init (0 ∷ []) ∷ [])
 string-told m [] = refl
 string-told m (zero ∷ []) = refl
 string-told m (zero ∷ j ∷ q) = nothing-there Name (j ∷ q)
@@ -46,7 +47,7 @@ queue-messages (q ∷ queue) are x (inr h) = queue-messages queue are.1 x h
 abbrev first_facts : List Fact
 first_facts = init (0 ∷ []) ∷ init (0 ∷ 0 ∷ []) ∷ init (0 ∷ 1 ∷ []) ∷ []
 
-first-told : (arg : Text) (p : Path) → has_value (part (first_message arg) no_parts) p ≡ some_of (same_fact (init p)) first_facts
+first-told : (arg : Text) (p : Path) → has_value (part (first_message arg) no_parts) p ≡ any_pass (same_fact (init p)) first_facts
 first-told arg [] = refl
 first-told arg (zero ∷ []) = refl
 first-told arg (zero ∷ zero ∷ []) = refl

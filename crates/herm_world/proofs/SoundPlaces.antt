@@ -6,11 +6,12 @@ use Rattle.herm_model.specs.Lists.{IsIn}
 use Rattle.herm_model.specs.Paths.{Fact}
 use Rattle.herm_model.specs.Types.{predefined}
 use Rattle.herm_model.specs.Calls.{led_to}
-use Rattle.herm_model.specs.Nodes.{Target, Node}
+use Rattle.herm_model.specs.Nodes.{Node}
+use Rattle.herm_model.specs.Targets.{Target}
 use Rattle.herm_model.specs.Values.{Kind, a_callmessage, an_inport, an_outport, Cell, Parts, gap, gaps}
 use Rattle.herm_journal.specs.Entries.{Text}
-use Rattle.herm_journal.specs.Places.{Limits, Port, left_in}
-use Rattle.herm_forms.specs.Bodies.{Name}
+use Rattle.herm_journal.specs.PlaceStates.{Limits, Port, left_in}
+use Rattle.herm_forms.specs.Frames.{Name}
 use Rattle.herm_system.specs.Kinds.{each, typed_of, typed_in, typed_held, typed_cells}
 use Rattle.herm_system.specs.Systems.{first_message}
 use Rattle.herm_world.proofs.Slots.{Slots, strings_of, empty_slots, gaps-empty}
@@ -18,7 +19,7 @@ use Rattle.herm_world.proofs.Progress.{types_of, code_with, modules_with, body_o
 use Rattle.herm_world.proofs.StraightFacts.{before_receive}
 use Rattle.herm_world.proofs.HeldTexts.{AreQueued}
 use Rattle.herm_source.specs.Instance.{source}
-use Rattle.herm_source.specs.Looking.{values_held}
+use Rattle.herm_source.specs.SeenBySystem.{values_held}
 use Rattle.herm_source.proofs.instance.HeldValues.{typed-values}
 
 -- the types of port 0, the console's, and of port 1, the process's

@@ -4,12 +4,14 @@ use Rattle.std.specs.Prelude.{IsTrue}
 use Rattle.herm_model.specs.Lists.{IsIn}
 use Rattle.herm_model.specs.Paths.{Path, Fact, init, case}
 use Rattle.herm_model.specs.Types.{predefined}
-use Rattle.herm_model.specs.Nodes.{Target, node, end, Node}
-use Rattle.herm_model.specs.Values.{Cell, Parts, gap, gaps, has_value, tells, HasExactly}
+use Rattle.herm_model.specs.Nodes.{Node}
+use Rattle.herm_model.specs.Targets.{Target, node, end}
+use Rattle.herm_model.specs.Values.{Cell, Parts, gap, gaps, has_value}
+use Rattle.herm_model.specs.FactsOfValues.{satisfies, HasExactly}
 use Rattle.herm_model.specs.Typed.{is_text, HasType, HaveTypes}
 use Rattle.herm_journal.specs.Entries.{Text}
-use Rattle.herm_forms.specs.Bodies.{Name}
-use Rattle.herm_forms.specs.Edges.{Code}
+use Rattle.herm_forms.specs.Frames.{Name}
+use Rattle.herm_forms.specs.Modules.{Module}
 use Rattle.herm_system.specs.Systems.{main_port}
 use Rattle.herm_source.specs.Local.{HasFact, IsItem, IsLocallySound}
 use Rattle.herm_model.proofs.Options.{none-not_some}
@@ -55,7 +57,7 @@ port-item item (inr h) = absurd h
 -- ---- the process
 
 module _ (count : ℕ) (nodes : List Node) (label : ℕ → Fact → Bool) where
-  abbrev code : Code
+  abbrev code : Module
   code = code_with count nodes label
 
   -- without loops and calls
@@ -70,7 +72,7 @@ module _ (count : ℕ) (nodes : List Node) (label : ℕ → Fact → Bool) where
   }
 
   -- the values have what the label has
-  labelled : (i : ℕ) (v : Parts Name) (s a m : ℕ) (g : List Name) → ((f : Fact) → label i f ≡ tells v f) → HasExactly v (HasFact code (state_of (node i) (body_of v [] s a m g)))
+  labelled : (i : ℕ) (v : Parts Name) (s a m : ℕ) (g : List Name) → ((f : Fact) → label i f ≡ satisfies v f) → HasExactly v (HasFact code (state_of (node i) (body_of v [] s a m g)))
   labelled i v s a m g same = record {
     values = λ p. ((λ h. (same (init p) ∙ h, refl)), (λ h. sym (same (init p)) ∙ h.0));
     components = λ p k h. sym (same (case p k)) ∙ h.0;
@@ -83,13 +85,13 @@ module _ (count : ℕ) (nodes : List Node) (label : ℕ → Fact → Bool) where
     components = λ p k h. absurd h.0;
   }
 
-  pub opening-local : ((f : Fact) → label 0 f ≡ tells (before_receive (empty_slots count)) f) → (s a m : ℕ) (g : List Name)
+  pub opening-local : ((f : Fact) → label 0 f ≡ satisfies (before_receive (empty_slots count)) f) → (s a m : ℕ) (g : List Name)
       → IsLocallySound code (state_of (node 0) (body_of (before_receive (empty_slots count)) [] s a m g))
   opening-local same s a m g =
       let v = before_receive (empty_slots count) in
       local-by (node 0) v [] s a m g (labelled 0 v s a m g same) (opening-typed count) no-item
 
-  pub between-local : (arg : Text) (i : ℕ) (p : Progress) → ((f : Fact) → label i f ≡ tells (variables_with arg p.slots) f) → length p.slots ≡ count → AreTexts p.slots → IsTrue (is_text arg)
+  pub between-local : (arg : Text) (i : ℕ) (p : Progress) → ((f : Fact) → label i f ≡ satisfies (variables_with arg p.slots) f) → length p.slots ≡ count → AreTexts p.slots → IsTrue (is_text arg)
       → IsLocallySound code (state_of (node i) (body_at arg p))
   between-local arg i p same size texts text =
       let v = variables_with arg p.slots in

@@ -4,19 +4,20 @@ use Rattle.herm_model.specs.Lists.{IsIn}
 use Rattle.herm_model.specs.Paths.{Fact}
 use Rattle.herm_model.specs.Types.{predefined}
 use Rattle.herm_model.specs.Typed.{is_text}
-use Rattle.herm_model.specs.Nodes.{Target, node, end, Node}
+use Rattle.herm_model.specs.Nodes.{Node}
+use Rattle.herm_model.specs.Targets.{Target, node, end}
 use Rattle.herm_model.specs.Values.{Cell, Parts, gap, part, gaps}
 use Rattle.herm_journal.specs.Entries.{Text, Entry}
-use Rattle.herm_journal.specs.Places.{Limits, Port, empty_port, port_with, left_in, Replies}
-use Rattle.herm_forms.specs.Bodies.{Name}
-use Rattle.herm_forms.specs.Edges.{Code}
+use Rattle.herm_journal.specs.PlaceStates.{Limits, Port, empty_port, port_with, left_in, Replies}
+use Rattle.herm_forms.specs.Frames.{Name}
+use Rattle.herm_forms.specs.Modules.{Module}
 use Rattle.herm_journal.specs.Messages.{CellReply, IsMessage, is_inport}
 use Rattle.herm_system.specs.Ledger.{HasLedger, IsMadeOnce}
 use Rattle.herm_source.specs.Local.{IsLocallySound}
 use Rattle.herm_system.specs.Kinds.{kinds_of, kinds_in, unfinalised, replies_of, typed_cells, is_inport_of, is_callmessage_of, has_open, is_open_port}
 use Rattle.herm_system.specs.Sound.{one_if, IsSoundWith}
 use Rattle.herm_source.specs.States.{State, begin}
-use Rattle.herm_system.specs.Statuses.{how_many}
+use Rattle.herm_system.specs.Summary.{how_many}
 use Rattle.herm_source.specs.Modules.{Modules}
 use Rattle.herm_system.specs.Systems.{System, numbered_from_one, main_port, first_message}
 use Rattle.herm_model.proofs.Options.{some-injective, none-not_some}
@@ -35,7 +36,7 @@ abbrev pub IsSoundAt : Modules → System (State Name) → Type 0
 IsSoundAt modules s = HasLedger (source modules) s → IsMadeOnce (source modules) s → IsSoundWith (source modules) (IsSoundIn modules) port_types s
 
 -- What is so of a state with one process and ports 0 and 1, besides the ledger.
-pub record IsPlain (c : Code) (s : System (State Name)) (here : State Name) (p q : Port (Cell Name)) : Type 0 where
+pub record IsPlain (c : Module) (s : System (State Name)) (here : State Name) (p q : Port (Cell Name)) : Type 0 where
   pub process : IsLocallySound c here
   pub console : (x : Cell Name) → IsIn x (left_in p) → IsMessage predefined 4 x
   pub start : (x : Cell Name) → IsIn x (left_in q) → IsMessage predefined 7 x
@@ -48,7 +49,7 @@ inports-typed zero t e = subst (λ u. IsTrue (is_inport (slice_get predefined u)
 inports-typed (suc zero) t e = subst (λ u. IsTrue (is_inport (slice_get predefined u))) (some-injective e) refl
 inports-typed (suc (suc n)) t e = none-not_some e
 
-module _ (c : Code) (limits : Limits) (t : Target) (v : Parts Name) (work : List (Cell Name)) (s a m : ℕ) (g : List Name) (p q : Port (Cell Name)) where
+module _ (c : Module) (limits : Limits) (t : Target) (v : Parts Name) (work : List (Cell Name)) (s a m : ℕ) (g : List Name) (p q : Port (Cell Name)) where
   abbrev here : State Name
   here = state_of t (body_of v work s a m g)
 
@@ -60,11 +61,11 @@ module _ (c : Code) (limits : Limits) (t : Target) (v : Parts Name) (work : List
   process-is (suc zero) state e = (refl, sym (some-injective e))
   process-is (suc (suc n)) state e = none-not_some e
 
-  process-sound : (n : ℕ) (state : State Name) (d : Code) → IsLocallySound c here → numbered_from_one n system.processes ≡ Some state → slice_get (c ∷ []) state.code ≡ Some d → IsLocallySound d state
+  process-sound : (n : ℕ) (state : State Name) (d : Module) → IsLocallySound c here → numbered_from_one n system.processes ≡ Some state → slice_get (c ∷ []) state.module_number ≡ Some d → IsLocallySound d state
   process-sound n state d sound e f =
       let is = (process-is n state e).1 in
-      let same : c ≡ d = some-injective (subst (λ (x : State Name). slice_get (c ∷ []) x.code ≡ Some d) is f) in
-      subst (λ (x : State Name). IsLocallySound d x) (sym is) (subst (λ (x : Code). IsLocallySound x here) same sound)
+      let same : c ≡ d = some-injective (subst (λ (x : State Name). slice_get (c ∷ []) x.module_number ≡ Some d) is f) in
+      subst (λ (x : State Name). IsLocallySound d x) (sym is) (subst (λ (x : Module). IsLocallySound x here) same sound)
 
   messages-typed : (n t : ℕ) (r : Port (Cell Name)) (x : Cell Name) → ((x : Cell Name) → IsIn x (left_in p) → IsMessage predefined 4 x) → ((x : Cell Name) → IsIn x (left_in q) → IsMessage predefined 7 x)
       → slice_get port_types n ≡ Some t → slice_get (p ∷ q ∷ []) n ≡ Some r → IsIn x (left_in r) → IsMessage predefined t x
@@ -109,8 +110,8 @@ module _ (c : Code) (limits : Limits) (t : Target) (v : Parts Name) (work : List
     };
     numbers = record {
       processes = λ n state e. let is = process-is n state e in (
-        ap (λ (x : State Name). x.body.number) is.1 ∙ sym is.0,
-        (main_port, begin c 0 n main_port, ap (λ (x : State Name). option_map (λ d. begin d x.code n main_port) (slice_get (c ∷ []) x.code)) is.1),
+        ap (λ (x : State Name). x.frame.number) is.1 ∙ sym is.0,
+        (main_port, begin c 0 n main_port, ap (λ (x : State Name). option_map (λ d. begin d x.module_number n main_port) (slice_get (c ∷ []) x.module_number)) is.1),
       );
       reply_cells = refl;
       book = (refl, refl);
@@ -123,7 +124,7 @@ message-none : (n : ℕ) (arg : Text) (slots : Slots) → how_many (is_inport_of
 message-none n arg slots = refl
 
 module _ (count : ℕ) (nodes : List Node) (label : ℕ → Fact → Bool) (limits : Limits) where
-  abbrev code : Code
+  abbrev code : Module
   code = code_with count nodes label
 
   pub opening-sound : (arg : Text) (s a m : ℕ) (g : List Name) → IsTrue (is_text arg) → IsLocallySound code (state_of (node 0) (body_of (before_receive (empty_slots count)) [] s a m g))

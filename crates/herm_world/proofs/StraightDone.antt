@@ -4,22 +4,27 @@ use Rattle.std.specs.List.{AllByRecursion}
 use Rattle.std.proofs.lemmas.Bool.{lt-ltb}
 use Rattle.herm_model.specs.Paths.{Fact}
 use Rattle.herm_model.specs.Types.{TypeTable, predefined}
-use Rattle.herm_model.specs.Nodes.{end, Node, process_nodes}
-use Rattle.herm_model.specs.Control.{Flow, flow_of, held_at_start}
+use Rattle.herm_model.specs.Nodes.{Node, process_nodes}
+use Rattle.herm_model.specs.Targets.{end}
+use Rattle.herm_model.specs.ControlPaths.{Flow, flow_of, held_at_start}
 use Rattle.herm_model.specs.Refusals.{AreExact}
-use Rattle.herm_model.specs.Values.{gap, gaps, tells, Cell}
+use Rattle.herm_model.specs.Values.{gap, gaps, Cell}
+use Rattle.herm_model.specs.FactsOfValues.{satisfies}
 use Rattle.herm_journal.specs.Actions.{close}
-use Rattle.herm_journal.specs.Places.{Limits}
+use Rattle.herm_journal.specs.PlaceStates.{Limits}
 use Rattle.herm_journal.specs.Entries.{Text, Entry, port}
-use Rattle.herm_journal.specs.Journals.{entry_behind}
-use Rattle.herm_forms.specs.Bodies.{Name}
-use Rattle.herm_forms.specs.Edges.{Code, code_of, arrive}
+use Rattle.herm_journal.specs.Stamps.{entry_behind}
+use Rattle.herm_forms.specs.Frames.{Name}
+use Rattle.herm_forms.specs.EdgeFinalising.{arrive}
+use Rattle.herm_forms.specs.Modules.{Module, module_of}
 use Rattle.herm_system.specs.Machines.{greatest_actions}
 use Rattle.herm_system.specs.Ledger.{HasLedger, made_in, held_in, queued_in, finalised_in, IsMadeOnce}
-use Rattle.herm_system.specs.Statuses.{counts, one, cut, line, bytes_of}
+use Rattle.herm_system.specs.RunTexts.{bytes_of}
+use Rattle.herm_system.specs.Summary.{counts, one, cut}
+use Rattle.herm_system.specs.Lines.{line}
 use Rattle.herm_source.specs.Modules.{Modules}
 use Rattle.herm_system.specs.Systems.{System, run, run_on, Event, acts, start, IsFinal, opening, main_port}
-use Rattle.herm_source.specs.Headline.{AreAccepted, AreCodesOf}
+use Rattle.herm_source.specs.AcceptedRuns.{AreAccepted, AreCodesOf}
 use Rattle.herm_system.specs.Reports.{IsRunTo}
 use Rattle.herm_runs.proofs.Events.{run-joined}
 use Rattle.herm_compile.specs.Form.{IsLine, IsBody}
@@ -66,13 +71,13 @@ final_system limits p g =
 abbrev pub final_journal : Progress → List Entry
 final_journal p = p.journal ++ entry_behind p.journal 1 (port 1) (close 0 []) ∷ []
 
-pub none-steps : (c : Code) (limits : Limits) (p : Progress) (g : List Name) → IsFinal (source (modules_with c)) (final_system limits p g)
+pub none-steps : (c : Module) (limits : Limits) (p : Progress) (g : List Name) → IsFinal (source (modules_with c)) (final_system limits p g)
 none-steps c limits p g zero = refl
 none-steps c limits p g (suc zero) = refl
 none-steps c limits p g (suc (suc i)) = refl
 
 -- the numbers of the final state, where the ledger holds
-pub final-counts : (c : Code) (limits : Limits) (q p : Progress) (g : List Name) (lines : List Line) (strings : List Text) → HasLedger (source (modules_with c)) (final_system limits p g)
+pub final-counts : (c : Module) (limits : Limits) (q p : Progress) (g : List Name) (lines : List Line) (strings : List Text) → HasLedger (source (modules_with c)) (final_system limits p g)
     → Totals lines [] strings q p → q.serial ≡ 0 → q.steps ≡ 1 → q.actions ≡ 1 → length lines ≤ 1024 → length strings ≤ length lines
     → counts (source (modules_with c)) (final_system limits p g) ≡ counts_of (TheVariants.Receive ∷ lines) strings
 final-counts c limits q p g lines strings ledger totals serial_first steps_first actions_first few fewer =
@@ -92,7 +97,7 @@ sent-few : (count : ℕ) (lines : List Line) (slots : Slots) → AllByRecursion 
 sent-few count lines slots well finds = sent-most lines (values_of slots)
 
 -- in a state of a run no cell is lost, and none is made twice
-pub keeps-once : (modules : Modules) (c : Code) (limits : Limits) (arg : Text) → slice_get modules.codes modules.main ≡ Some c → (s : System (State Name)) (journal : List Entry) → IsRunTo (source modules) (opening (source modules) limits arg) journal s → HasLedger (source modules) s × IsMadeOnce (source modules) s
+pub keeps-once : (modules : Modules) (c : Module) (limits : Limits) (arg : Text) → slice_get modules.codes modules.main ≡ Some c → (s : System (State Name)) (journal : List Entry) → IsRunTo (source modules) (opening (source modules) limits arg) journal s → HasLedger (source modules) s × IsMadeOnce (source modules) s
 keeps-once modules c limits arg main s journal along =
     let first = begin c modules.main 1 main_port in
     let is : (source modules).begin modules.main 1 main_port ≡ Some first = ap (option_map (λ c. begin c modules.main 1 main_port)) main in
@@ -102,7 +107,7 @@ keeps-once modules c limits arg main s journal along =
 -- they are few.
 pub record AreSet (count : ℕ) (nodes : List Node) (label : ℕ → Fact → Bool) (limits : Limits) (arg : Text) (lines : List Line) : Type 0 where
   pub here : HaveNodes nodes 0 (TheVariants.Receive ∷ lines)
-  pub begins : (f : Fact) → label 0 f ≡ tells (before_receive (empty_slots count)) f
+  pub begins : (f : Fact) → label 0 f ≡ satisfies (before_receive (empty_slots count)) f
   pub labels : HaveLabels arg label 1 (received count nodes label limits arg) lines
   pub well : AllByRecursion (IsLine count) lines
   pub finds : FindsStrings (values_of (empty_slots count)) lines
@@ -120,7 +125,7 @@ module _ (count : ℕ) (nodes : List Node) (label : ℕ → Fact → Bool) (limi
   Ends lines = (g : List Name) × (run (source modules) ((acts 1 (port 1) ∷ map event_of lines) ++ acts 1 (port 1) ∷ []) (start (source modules) limits arg)
       ≡ Some (record { system = final_system limits (after_lines lines first) g; journal = final_journal (after_lines lines first) }))
 
-  whole-run : (lines : List Line) → HaveNodes nodes 0 (TheVariants.Receive ∷ lines) → ((f : Fact) → label 0 f ≡ tells (before_receive (empty_slots count)) f) → HaveLabels arg label 1 first lines
+  whole-run : (lines : List Line) → HaveNodes nodes 0 (TheVariants.Receive ∷ lines) → ((f : Fact) → label 0 f ≡ satisfies (before_receive (empty_slots count)) f) → HaveLabels arg label 1 first lines
       → AllByRecursion (IsLine count) lines → FindsStrings (values_of (empty_slots count)) lines → suc (length lines) ≤ limits.steps → suc (length lines) < greatest_actions
       → length (after_lines lines first).slots ≡ count → (after_lines lines first).actions < greatest_actions → Ends lines
   whole-run lines here begins labels well finds enough few size fewer =
@@ -176,17 +181,17 @@ module _ (count : ℕ) (nodes : List Node) (label : ℕ → Fact → Bool) (limi
 
 -- the modules of the one process
 abbrev pub IsAlone : ℕ → List Line → Modules → Type 0
-IsAlone count lines modules = (label : ℕ → Fact → Bool) × (modules ≡ modules_with (code_of predefined (process_of count lines) label)) × AreExact (flow_of predefined (process_of count lines)) label
+IsAlone count lines modules = (label : ℕ → Fact → Bool) × (modules ≡ modules_with (module_of predefined (process_of count lines) label)) × AreExact (flow_of predefined (process_of count lines)) label
 
-abbrev pub modules_of : TypeTable → List Code → ℕ → Modules
+abbrev pub modules_of : TypeTable → List Module → ℕ → Modules
 modules_of types codes main = record { types = types; codes = codes; main = main }
 
-pub alone : (count : ℕ) (lines : List Line) (types : TypeTable) (codes : List Code) (main : ℕ) → types ≡ predefined → AreCodesOf (program_of count lines) (process_of count lines ∷ []) codes → main ≡ 0 → IsAlone count lines (modules_of types codes main)
+pub alone : (count : ℕ) (lines : List Line) (types : TypeTable) (codes : List Module) (main : ℕ) → types ≡ predefined → AreCodesOf (program_of count lines) (process_of count lines ∷ []) codes → main ≡ 0 → IsAlone count lines (modules_of types codes main)
 alone count lines types [] main t are m = absurd are
 alone count lines types (c ∷ []) main t are m =
     let label : ℕ → Fact → Bool = are.0.0 in (
       label,
-      ap (λ x. modules_of x (c ∷ []) main) t ∙ ap (λ x. modules_of predefined (x ∷ []) main) are.0.1 ∙ ap (modules_of predefined (code_of predefined (process_of count lines) label ∷ [])) m,
+      ap (λ x. modules_of x (c ∷ []) main) t ∙ ap (λ x. modules_of predefined (x ∷ []) main) are.0.1 ∙ ap (modules_of predefined (module_of predefined (process_of count lines) label ∷ [])) m,
       are.0.2,
     )
 alone count lines types (c ∷ d ∷ codes) main t are m = absurd are.1
@@ -203,7 +208,7 @@ are-set count lines arg limits label well finds small enough exact =
     let is : flow ≡ straight all = flow_is count all (tt, steps-of count lines well) in
     let found = subst (λ v. FindsStrings v lines) (sym (values-empty count)) finds in
     let p : Progress = received count (nodes_with count lines) label limits arg in
-    let told : (f : Fact) → tells (variables_with arg (empty_slots count)) f ≡ carry f (held_at_start f) (TheVariants.Receive ∷ []) = λ f. receive-told arg (empty_slots count) f ∙ ap (hold f TheVariants.Receive) (start-told count f) in
+    let told : (f : Fact) → satisfies (variables_with arg (empty_slots count)) f ≡ carry f (held_at_start f) (TheVariants.Receive ∷ []) = λ f. receive-told arg (empty_slots count) f ∙ ap (hold f TheVariants.Receive) (start-told count f) in
     record {
       here = nodes-from (nodes_with count lines) [] 0 all refl refl;
       begins = λ f. exact-carry flow all [] TheVariants.Receive lines label f is exact refl ∙ sym (start-told count f);
@@ -220,7 +225,7 @@ module _ (count : ℕ) (limits : Limits) (arg : Text) (IsSo : List Line → Modu
     (step : (lines : List Line) (nodes : List Node) (label : ℕ → Fact → Bool) → AreSet count nodes label limits arg lines
     → IsSo (TheVariants.Receive ∷ lines) (modules_with (code_with count nodes label)) (sent_from (values_of (empty_slots count)) lines)) where
   by-body : (lines : List Line) (label : ℕ → Fact → Bool) → IsRunnable count lines → IsBody count lines → length lines ≤ limits.steps → AreExact (flow_of predefined (process_of count lines)) label
-      → IsSo lines (modules_with (code_of predefined (process_of count lines) label)) (sent count lines)
+      → IsSo lines (modules_with (module_of predefined (process_of count lines) label)) (sent count lines)
   by-body [] label can body enough exact = absurd body
   by-body (TheVariants.Receive ∷ lines) label can body enough exact =
       let set = are-set count lines arg limits label body can.finds can.few_lines enough exact in

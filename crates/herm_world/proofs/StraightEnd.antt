@@ -4,17 +4,19 @@ use Rattle.std.specs.List.{AllByRecursion}
 use Rattle.std.proofs.Math.Nat.{min-eq_left}
 use Rattle.herm_model.specs.Paths.{Fact, init}
 use Rattle.herm_model.specs.Types.{predefined}
-use Rattle.herm_model.specs.Nodes.{node, Node, nodes_in, process_nodes}
-use Rattle.herm_model.specs.Control.{Flow, held_at_start}
+use Rattle.herm_model.specs.Nodes.{Node, nodes_in, process_nodes}
+use Rattle.herm_model.specs.Targets.{node}
+use Rattle.herm_model.specs.ControlPaths.{Flow, held_at_start}
 use Rattle.herm_model.specs.Refusals.{AreExact}
-use Rattle.herm_model.specs.Values.{Cell, gaps, tells}
+use Rattle.herm_model.specs.Values.{Cell, gaps}
+use Rattle.herm_model.specs.FactsOfValues.{satisfies}
 use Rattle.herm_model.specs.Texts.{text_of}
 use Rattle.herm_journal.specs.Entries.{Text, Entry}
 use Rattle.herm_journal.specs.Journals.{IsRising, IsRisingFrom}
-use Rattle.herm_forms.specs.Bodies.{Name}
-use Rattle.herm_forms.specs.Edges.{code_of, loops_in}
+use Rattle.herm_forms.specs.Frames.{Name}
+use Rattle.herm_forms.specs.Modules.{module_of, loops_in}
 use Rattle.herm_journal.specs.Weights.{weigh_all, weigh_in, weigh_serials}
-use Rattle.herm_system.specs.Statuses.{Counts, one, cut}
+use Rattle.herm_system.specs.Summary.{Counts, one, cut}
 use Rattle.herm_compile.specs.Form.{IsLine}
 use Rattle.herm_compile.specs.Straight.{body_of, process_of, ok_hops, IsStep}
 use Rattle.herm_compile.proofs.StraightLaws.{around, nodes_are, straight, at_start, carry, carry_append, hold, walk_over, holds_at}
@@ -49,7 +51,7 @@ nodes-from nodes front i (line ∷ lines) l e =
       nodes-from nodes (front ++ n ∷ []) (suc i) lines (omega (arith, length-append front (n ∷ []))) (whole ∙ sym (append_assoc front (n ∷ []) rest)),
     )
 
-pub code-is : (count : ℕ) (line : Line) (lines : List Line) (label : ℕ → Fact → Bool) → code_of predefined (process_of count (line ∷ lines)) label ≡ code_with count (process_nodes (process_of count (line ∷ lines))) label
+pub code-is : (count : ℕ) (line : Line) (lines : List Line) (label : ℕ → Fact → Bool) → module_of predefined (process_of count (line ∷ lines)) label ≡ code_with count (process_nodes (process_of count (line ∷ lines))) label
 code-is count line lines label =
     ap (λ loops. record { types = predefined; variables = Progress.types_of count; entry = node 0; nodes = process_nodes (process_of count (line ∷ lines)); loops = loops; label = label }) (no-loops (line ∷ lines) 1)
 
@@ -72,7 +74,7 @@ exact-carry flow lines before line behind label f is exact parts =
 
 module _ (arg : Text) (count : ℕ) (label : ℕ → Fact → Bool) (flow : Flow) (all : List Line) (is : flow ≡ straight all) (exact : AreExact flow label) where
   pub labels-along : (lines before : List Line) (p : Progress) → all ≡ before ++ lines → AllByRecursion (IsLine count) lines → FindsStrings (values_of p.slots) lines → length p.slots ≡ count
-      → ((f : Fact) → tells (variables_with arg p.slots) f ≡ carry f (held_at_start f) before) → HaveLabels arg label (length before) p lines
+      → ((f : Fact) → satisfies (variables_with arg p.slots) f ≡ carry f (held_at_start f) before) → HaveLabels arg label (length before) p lines
   labels-along [] before p parts well finds size told = tt
   labels-along (line ∷ lines) before p parts well finds size told =
       let behind = behind-line line p (able count line lines (values_of p.slots) well.0 finds) in

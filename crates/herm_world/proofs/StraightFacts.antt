@@ -4,13 +4,14 @@ use Rattle.std.proofs.lemmas.Bool.{eq-eqb, eqb-true, eqb-false, ne_eqb}
 use Rattle.std.proofs.Math.Bool.{or-false}
 use Rattle.herm_model.specs.Lists.{same_numbers}
 use Rattle.herm_model.specs.Paths.{Path, Fact, init, case}
-use Rattle.herm_model.specs.Values.{a_scalar, a_text, an_inport, an_outport, Cell, cell, Parts, no_parts, gap, part, part_at, set_part, size, cell_at, read_at, is_component, tells}
-use Rattle.herm_model.specs.Nodes.{end}
-use Rattle.herm_model.specs.Control.{held_behind, held_at_start}
+use Rattle.herm_model.specs.Values.{a_scalar, a_text, an_inport, an_outport, Cell, cell, Parts, no_parts, gap, part, part_at, set_part, size, cell_at, read_at}
+use Rattle.herm_model.specs.FactsOfValues.{is_component, satisfies}
+use Rattle.herm_model.specs.Targets.{end}
+use Rattle.herm_model.specs.ControlPaths.{held_after_edge, held_at_start}
 use Rattle.herm_model.specs.Outcomes.{ok}
 use Rattle.herm_model.proofs.NothingThere.{none-there, none-read}
 use Rattle.herm_model.proofs.Places.{cell_below, cell-below, read_below, read-below, part_at-set_same, part_at-set_other}
-use Rattle.herm_forms.specs.Bodies.{Name}
+use Rattle.herm_forms.specs.Frames.{Name}
 use Rattle.herm_journal.specs.Entries.{Text}
 use Rattle.herm_system.specs.Systems.{main_port, first_message}
 use Rattle.herm_compile.proofs.StraightLaws.{hold}
@@ -28,7 +29,7 @@ none-below (j ∷ q) = none-there (j ∷ q)
 
 -- what a string that is set, or cleared, does to the facts
 abbrev setting : ℕ → Option Made → Fact → Bool → Bool
-setting n o f held = held_behind (record { outcome = ok; makes = cond (is_some o) (init (n ∷ []) ∷ []) []; kills = (n ∷ []) ∷ []; target = end }) f held
+setting n o f held = held_after_edge (record { outcome = ok; makes = cond (is_some o) (init (n ∷ []) ∷ []) []; kills = (n ∷ []) ∷ []; target = end }) f held
 
 string-below : (m : Made) (q : Path) → is_some (cell_below q (Some (string_cell m))) ≡ same_numbers q []
 string-below m [] = refl
@@ -125,7 +126,7 @@ fits : (arg : Text) (k : ℕ) (slots : Slots) → k < length slots → suc (suc 
 fits arg k slots h = omega (arith, size-strings slots)
 
 abbrev Tells : Text → Slots → Line → Slots → Fact → Type 0
-Tells arg old line new f = tells (variables_with arg new) f ≡ hold f line (tells (variables_with arg old) f)
+Tells arg old line new f = satisfies (variables_with arg new) f ≡ hold f line (satisfies (variables_with arg old) f)
 
 case-told : (arg : Text) (old new : Slots) (line : Line) (p : Path) (c : ℕ) → Tells arg old line new (case p c)
 case-told arg old new line p c = no-component arg new p c ∙ sym (no-case line p c) ∙ ap (hold (case p c) line) (sym (no-component arg old p c))
@@ -152,7 +153,7 @@ clear-told arg slots k line h clears (case p c) = case-told arg slots (set_slot 
 -- the receive
 
 abbrev Receives : Text → Slots → Fact → Type 0
-Receives arg slots f = tells (variables_with arg slots) f ≡ hold f TheVariants.Receive (tells (before_receive slots) f)
+Receives arg slots f = satisfies (variables_with arg slots) f ≡ hold f TheVariants.Receive (satisfies (before_receive slots) f)
 
 abbrev IsThere : Option (Cell Name) → Bool
 IsThere o = is_some o
@@ -178,7 +179,7 @@ empty-slot zero (suc count) = refl
 empty-slot (suc i) (suc count) = empty-slot i count
 
 -- the start
-pub start-told : (count : ℕ) (f : Fact) → tells (before_receive (empty_slots count)) f ≡ held_at_start f
+pub start-told : (count : ℕ) (f : Fact) → satisfies (before_receive (empty_slots count)) f ≡ held_at_start f
 start-told count (init []) = refl
 start-told count (init (zero ∷ [])) = refl
 start-told count (init (zero ∷ j ∷ q)) = ap IsThere (none-there (j ∷ q))
@@ -190,14 +191,14 @@ start-told count (case p c) = no-component_first (empty_slots count) p c
 
 -- a line that finds its string changes the facts as the statement table says
 pub line-told : (arg : Text) (count : ℕ) (line : Line) (lines : List Line) (p : Progress) → IsLine count line → FindsStrings (values_of p.slots) (line ∷ lines) → length p.slots ≡ count → (f : Fact)
-    → tells (variables_with arg (after_line line p).slots) f ≡ hold f line (tells (variables_with arg p.slots) f)
+    → satisfies (variables_with arg (after_line line p).slots) f ≡ hold f line (satisfies (variables_with arg p.slots) f)
 line-told arg count TheVariants.Receive lines p h finds size f = absurd h
 line-told arg count (TheVariants.Set k bytes) lines p h finds size f = let within : k < length p.slots = omega (arith, h.0) in set-told arg p.slots k bytes (p.serial, bytes) within f
 line-told arg count (TheVariants.Send k) lines p h finds size f =
     let within : k < length p.slots = omega (arith, h) in
     let found = slot-found k p.slots finds.0 in
-    subst (λ o. tells (variables_with arg (after_send o k p).slots) f ≡ hold f (TheVariants.Send k) (tells (variables_with arg p.slots) f)) (sym found.1) (clear-told arg p.slots k (TheVariants.Send k) within (λ f b. refl) f)
+    subst (λ o. satisfies (variables_with arg (after_send o k p).slots) f ≡ hold f (TheVariants.Send k) (satisfies (variables_with arg p.slots) f)) (sym found.1) (clear-told arg p.slots k (TheVariants.Send k) within (λ f b. refl) f)
 line-told arg count (TheVariants.Discard k) lines p h finds size f =
     let within : k < length p.slots = omega (arith, h) in
     let found = slot-found k p.slots finds.0 in
-    subst (λ o. tells (variables_with arg (after_discard o k p).slots) f ≡ hold f (TheVariants.Discard k) (tells (variables_with arg p.slots) f)) (sym found.1) (clear-told arg p.slots k (TheVariants.Discard k) within (λ f b. refl) f)
+    subst (λ o. satisfies (variables_with arg (after_discard o k p).slots) f ≡ hold f (TheVariants.Discard k) (satisfies (variables_with arg p.slots) f)) (sym found.1) (clear-told arg p.slots k (TheVariants.Discard k) within (λ f b. refl) f)

@@ -7,8 +7,8 @@ use Rattle.herm_model.specs.Values.{Cell}
 use Rattle.herm_model.specs.Texts.{text_of}
 use Rattle.herm_journal.specs.Actions.{put}
 use Rattle.herm_journal.specs.Entries.{Text, Entry, port, Record}
-use Rattle.herm_journal.specs.Journals.{clock_of_process, clock_of_place, next_stamp, entry_behind}
-use Rattle.herm_forms.specs.Bodies.{Name}
+use Rattle.herm_journal.specs.Stamps.{clock_of_process, clock_of_place, next_stamp, entry_behind}
+use Rattle.herm_forms.specs.Frames.{Name}
 use Rattle.herm_runs.proofs.Ordered.{last-more}
 use Rattle.herm_compile.specs.Form.{IsLine}
 use Rattle.herm_compile.specs.declared.compiled.Line.{Line}

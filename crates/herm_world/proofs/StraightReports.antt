@@ -4,14 +4,15 @@ use Rattle.herm_model.specs.Paths.{Fact}
 use Rattle.herm_model.specs.Nodes.{Node}
 use Rattle.herm_model.specs.Typed.{is_text}
 use Rattle.herm_model.specs.Values.{Cell}
-use Rattle.herm_journal.specs.Places.{Limits}
+use Rattle.herm_journal.specs.PlaceStates.{Limits}
 use Rattle.herm_journal.specs.Entries.{Text, Entry}
-use Rattle.herm_forms.specs.Bodies.{Name}
-use Rattle.herm_forms.specs.Edges.{Code}
+use Rattle.herm_forms.specs.Frames.{Name}
+use Rattle.herm_forms.specs.Modules.{Module}
 use Rattle.herm_source.specs.Modules.{Modules}
 use Rattle.herm_system.specs.Systems.{System, Run, main_port}
-use Rattle.herm_source.specs.Headline.{AreAccepted, Describes}
-use Rattle.herm_system.specs.Statuses.{line, bytes_of, plainly}
+use Rattle.herm_source.specs.AcceptedRuns.{AreAccepted, Describes}
+use Rattle.herm_system.specs.RunTexts.{bytes_of, plainly}
+use Rattle.herm_system.specs.Lines.{line}
 use Rattle.herm_runs.proofs.Events.{run-stamped}
 use Rattle.herm_runs.proofs.SystemLedger.{runs-keep}
 use Rattle.herm_compile.specs.declared.compiled.Line.{Line}
@@ -43,7 +44,7 @@ module _ (count : ℕ) (limits : Limits) (arg : Text) where
   of-run : (lines : List Line) (nodes : List Node) (label : ℕ → Fact → Bool) → AreSet count nodes label limits arg lines
       → AreOfRun limits arg (TheVariants.Receive ∷ lines) (modules_with (code_with count nodes label)) (sent_from (values_of (empty_slots count)) lines)
   of-run lines nodes label set =
-      let code : Code = code_with count nodes label in
+      let code : Module = code_with count nodes label in
       let modules : Modules = modules_with code in
       let first : Progress = received count nodes label limits arg in
       let p : Progress = after_lines lines first in

@@ -5,15 +5,17 @@ use Rattle.std.specs.List.{AllByRecursion}
 use Rattle.std.proofs.lemmas.Bool.{lt-ltb}
 use Rattle.std.proofs.lemmas.List.{length-replicate}
 use Rattle.herm_model.specs.Paths.{Fact, init}
-use Rattle.herm_model.specs.Nodes.{Target, node, end, Node}
-use Rattle.herm_model.specs.Values.{Parts, part, gap, gaps, tells, size}
+use Rattle.herm_model.specs.Nodes.{Node}
+use Rattle.herm_model.specs.Targets.{Target, node, end}
+use Rattle.herm_model.specs.Values.{Parts, part, gap, gaps, size}
+use Rattle.herm_model.specs.FactsOfValues.{satisfies}
 use Rattle.herm_model.specs.Texts.{text_of}
 use Rattle.herm_journal.specs.Actions.{take}
-use Rattle.herm_journal.specs.Places.{Limits, empty_port, port_with, a_port}
+use Rattle.herm_journal.specs.PlaceStates.{Limits, empty_port, port_with, a_port}
 use Rattle.herm_journal.specs.Entries.{Text, port}
-use Rattle.herm_journal.specs.Journals.{entry_behind}
-use Rattle.herm_forms.specs.Bodies.{Name, Body}
-use Rattle.herm_forms.specs.Edges.{arrive}
+use Rattle.herm_journal.specs.Stamps.{entry_behind}
+use Rattle.herm_forms.specs.Frames.{Name, Frame}
+use Rattle.herm_forms.specs.EdgeFinalising.{arrive}
 use Rattle.herm_system.specs.Machines.{greatest_actions}
 use Rattle.herm_source.specs.States.{answered, own_name, State}
 use Rattle.herm_source.specs.Modules.{Modules}
@@ -44,7 +46,7 @@ HaveNodes nodes i (line ∷ lines) = (slice_get nodes i ≡ Some (node_for i lin
 -- the labels from a place on have what the values tell there
 abbrev pub HaveLabels : Text → (ℕ → Fact → Bool) → ℕ → Progress → List Line → Type 0
 HaveLabels arg label i p [] = ⊤
-HaveLabels arg label i p (line ∷ lines) = ((f : Fact) → label i f ≡ tells (variables_with arg p.slots) f) × HaveLabels arg label (suc i) (after_line line p) lines
+HaveLabels arg label i p (line ∷ lines) = ((f : Fact) → label i f ≡ satisfies (variables_with arg p.slots) f) × HaveLabels arg label (suc i) (after_line line p) lines
 
 -- a line behind the receive that finds its string
 abbrev pub Able : Values → Line → Type 0
@@ -163,13 +165,13 @@ module _ (count : ℕ) (nodes : List Node) (label : ℕ → Fact → Bool) (limi
   first-gaps : gaps {N = Name} (length (replicate {A = ℕ} count 2)) ≡ strings_of (empty_slots count)
   first-gaps = ap gaps (length-replicate count 2) ∙ gaps-empty count
 
-  pub start-is : ((f : Fact) → label 0 f ≡ tells first_variables f) → start (source modules) limits arg ≡ first_run
+  pub start-is : ((f : Fact) → label 0 f ≡ satisfies first_variables f) → start (source modules) limits arg ≡ first_run
   start-is same =
       ap (λ (ps : Parts Name). record {
         system = system_with limits (node 0) (arrive (code_with count nodes label) (node 0) (body_of (part main_port (gap ps)) [] 0 0 0 [])) (empty_port ∷ port_with (first_message arg) ∷ []);
         journal = [];
       }) first-gaps
-      ∙ ap (λ (b : Body Name). record { system = system_with limits (node 0) b (empty_port ∷ port_with (first_message arg) ∷ []); journal = [] }) (arrive-kept count nodes label 0 0 0 0 first_variables [] (λ q. same (init q)))
+      ∙ ap (λ (b : Frame Name). record { system = system_with limits (node 0) b (empty_port ∷ port_with (first_message arg) ∷ []); journal = [] }) (arrive-kept count nodes label 0 0 0 0 first_variables [] (λ q. same (init q)))
 
   answered-take : (t : Target) → slice_get nodes 0 ≡ Some (node_for 0 TheVariants.Receive t)
       → answered own_name (code_with count nodes label) (state_of (node 0) (body_of first_variables [] 0 0 0 [])) 1 (take 0 (first_message arg)) ≡ Some (state_of t (arrive (code_with count nodes label) t (body_at arg received)))
@@ -182,7 +184,7 @@ module _ (count : ℕ) (nodes : List Node) (label : ℕ → Fact → Bool) (limi
       rw (here, below, behind-answer modules 1 (port 1) first_run.system (state_of (node 0) (body_of first_variables [] 0 0 0 [])) (a_port (port_with (first_message arg))) (take 0 (first_message arg)) (state_of t (arrive (code_with count nodes label) t (body_at arg received))) (answered-take t here)) refl
 
   -- the run along the receive and these lines, up to the end of the body
-  pub body-run : (lines : List Line) → HaveNodes nodes 0 (TheVariants.Receive ∷ lines) → ((f : Fact) → label 0 f ≡ tells first_variables f) → HaveLabels arg label 1 received lines
+  pub body-run : (lines : List Line) → HaveNodes nodes 0 (TheVariants.Receive ∷ lines) → ((f : Fact) → label 0 f ≡ satisfies first_variables f) → HaveLabels arg label 1 received lines
       → AllByRecursion (IsLine count) lines → FindsStrings (values_of (empty_slots count)) lines → suc (length lines) ≤ limits.steps → suc (length lines) < greatest_actions
       → run (source modules) (acts 1 (port 1) ∷ map event_of lines) (start (source modules) limits arg) ≡ Some (arrived (code_with count nodes label) limits arg end (after_lines lines received))
   body-run [] here first labels well finds enough few =

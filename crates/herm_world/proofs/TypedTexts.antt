@@ -4,7 +4,7 @@ use Rattle.herm_model.specs.Types.{predefined}
 use Rattle.herm_model.specs.Typed.{is_text, leaf_if, Fits, HasType}
 use Rattle.herm_model.specs.Values.{a_scalar, a_text, cell, no_parts}
 use Rattle.herm_journal.specs.Entries.{Text}
-use Rattle.herm_forms.specs.Bodies.{Name}
+use Rattle.herm_forms.specs.Frames.{Name}
 use Rattle.herm_system.specs.Systems.{first_message}
 
 pub text-typed : (n : Name) (bytes : Text) → IsTrue (is_text bytes) → HasType predefined 2 (cell n (a_scalar (a_text bytes)) no_parts)

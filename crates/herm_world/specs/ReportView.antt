@@ -7,7 +7,8 @@ use Rattle.herm_journal.specs.Entries as source
 use Rattle.herm_journal.specs.Entries.{Text, Record, port, reply_cell, book}
 use Rattle.herm_system.specs.Reports as headline
 use Rattle.herm_system.specs.Statuses as statuses
-use Rattle.herm_system.specs.Statuses.{Fate, ended_normally, ended_by, waits, spent_steps, spent_actions}
+use Rattle.herm_system.specs.Summary as summary
+use Rattle.herm_system.specs.ProcessFates.{Fate, ended_normally, ended_by, waits, spent_steps, spent_actions}
 use Rattle.herm_base.specs.declared.numbers.PortNo.{PortNo}
 use Rattle.herm_base.specs.declared.numbers.ProcNo.{ProcNo}
 use Rattle.herm_world.specs.declared.report.Place.{Place}
@@ -73,7 +74,7 @@ fates_of ends = map fate_of ends
 abbrev pub numbered_queues : List (PortNo × List Text) → List (ℕ × List Text)
 numbered_queues queued = map (λ (q : PortNo × List Text). (q.0.number, q.1)) queued
 
-abbrev pub numbers_of : Counts → statuses.Counts
+abbrev pub numbers_of : Counts → summary.Counts
 numbers_of c = record {
   processes = c.processes;
   ended = c.ended;

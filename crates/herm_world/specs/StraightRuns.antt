@@ -10,9 +10,12 @@ use Rattle.herm_journal.specs.Entries.{Text, Entry, Place, Record, port}
 use Rattle.herm_forms.specs.Evaluate.{scalar_value}
 use Rattle.herm_source.specs.Modules.{Program, Modules}
 use Rattle.herm_system.specs.Systems.{System, first_message, IsFinal, Event, Run, run, start}
-use Rattle.herm_journal.specs.Places.{Limits}
-use Rattle.herm_system.specs.Statuses.{Counts, ended_normally, plainly, line}
-use Rattle.herm_source.specs.Headline.{AreAccepted, Describes}
+use Rattle.herm_journal.specs.PlaceStates.{Limits}
+use Rattle.herm_system.specs.RunTexts.{plainly}
+use Rattle.herm_system.specs.Summary.{Counts}
+use Rattle.herm_system.specs.Lines.{line}
+use Rattle.herm_system.specs.ProcessFates.{ended_normally}
+use Rattle.herm_source.specs.AcceptedRuns.{AreAccepted, Describes}
 use Rattle.herm_system.specs.Reports.{Report, IsReportOf}
 use Rattle.herm_compile.specs.Form.{IsBody}
 use Rattle.herm_compile.specs.Straight.{process_of}

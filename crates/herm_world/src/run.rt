@@ -6,7 +6,8 @@ ghost use Rattle.herm_world.specs.Reports.{queue_of};
 ghost use Rattle.herm_world.specs.StringTexts.{quoted};
 ghost use Rattle.herm_world.specs.StraightRuns.{IsRunnable, IsReported, an_entry, taken_at, counts_from, sent_at, sent_all, closed_at, journal_of, sets, counts_of, start_text, string_text};
 ghost use Rattle.herm_world.specs.ReportView.{entries_of, fates_of, numbered_queues, numbers_of, report_as, place_of, record_of};
-ghost use Rattle.herm_system.specs.Statuses.{ended_normally, line};
+ghost use Rattle.herm_system.specs.Lines.{line};
+ghost use Rattle.herm_system.specs.ProcessFates.{ended_normally};
 ghost use Rattle.std.specs.List.{flat_map};
 ghost use Rattle.herm_journal.specs.Entries as source;
 

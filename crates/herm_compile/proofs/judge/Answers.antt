@@ -15,4 +15,4 @@ returns-then-is_empty-clause-accepted c =
 pub returns-in-Ok-clause-refused : goal.returns-in-Ok-clause-refused
 returns-in-Ok-clause-refused c =
     let e = rw c.as_slice.ensures.value at c.is_empty.ensures in
-    inr (inr (is_lacking c.args.bytes.now c.args.program.names.items c.args.program.lines.items c.args.tokens.now c.in-Ok.faults.items c.requires (sym e ∙ c.if-is_empty.false) c.in-Ok.ensures))
+    inr (is_lacking c.args.bytes.now c.args.program.names.items c.args.program.lines.items c.args.tokens.now c.in-Ok.faults.items c.requires (sym e ∙ c.if-is_empty.false) c.in-Ok.ensures)

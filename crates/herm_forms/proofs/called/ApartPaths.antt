@@ -3,9 +3,9 @@ use Rattle.std.proofs.Common.{◌≡◌, ◌⊎◌, inl, inr, ℕ, List, [], ◌
 use Rattle.std.specs.Prelude.{slice_get, flat_map, IsTrue}
 use mathlib.Core.Bool.{false≢true}
 use borrow.Author.Tests.{eqb-true, eq-eqb}
-use Rattle.herm_model.specs.Lists.{IsIn, some_of, list_of}
+use Rattle.herm_model.specs.Lists.{IsIn, any_pass, list_of}
 use Rattle.herm_model.specs.Paths.{Path, Fact, init, path_of, same_fact, is_at_or_below, are_apart}
-use Rattle.herm_model.specs.Types.{TypeTable, type_at, passes_component, full_parts, steps}
+use Rattle.herm_model.specs.Types.{TypeTable, type_at, passes_component, full_parts, part_paths}
 use Rattle.herm_model.specs.Facts.{facts_to, prefixes, with_prefixes, full_facts}
 use Rattle.herm_model.specs.StatementTable.{full, closed}
 use Rattle.herm_model.proofs.Lists.{and-both, both-and, or-either, in-append_cases, in-append_left, in-append_right, in-flat_map, in-flat_map_from, in-map_from}
@@ -77,7 +77,7 @@ module _ (types : TypeTable) (variables : List ℕ) where
   own-one : (x : Path) (w : Bool) (o : Option ℕ) (g : Fact) → IsIn g (cond w [] (list_of (λ t. full_facts types t x) o)) → AreOnePath x (path_of g)
   own-one x true o g h = absurd h
   own-one x false None g h = absurd h
-  own-one x false (Some t) g h = let r = in-map_from (λ r. init (x ++ r)) g (steps full_parts types t) h in inr (subst (λ g. is_at_or_below x (path_of g) ≡ true) (sym r.2) (above-longer x r.0))
+  own-one x false (Some t) g h = let r = in-map_from (λ r. init (x ++ r)) g (part_paths full_parts types t) h in inr (subst (λ g. is_at_or_below x (path_of g) ≡ true) (sym r.2) (above-longer x r.0))
 
   full-one : (x : Path) (g : Fact) → IsIn g (full types variables x) → AreOnePath x (path_of g)
   full-one x g h = by (in-append_cases g (facts_to types variables x) (cond (passes_component types variables x) [] (list_of (λ t. full_facts types t x) (type_at types variables x))) h)
@@ -122,7 +122,7 @@ module _ (types : TypeTable) (variables : List ℕ) where
       by g of (inr h) = inr (IsIn-once f (flat_map (with_prefixes types variables) gs) (in-flat_map (with_prefixes types variables) g f gs h of))
 
   abbrev is_made : List Fact → Fact → Bool
-  is_made fs f = some_of (same_fact f) (closed types variables fs)
+  is_made fs f = any_pass (same_fact f) (closed types variables fs)
 
   pub made-joined : (fs gs : List Fact) (f : Fact) → is_made (fs ++ gs) f ≡ is_made fs f || is_made gs f
   made-joined fs gs f = by (is_made (fs ++ gs) f) (is_made fs f) (is_made gs f) refl refl refl

@@ -2,21 +2,21 @@
 use Rattle.std.proofs.Common.{◌≡◌, ◌⊎◌, inl, inr, ℕ, List, [], ◌∷◌, ◌++◌, Bool, true, false, cond, not, ◌&&◌, ◌||◌, refl, sym, subst}
 use Rattle.std.specs.Prelude.{IsTrue}
 use mathlib.Core.Bool.{false≢true}
-use Rattle.herm_model.specs.Lists.{IsIn, some_of}
+use Rattle.herm_model.specs.Lists.{IsIn, any_pass}
 use Rattle.herm_model.specs.Paths.{Path, Fact, path_of, is_at_or_below}
 use Rattle.herm_model.specs.Values.{Parts, clear_at}
 use Rattle.herm_model.specs.Finalising.{clear_all}
 use Rattle.herm_model.proofs.Beginnings.{below-trans}
 use Rattle.herm_model.proofs.Lists.{or-left, or-right, or-either}
-use Rattle.herm_forms.specs.Bodies.{Name}
-use Rattle.herm_forms.specs.Edges.{Code}
-use Rattle.herm_forms.specs.Arrival.{AreSound, without}
+use Rattle.herm_forms.specs.Frames.{Name}
+use Rattle.herm_forms.specs.Modules.{Module}
+use Rattle.herm_forms.specs.laws.EdgeLaws.{AreSound, without}
 use Rattle.herm_forms.proofs.SetValues.{clearing-sound}
 use Rattle.herm_forms.proofs.forms.PlainForms.{same_facts}
 
 -- at or below one of the paths
 abbrev pub is_under : List Path → Path → Bool
-is_under paths q = some_of (λ p. is_at_or_below p q) paths
+is_under paths q = any_pass (λ p. is_at_or_below p q) paths
 
 -- the facts without those at or below the paths
 abbrev pub less : List Path → (Fact → Bool) → Fact → Bool
@@ -75,7 +75,7 @@ less-less (x ∷ xs) ys has f = by (is_at_or_below x (path_of f)) (is_under ys (
     by true b same = nothing b
     by false b same = same
 
-pub all-cleared : (c : Code) (paths : List Path) → ((p : Path) → IsIn p paths → IsPath p) → (has : Fact → Bool) (ps : Parts Name) → AreSound c has ps → AreSound c (less paths has) (clear_all paths ps)
+pub all-cleared : (c : Module) (paths : List Path) → ((p : Path) → IsIn p paths → IsPath p) → (has : Fact → Bool) (ps : Parts Name) → AreSound c has ps → AreSound c (less paths has) (clear_all paths ps)
 all-cleared c [] are has ps sound = sound
 all-cleared c (p ∷ paths) are has ps sound =
     let x = are p (inl refl) in

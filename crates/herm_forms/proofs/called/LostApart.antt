@@ -10,7 +10,7 @@ use Rattle.herm_model.specs.Finalising.{clear_all}
 use Rattle.herm_model.proofs.Lists.{or-either, or-left, or-right}
 use Rattle.herm_model.proofs.Places.{cell_at-set_above, cell_at-set_apart}
 use Rattle.herm_model.proofs.Options.{some-injective, none-not_some}
-use Rattle.herm_forms.specs.Bodies.{Name, Body, cleared, Taken, with_taken, take_all}
+use Rattle.herm_forms.specs.Frames.{Name, Frame, cleared, Taken, with_taken, take_all}
 use Rattle.herm_model.specs.TypedStatements.{AreApart}
 
 pub clear-append : (xs ys : List Path) (ps : Parts Name) → clear_all (xs ++ ys) ps ≡ clear_all ys (clear_all xs ps)
@@ -18,14 +18,14 @@ clear-append [] ys ps = refl
 clear-append (x ∷ xs) ys ps = clear-append xs ys (clear_at x ps)
 
 -- what was taken first, and then the rest
-pub record First (p : Path) (paths : List Path) (b : Body Name) (t : Taken Name) : Type 0 where
+pub record First (p : Path) (paths : List Path) (b : Frame Name) (t : Taken Name) : Type 0 where
   pub cell : Cell Name
   pub at : cell_at p b.variables ≡ Some cell
   pub rest : Taken Name
   pub next : take_all paths (cleared p b) ≡ Some rest
   pub cells : t.cells ≡ cell ∷ rest.cells
 
-pub first-taken : (p : Path) (paths : List Path) (b : Body Name) (t : Taken Name) → take_all (p ∷ paths) b ≡ Some t → First p paths b t
+pub first-taken : (p : Path) (paths : List Path) (b : Frame Name) (t : Taken Name) → take_all (p ∷ paths) b ≡ Some t → First p paths b t
 first-taken p paths b t e = by (cell_at p b.variables) refl e
   where
     more : (d : Cell Name) → cell_at p b.variables ≡ Some d → (x : Option (Taken Name)) → take_all paths (cleared p b) ≡ x → with_taken d x ≡ Some t → First p paths b t
@@ -52,7 +52,7 @@ unlike-back i j n = by (nat_eq j i) refl
     by false e = refl
     by true e = absurd (false≢true (sym (ap not (eq-eqb i j (sym (eqb-true j i e)))) ∙ n))
 
-apart-back : (x y : Path) → IsTrue (are_apart x y) → IsTrue (are_apart y x)
+pub apart-back : (x y : Path) → IsTrue (are_apart x y) → IsTrue (are_apart y x)
 apart-back [] y h = absurd (false≢true h)
 apart-back (i ∷ p) [] h = absurd (false≢true h)
 apart-back (i ∷ p) (j ∷ q) h = by (or-either (not (nat_eq i j)) (are_apart p q) h) (λ a. apart-back p q a)

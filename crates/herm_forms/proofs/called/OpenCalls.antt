@@ -2,7 +2,7 @@
 use Rattle.std.proofs.Common.{◌≡◌, ◌⊎◌, inl, inr, ℕ, ◌+◌, List, [], ◌∷◌, ◌++◌, map, Bool, true, false, cond, nat_eq, Option, Some, None, option_map, refl, sym, ap, ◌∙◌, subst}
 use Rattle.std.specs.Prelude.{slice_get, flat_map, option_and_then, IsTrue, ⊤}
 use mathlib.Core.Bool.{false≢true}
-use Rattle.herm_model.specs.Lists.{IsIn, some_of, list_of}
+use Rattle.herm_model.specs.Lists.{IsIn, any_pass, list_of}
 use Rattle.herm_model.specs.Paths.{Path, Fact, path_of, same_fact, is_at_or_below}
 use Rattle.herm_model.specs.Types.{Mode, by_in, by_inout, by_out, Parameter, type_at}
 use Rattle.herm_model.specs.Facts.{full_facts}
@@ -11,18 +11,20 @@ use Rattle.herm_model.specs.Calls.{call_parameters, call_raises, kept_for, is_re
 use Rattle.herm_model.specs.Statements.{Call}
 use Rattle.herm_model.specs.StatementTable.{full_of_each, closed, set_by_call}
 use Rattle.herm_model.specs.Outcomes.{Outcome, raised, disconnected}
-use Rattle.herm_model.specs.Values.{Cell, Parts, cell_at, copy_in, count_in}
+use Rattle.herm_model.specs.Values.{Cell, Parts, cell_at}
+use Rattle.herm_model.specs.CellNames.{copy_in, count_in}
 use Rattle.herm_model.specs.Finalising.{clear_all}
 use Rattle.herm_model.proofs.Beginnings.{below-self}
 use Rattle.herm_model.proofs.Lists.{in-flat_map_from, in-append_left, in-append_right, in-append_cases}
 use Rattle.herm_model.proofs.Options.{some-injective, none-not_some}
-use Rattle.herm_forms.specs.Bodies.{Name, Body, Result, goes, stays, stuck, if_there, drop, end_cell, Taken, take_all}
-use Rattle.herm_forms.specs.Exchanges.{Composed, with_message, compose, assemble}
-use Rattle.herm_forms.specs.Edges.{Code, beyond_full}
+use Rattle.herm_forms.specs.Frames.{Name, Frame, Completion, goes, stays, stuck, if_there, drop, finalise_at_once, Taken, take_all}
+use Rattle.herm_forms.specs.Callmessages.{Composed, with_message, compose, assemble}
+use Rattle.herm_forms.specs.Excess.{excess_over_full}
+use Rattle.herm_forms.specs.Modules.{Module}
 use Rattle.herm_forms.specs.Acts.{is_inout, is_out, inputs_of, arguments_at, composed}
-use Rattle.herm_forms.specs.Callings.{Calling, lent_by}
-use Rattle.herm_forms.specs.Arrival.{AreSound, held_after}
-use Rattle.herm_forms.specs.CallLaws.{without_lent, HasTargets, CallsKeepSound}
+use Rattle.herm_forms.specs.OpenCalls.{Calling, lent_paths}
+use Rattle.herm_forms.specs.laws.EdgeLaws.{AreSound, held_after}
+use Rattle.herm_forms.specs.laws.CallLaws.{without_lent, HasTargets, CallsKeepSound}
 use Rattle.herm_forms.proofs.Arrived.{drop-variables}
 use Rattle.herm_forms.proofs.forms.PlainForms.{same_body, same_outcome_of, never, same_facts}
 use Rattle.herm_forms.proofs.forms.ExcessDropped.{beyond-below}
@@ -82,11 +84,11 @@ read-path : (p : Path) (ps : Parts Name) (d : Cell Name) → cell_at p ps ≡ So
 read-path [] ps d e = none-not_some e
 read-path (i ∷ q) ps d e = (i, q, refl)
 
-pub typed-path : (c : Code) (p : Path) (t : ℕ) → type_at c.types c.variables p ≡ Some t → IsPath p
+pub typed-path : (c : Module) (p : Path) (t : ℕ) → type_at c.types c.variables p ≡ Some t → IsPath p
 typed-path c [] t e = none-not_some e
 typed-path c (i ∷ q) t e = (i, q, refl)
 
-taken-paths : (paths : List Path) (b : Body Name) (t : Taken Name) → take_all paths b ≡ Some t → (p : Path) → IsIn p paths → IsPath p
+taken-paths : (paths : List Path) (b : Frame Name) (t : Taken Name) → take_all paths b ≡ Some t → (p : Path) → IsIn p paths → IsPath p
 taken-paths [] b t e p h = absurd h
 taken-paths (x ∷ paths) b t e p (inl same) = let f = first-taken x paths b t e in subst IsPath (sym same) (read-path x b.variables f.cell f.at)
 taken-paths (x ∷ paths) b t e p (inr h) = let f = first-taken x paths b t e in taken-paths paths _ f.rest f.next p h
@@ -96,39 +98,39 @@ below-path x [] is h = absurd (false≢true (sym (ap (λ x. is_at_or_below x [])
 below-path x (j ∷ r) is h = (j, r, refl)
 
 -- what a callmessage is composed of was taken, and its body has what is left
-record Left (lost moved : List Path) (b : Body Name) (x : Composed Name) : Type 0 where
-  cut : Body Name
+record Left (lost moved : List Path) (b : Frame Name) (x : Composed Name) : Type 0 where
+  cut : Frame Name
   before : cut.variables ≡ b.variables
   taken : Taken Name
   at : take_all moved (drop lost cut) ≡ Some taken
-  left : x.body.variables ≡ taken.body.variables
+  left : x.frame.variables ≡ taken.frame.variables
 
-composed-left : (name : Name → Name) (modes : List Mode) (lost moved : List Path) (b : Body Name) (y : Option (Parts ⊤)) (x : Composed Name) → option_and_then (λ inputs. compose name modes inputs lost moved b) y ≡ Some x → Left lost moved b x
+composed-left : (name : Name → Name) (modes : List Mode) (lost moved : List Path) (b : Frame Name) (y : Option (Parts ⊤)) (x : Composed Name) → option_and_then (λ inputs. compose name modes inputs lost moved b) y ≡ Some x → Left lost moved b x
 composed-left name modes lost moved b None x e = none-not_some e
 composed-left name modes lost moved b (Some inputs) x e = by (take_all moved (drop lost cut)) refl e
   where
-    cut : Body Name
+    cut : Frame Name
     cut = record b { serial = b.serial + count_in inputs }
 
-    made : (t : Taken Name) → take_all moved (drop lost cut) ≡ Some t → (z : Option (Parts Name)) → option_map (with_message name t.body) z ≡ Some x → Left lost moved b x
+    made : (t : Taken Name) → take_all moved (drop lost cut) ≡ Some t → (z : Option (Parts Name)) → option_map (with_message name t.frame) z ≡ Some x → Left lost moved b x
     made t at None e = none-not_some e
-    made t at (Some ps) e = record { cut = cut; before = refl; taken = t; at = at; left = ap (λ (x : Composed Name). x.body.variables) (sym (some-injective e)) }
+    made t at (Some ps) e = record { cut = cut; before = refl; taken = t; at = at; left = ap (λ (x : Composed Name). x.frame.variables) (sym (some-injective e)) }
 
-    by : (z : Option (Taken Name)) → take_all moved (drop lost cut) ≡ z → option_and_then (λ (t : Taken Name). option_map (with_message name t.body) (assemble modes (copy_in (λ s. name (b.number, s)) b.serial inputs) t.cells)) z ≡ Some x → Left lost moved b x
+    by : (z : Option (Taken Name)) → take_all moved (drop lost cut) ≡ z → option_and_then (λ (t : Taken Name). option_map (with_message name t.frame) (assemble modes (copy_in (λ s. name (b.number, s)) b.serial inputs) t.cells)) z ≡ Some x → Left lost moved b x
     by None at e = none-not_some e
     by (Some t) at e = made t at (assemble modes (copy_in (λ s. name (b.number, s)) b.serial inputs) t.cells) e
 
-abbrev stays_body : Body Name → Result Name → Body Name
+abbrev stays_body : Frame Name → Completion Name → Frame Name
 stays_body b (stays b') = b'
 stays_body b _ = b
 
-abbrev is_staying : Result Name → Bool
+abbrev is_staying : Completion Name → Bool
 is_staying (stays b) = true
 is_staying _ = false
 
-module _ (c : Code) (k : Calling) (has : Fact → Bool) where
+module _ (c : Module) (k : Calling) (has : Fact → Bool) where
   abbrev pub moved : List Path
-  moved = lent_by c k
+  moved = lent_paths c k
 
   abbrev pub outs : List Path
   outs = arguments_at c is_out k.port k.arguments
@@ -136,13 +138,13 @@ module _ (c : Code) (k : Calling) (has : Fact → Bool) where
   abbrev pub set : List Path
   set = set_by_call c.types c.variables k.port k.arguments
 
-  module _ (b : Body Name) (sound : AreSound c has b.variables) where
+  module _ (b : Frame Name) (sound : AreSound c has b.variables) where
     abbrev lost : List Path
-    lost = flat_map (λ p. beyond_full c p b) moved
+    lost = flat_map (λ p. excess_over_full c p b) moved
 
     lost-of : (p : Path) → IsIn p lost → (x : Path) × IsIn x moved × (is_at_or_below x p ≡ true)
     lost-of p h =
-        let x = in-flat_map_from (λ p. beyond_full c p b) p moved h in
+        let x = in-flat_map_from (λ p. excess_over_full c p b) p moved h in
         (x.0, x.1, beyond-below c.types (type_at c.types c.variables x.0) (list_of (λ t. full_facts c.types t (0 ∷ [])) (type_at c.types c.variables x.0)) x.0 b p x.2)
 
     under-moved : AreUnder moved (lost ++ moved)
@@ -152,7 +154,7 @@ module _ (c : Code) (k : Calling) (has : Fact → Bool) where
         by (inl h) = let x = lost-of p h in of-under moved p x.0 x.1 x.2
         by (inr h) = of-under moved p p h (below-self p)
 
-    left-sound : (x : Composed Name) → Left lost moved b x → AreSound c (less moved has) x.body.variables
+    left-sound : (x : Composed Name) → Left lost moved b x → AreSound c (less moved has) x.frame.variables
     left-sound x l =
         let paths = taken-paths moved (drop lost l.cut) l.taken l.at in
         let first = all-cleared c lost (λ p h. let x = lost-of p h in below-path x.0 p (paths x.0 x.1) x.2) has b.variables sound in
@@ -163,14 +165,14 @@ module _ (c : Code) (k : Calling) (has : Fact → Bool) where
         (λ f. less-less lost moved has f
         ∙ ap (λ t. cond t false (has f)) (same-under (lost ++ moved) moved (path_of f) under-moved (λ p h. of-under (lost ++ moved) p p (in-append_right p lost moved h) (below-self p)))) second)
 
-    composed-sound : (name : Name → Name) (x : Composed Name) → composed name c k.port k.arguments b ≡ Some x → AreSound c (less moved has) x.body.variables
+    composed-sound : (name : Name → Name) (x : Composed Name) → composed name c k.port k.arguments b ≡ Some x → AreSound c (less moved has) x.frame.variables
     composed-sound name x e =
         left-sound x (composed-left name (map (λ (p : Parameter). p.mode) (call_parameters c.types c.variables k.port)) lost moved b (inputs_of (call_parameters c.types c.variables k.port) k.arguments b.variables) x e)
 
-    placed-sound : (b' : Body Name) (x : Option (Composed Name)) → ((y : Composed Name) → x ≡ Some y → AreSound c (less moved has) y.body.variables)
-        → if_there (λ (x : Composed Name). stays (record x.body { call = Some x.call })) x ≡ stays b' → AreSound c (without_lent c k has) b'.variables
+    placed-sound : (b' : Frame Name) (x : Option (Composed Name)) → ((y : Composed Name) → x ≡ Some y → AreSound c (less moved has) y.frame.variables)
+        → if_there (λ (x : Composed Name). stays (record x.frame { call = Some x.call })) x ≡ stays b' → AreSound c (without_lent c k has) b'.variables
     placed-sound b' None sounds is = absurd (false≢true (ap is_staying is))
-    placed-sound b' (Some x) sounds is = subst (λ (b : Body Name). AreSound c (less moved has) b.variables) (ap (stays_body b') is) (sounds x refl)
+    placed-sound b' (Some x) sounds is = subst (λ (b : Frame Name). AreSound c (less moved has) b.variables) (ap (stays_body b') is) (sounds x refl)
 
   pub out-set : (p : Path) → IsIn p outs → IsIn p set
   out-set p h = either (arguments-split is_out is_returned is_returned out-mode (call_parameters c.types c.variables k.port) k.arguments p h)
@@ -200,29 +202,29 @@ module _ (c : Code) (k : Calling) (has : Fact → Bool) where
     table f =
         less-less moved outs has f
         ∙ ap (λ t. cond t false (has f)) (same-under (moved ++ outs) set (path_of f) all-set set-all)
-        ∙ ap (λ ns. cond (some_of (same_fact f) (closed c.types c.variables (full_of_each c.types c.variables (flat_map (λ i. argument_path (slice_get k.arguments i)) ns)))) true (cond (is_under set (path_of f)) false (has f))) (sym none)
+        ∙ ap (λ ns. cond (any_pass (same_fact f) (closed c.types c.variables (full_of_each c.types c.variables (flat_map (λ i. argument_path (slice_get k.arguments i)) ns)))) true (cond (is_under set (path_of f)) false (has f))) (sym none)
 
     -- what the arguments of mode out hold is finalised
-    disconnected-sound : (b b' : Body Name) (o : Outcome) → AreSound c (less moved has) b.variables → goes (raised disconnected) (drop outs b) ≡ goes o b' → AreSound c (held_after c.types c.variables (Call k.port k.arguments) o has) b'.variables
+    disconnected-sound : (b b' : Frame Name) (o : Outcome) → AreSound c (less moved has) b.variables → goes (raised disconnected) (drop outs b) ≡ goes o b' → AreSound c (held_after c.types c.variables (Call k.port k.arguments) o has) b'.variables
     disconnected-sound b b' o sound is =
         let out = all-cleared c outs (λ p h. let t = targets p (out-set p h) in typed-path c p t.0 t.1) (less moved has) b.variables sound in
         let facts = same_facts c (less outs (less moved has)) (held_after c.types c.variables (Call k.port k.arguments) (raised disconnected) has) (clear_all outs b.variables) table out in
         subst (λ o. AreSound c (held_after c.types c.variables (Call k.port k.arguments) o has) b'.variables) (same_outcome_of (raised disconnected) o (drop outs b) b' is)
-        (subst (λ (b : Body Name). AreSound c (held_after c.types c.variables (Call k.port k.arguments) (raised disconnected) has) b.variables) (same_body (raised disconnected) o (drop outs b) b' is)
+        (subst (λ (b : Frame Name). AreSound c (held_after c.types c.variables (Call k.port k.arguments) (raised disconnected) has) b.variables) (same_body (raised disconnected) o (drop outs b) b' is)
         (subst (AreSound c (held_after c.types c.variables (Call k.port k.arguments) (raised disconnected) has)) (sym (drop-variables outs b)) facts))
 
-    back-sound : (message : Cell Name) (b' : Body Name) (o : Outcome) (x : Option (Composed Name)) → ((y : Composed Name) → x ≡ Some y → AreSound c (less moved has) y.body.variables)
-        → if_there (λ (x : Composed Name). goes (raised disconnected) (drop outs (end_cell message x.body))) x ≡ goes o b' → AreSound c (held_after c.types c.variables (Call k.port k.arguments) o has) b'.variables
+    back-sound : (message : Cell Name) (b' : Frame Name) (o : Outcome) (x : Option (Composed Name)) → ((y : Composed Name) → x ≡ Some y → AreSound c (less moved has) y.frame.variables)
+        → if_there (λ (x : Composed Name). goes (raised disconnected) (drop outs (finalise_at_once message x.frame))) x ≡ goes o b' → AreSound c (held_after c.types c.variables (Call k.port k.arguments) o has) b'.variables
     back-sound message b' o None sounds is = never o b' is
     back-sound message b' o (Some x) sounds is =
-        disconnected-sound (end_cell message x.body) b' o (subst (AreSound c (less moved has)) (sym (ended-variables message x.body)) (sounds x refl)) is
+        disconnected-sound (finalise_at_once message x.frame) b' o (subst (AreSound c (less moved has)) (sym (ended-variables message x.frame)) (sounds x refl)) is
 
-    unanswered-sound : (b b' : Body Name) (o : Outcome) → AreSound c (less moved has) b.variables → (t : Bool) → cond t (goes (raised disconnected) (drop outs (record b { call = None }))) stuck ≡ goes o b'
+    unanswered-sound : (b b' : Frame Name) (o : Outcome) → AreSound c (less moved has) b.variables → (t : Bool) → cond t (goes (raised disconnected) (drop outs (record b { call = None }))) stuck ≡ goes o b'
         → AreSound c (held_after c.types c.variables (Call k.port k.arguments) o has) b'.variables
     unanswered-sound b b' o sound false is = never o b' is
     unanswered-sound b b' o sound true is = disconnected-sound (record b { call = None }) b' o sound is
 
-pub calls-keep : (c : Code) (k : Calling) → CallsKeepSound c k
+pub calls-keep : (c : Module) (k : Calling) → CallsKeepSound c k
 calls-keep c k = record {
   placed = λ name place n message has b b' sound is. placed-sound c k has b sound b' (composed name c k.port k.arguments b) (composed-sound c k has b sound name) is;
   came_back = λ targets none name place message has b b' o sound is. back-sound c k has targets none message b' o (composed name c k.port k.arguments b) (composed-sound c k has b sound name) is;

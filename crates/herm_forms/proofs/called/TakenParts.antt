@@ -11,7 +11,7 @@ use Rattle.herm_model.proofs.Lists.{or-right, in-map_from}
 use Rattle.herm_model.proofs.Beginnings.{below-self}
 use Rattle.herm_model.proofs.Places.{cell_at-set_apart}
 use Rattle.herm_model.proofs.Options.{some-injective, none-not_some}
-use Rattle.herm_forms.specs.Bodies.{Name, Body, cleared, Taken, take_all}
+use Rattle.herm_forms.specs.Frames.{Name, Frame, cleared, Taken, take_all}
 use Rattle.herm_model.specs.TypedStatements.{AreApart}
 use Rattle.herm_forms.proofs.Dropped.{cleared-has}
 use Rattle.herm_forms.proofs.called.LostApart.{First, first-taken}
@@ -49,7 +49,7 @@ module _ (i : ℕ) (q : List ℕ) where
   AreGiven Is (n ∷ ns) [] = ⊥
   AreGiven Is (n ∷ ns) (d ∷ ds) = Is n d × AreGiven Is ns ds
 
-  pub given-taken : (Is : ℕ → Cell Name → Type 0) (ns : List ℕ) → Differ ns → (b : Body Name) (t : Taken Name) → ((n : ℕ) → IsIn n ns → (d : Cell Name) → cell_at (part_path n) b.variables ≡ Some d → Is n d)
+  pub given-taken : (Is : ℕ → Cell Name → Type 0) (ns : List ℕ) → Differ ns → (b : Frame Name) (t : Taken Name) → ((n : ℕ) → IsIn n ns → (d : Cell Name) → cell_at (part_path n) b.variables ≡ Some d → Is n d)
       → take_all (map part_path ns) b ≡ Some t → AreGiven Is ns t.cells
   given-taken Is [] differ b t is e = subst (AreGiven Is []) (ap (λ (t : Taken Name). t.cells) (some-injective e)) tt
   given-taken Is (n ∷ ns) differ b t is e =
@@ -74,7 +74,7 @@ module _ (i : ℕ) (q : List ℕ) where
       by (Some d) e = absurd (true≢false e)
 
   -- where a part is not there, nothing is taken of it
-  none-taken : (ns : List ℕ) (n : ℕ) → IsIn n ns → (b : Body Name) (t : Taken Name) → cell_at (part_path n) b.variables ≡ None → take_all (map part_path ns) b ≡ Some t → ⊥
+  none-taken : (ns : List ℕ) (n : ℕ) → IsIn n ns → (b : Frame Name) (t : Taken Name) → cell_at (part_path n) b.variables ≡ None → take_all (map part_path ns) b ≡ Some t → ⊥
   none-taken [] n h b t none e = h
   none-taken (k ∷ ns) n (inl same) b t none e =
       let f = first-taken (part_path k) (map part_path ns) b t e in none-not_some (sym none ∙ ap (λ n. cell_at (part_path n) b.variables) same ∙ f.at)
@@ -87,7 +87,7 @@ module _ (i : ℕ) (q : List ℕ) where
       by f false x on = on (λ same. true≢false (sym (eq-eqb n k (sym same)) ∙ x))
 
   -- what was taken was taken at different places
-  pub taken-differ : (ns : List ℕ) (b : Body Name) (t : Taken Name) → take_all (map part_path ns) b ≡ Some t → Differ ns
+  pub taken-differ : (ns : List ℕ) (b : Frame Name) (t : Taken Name) → take_all (map part_path ns) b ≡ Some t → Differ ns
   taken-differ [] b t e = tt
   taken-differ (n ∷ ns) b t e =
       let f = first-taken (part_path n) (map part_path ns) b t e in

@@ -3,22 +3,23 @@ use Rattle.std.proofs.Common.{◌≡◌, ℕ, List, [], ◌∷◌, ◌++◌, Boo
 use Rattle.std.specs.Prelude.{Some, IsTrue}
 use Rattle.herm_model.specs.Lists.{IsIn}
 use Rattle.herm_model.specs.Paths.{Path, Fact, init, case}
-use Rattle.herm_model.specs.Types.{IsCopyable}
+use Rattle.herm_model.specs.Copyable.{IsCopyable}
 use Rattle.herm_model.specs.Facts.{facts_to}
-use Rattle.herm_model.specs.Expressions.{Expression, literal, copy, negated, inverted, operation, size_of, decimal, length_of, paths_read}
+use Rattle.herm_model.specs.Expressions.{Expression, literal, copy, negation, logical_not, operation, size_of, decimal, length_of, paths_read}
 use Rattle.herm_model.specs.TypedExpressions.{IsPathOf, IsTyped}
 use Rattle.herm_model.specs.Statements.{Assign, If}
 use Rattle.herm_model.specs.StatementTable.{room_for, full, full_of_each}
-use Rattle.herm_model.specs.Values.{Cell, Parts, read_at, tells}
+use Rattle.herm_model.specs.Values.{Cell, Parts, read_at}
+use Rattle.herm_model.specs.FactsOfValues.{satisfies}
 use Rattle.herm_model.specs.Typed.{whole, HasType}
 use Rattle.herm_model.proofs.Lists.{in-append_left, in-append_right, in-append_more}
 use Rattle.herm_model.proofs.Options.{none-not_some}
 use Rattle.herm_model.proofs.Typing.{IsOf-renamed}
-use Rattle.herm_forms.specs.Bodies.{Name}
-use Rattle.herm_forms.specs.Edges.{Code}
+use Rattle.herm_forms.specs.Frames.{Name}
+use Rattle.herm_forms.specs.Modules.{Module}
 use Rattle.herm_forms.specs.Evaluate.{evaluate, value_there, rows_there}
-use Rattle.herm_forms.specs.Arrival.{AreSound, AreDeep}
-use Rattle.herm_forms.specs.ExpressionLaws.{TypedExpressionsGiveFull, ComesTo, WhereFound, TypedExpressionsHaveValues, TypedAssignmentsKeepSound}
+use Rattle.herm_forms.specs.laws.EdgeLaws.{AreSound, AreDeep}
+use Rattle.herm_forms.specs.laws.ExpressionLaws.{TypedExpressionsGiveFull, ComesTo, WhereFound, TypedExpressionsHaveValues, TypedAssignmentsKeepSound}
 use Rattle.herm_forms.proofs.forms.ReadTypes.{read-typed}
 use Rattle.herm_forms.proofs.forms.ToldFacts.{in-closed}
 use Rattle.herm_forms.proofs.evaluated.CopiedValues.{deep-at, copy-full}
@@ -26,9 +27,9 @@ use Rattle.herm_forms.proofs.forms.SetTargets.{assignments-keep}
 use Rattle.herm_forms.proofs.evaluated.ReadValues.{read-there}
 use Rattle.herm_forms.proofs.evaluated.TypedExpressions.{operation-comes, negated-comes, inverted-comes, decimal-comes, length-comes, size-comes, literal-comes, comes-decides}
 
-module _ (c : Code) (deep : AreDeep c) (has : Fact → Bool) (ps : Parts Name) (sound : AreSound c has ps) where
+module _ (c : Module) (deep : AreDeep c) (has : Fact → Bool) (ps : Parts Name) (sound : AreSound c has ps) where
   -- what is held is told
-  held-told : (f : Fact) → IsTrue (has f) → IsTrue (tells ps f)
+  held-told : (f : Fact) → IsTrue (has f) → IsTrue (satisfies ps f)
   held-told (init p) h = (sound.facts.values p).1 h
   held-told (case p k) h = sound.facts.components p k h
 
@@ -68,15 +69,15 @@ module _ (c : Code) (deep : AreDeep c) (has : Fact → Bool) (ps : Parts Name) (
   pub typed-comes : (e : Expression) (t : ℕ) → IsTyped c.types c.variables e t → Holds (full_of_each c.types c.variables (paths_read e)) → ComesTo c t (evaluate ps e)
   typed-comes (literal l) t h needed = literal-comes c t l h
   typed-comes (copy p) t h needed = copy-comes p t h.0 h.1 (one-path p needed)
-  typed-comes (negated e) t h needed = negated-comes c t h.1 (evaluate ps e) h.0 h.2 (typed-comes e h.1 h.3 needed)
-  typed-comes (inverted e) t h needed = inverted-comes c t h.1 (evaluate ps e) h.0 h.2 (typed-comes e h.1 h.3 needed)
+  typed-comes (negation e) t h needed = negated-comes c t h.1 (evaluate ps e) h.0 h.2 (typed-comes e h.1 h.3 needed)
+  typed-comes (logical_not e) t h needed = inverted-comes c t h.1 (evaluate ps e) h.0 h.2 (typed-comes e h.1 h.3 needed)
   typed-comes (operation o left right) t h needed =
       operation-comes c t h.1 h.2 o (evaluate ps left) (evaluate ps right) h.0 h.3 h.4 (typed-comes left h.1 h.5 (of-left (paths_read left) (paths_read right) needed)) (typed-comes right h.1 h.6 (of-right (paths_read left) (paths_read right) needed))
   typed-comes (size_of p) t h needed = let d = path-read p h.1 h.4 (one-path p needed) in subst (λ o. ComesTo c t (rows_there o)) (sym d.1) (size-comes c t h.1 h.2 h.3 d.0 h.0 h.5 d.2)
   typed-comes (decimal e) t h needed = decimal-comes c t h.1 (evaluate ps e) h.0 h.2 (typed-comes e h.1 h.3 needed)
   typed-comes (length_of e) t h needed = length-comes c t h.1 (evaluate ps e) h.0 h.2 (typed-comes e h.1 h.3 needed)
 
-module _ (c : Code) (deep : AreDeep c) where
+module _ (c : Module) (deep : AreDeep c) where
   assigned-comes : (x : Path) (e : Expression) (t : ℕ) → IsTyped c.types c.variables e t → WhereFound c (Assign x e) (λ ps. ComesTo c t (evaluate ps e))
   assigned-comes x e t h has ps sound needed =
       typed-comes c deep has ps sound e t h (λ f m. needed f (in-closed c.types c.variables (room_for c.types c.variables x ++ full_of_each c.types c.variables (paths_read e)) f (in-append_right f (room_for c.types c.variables x) (full_of_each c.types c.variables (paths_read e)) m)))

@@ -2,9 +2,10 @@
 use Rattle.std.proofs.Common.{◌≡◌, ◌⊎◌, inl, inr, ℕ, zero, suc, ◌+◌, arith, List, [], ◌∷◌, ◌++◌, map, Bool, true, false, ◌||◌, Option, Some, None, option_map, is_some, refl, sym, ap, ap₂, ◌∙◌, subst, subst₂, true≢false}
 use Rattle.std.proofs.lemmas.List.{append-nil}
 use Rattle.std.specs.Prelude.{slice_get, IsTrue}
-use Rattle.herm_model.specs.Lists.{IsIn, every, with_some, list_of}
+use Rattle.herm_model.specs.Lists.{IsIn, all_pass, map_or, list_of}
 use Rattle.herm_model.specs.Paths.{Path, Fact, init}
-use Rattle.herm_model.specs.Types.{Mode, by_in, by_inout, by_out, Parameter, TypeTable, Shape, fields, cases, callmessage, named_types, part_type, part_of, type_below, type_at, is_cases, is_variant, enters_component, passes_component, full_parts, held_parts, Leads, steps, is_within_depth, greatest_depth, is_plain, is_composed, IsCopyable, plain, composed}
+use Rattle.herm_model.specs.Types.{Mode, by_in, by_inout, by_out, Parameter, TypeTable, Shape, fields, cases, callmessage, named_types, part_type, part_of, type_below, type_at, is_cases, is_variant, enters_component, passes_component, full_parts, held_parts, IsPartPath, part_paths, is_within_depth, greatest_depth}
+use Rattle.herm_model.specs.Copyable.{is_plain, is_composed, IsCopyable, plain, composed}
 use Rattle.herm_model.specs.StatementTable.{full}
 use Rattle.herm_model.specs.Values.{Kind, a_scalar, a_record, a_variant, a_table, a_polymorph, a_callmessage, an_inport, an_outport, Cell, cell, Parts, no_parts, part, part_at, opens, behind_gaps, readable_of, cell_at, read_at, has_value}
 use Rattle.herm_model.specs.Typed.{Degree, whole, partly, Content, a_value, nothing, unfit, parameter_content, layout, Fits, IsOf, HasType, HaveTypes, IsFull}
@@ -15,9 +16,9 @@ use Rattle.herm_model.proofs.Copyable.{within-more}
 use Rattle.herm_model.proofs.Options.{none-not_some, some-injective, map-some}
 use Rattle.herm_model.proofs.FullFacts.{type_of, degree_of, at-fits, exact-full}
 use Rattle.herm_model.proofs.Places.{read_below, read-below}
-use Rattle.herm_forms.specs.Bodies.{Name}
-use Rattle.herm_forms.specs.Edges.{Code}
-use Rattle.herm_forms.specs.Arrival.{AreSound, AreDeep}
+use Rattle.herm_forms.specs.Frames.{Name}
+use Rattle.herm_forms.specs.Modules.{Module}
+use Rattle.herm_forms.specs.laws.EdgeLaws.{AreSound, AreDeep}
 use Rattle.herm_forms.proofs.TypedReading.{opening, typed-part, typed-read}
 use Rattle.herm_forms.proofs.forms.ReadTypes.{behind-only, read-nothing, variant-component, readable-part, read-typed}
 use Rattle.herm_forms.proofs.forms.Moves.{value-below}
@@ -36,7 +37,7 @@ module _ (table : TypeTable) where
   part-deep zero t i u w e = not_true w
   part-deep (suc n) t i u w e = by (slice_get table t) w e
     where
-      by : (o : Option Shape) → IsTrue (with_some false (λ s. every (is_within_depth n table) (named_types s)) o) → with_some None (λ s. part_type s i) o ≡ Some u → IsTrue (is_within_depth (suc n) table u)
+      by : (o : Option Shape) → IsTrue (map_or false (λ s. all_pass (is_within_depth n table) (named_types s)) o) → map_or None (λ s. part_type s i) o ≡ Some u → IsTrue (is_within_depth (suc n) table u)
       by None w e = not_true w
       by (Some s) w e = let z : n + 1 ≡ suc n = omega arith in subst (λ m. IsTrue (is_within_depth m table u)) z (within-more table n 1 u (every-in (is_within_depth n table) u (named_types s) w (part-named s i u e)))
 
@@ -52,7 +53,7 @@ module _ (table : TypeTable) where
       by None at e again = none-not_some (sym (nothing-below q) ∙ e)
       by (Some v) at e again = again v u (part-deep n t i v w at) e
 
-pub deep-at : (c : Code) → AreDeep c → (i : ℕ) (q : List ℕ) (t : ℕ) → type_at c.types c.variables (i ∷ q) ≡ Some t → IsTrue (is_within_depth greatest_depth c.types t)
+pub deep-at : (c : Module) → AreDeep c → (i : ℕ) (q : List ℕ) (t : ℕ) → type_at c.types c.variables (i ∷ q) ≡ Some t → IsTrue (is_within_depth greatest_depth c.types t)
 deep-at c deep i q t e = by (slice_get c.variables i) refl e
   where
     by : (o : Option ℕ) → slice_get c.variables i ≡ o → type_below c.types o q ≡ Some t → IsTrue (is_within_depth greatest_depth c.types t)
@@ -94,7 +95,7 @@ module _ (N : Type 0) (table : TypeTable) where
       record { type = p.content; there = shaped-part t j (callmessage ps raises) found p.content (ap (option_map (λ (p : Parameter). p.content)) v.1); full' = parameter-full p.mode p.content a.1 a.0 d v.2 a.3 }
   whole-message t j x y s qs d found h at = absurd h
 
-  by-shape : (t j : ℕ) (k : Kind) (qs : Parts N) (d : Cell N) → ((s : Shape) → slice_get table t ≡ Some s → Fits table (layout whole s k) qs → WholePart t j d) → (o : Option Shape) → slice_get table t ≡ o → Fits table (with_some unfit (λ s. layout whole s k) o) qs → WholePart t j d
+  by-shape : (t j : ℕ) (k : Kind) (qs : Parts N) (d : Cell N) → ((s : Shape) → slice_get table t ≡ Some s → Fits table (layout whole s k) qs → WholePart t j d) → (o : Option Shape) → slice_get table t ≡ o → Fits table (map_or unfit (λ s. layout whole s k) o) qs → WholePart t j d
   by-shape t j k qs d f None e h = absurd h
   by-shape t j k qs d f (Some s) e h = f s e h
 
@@ -184,28 +185,28 @@ module _ (table : TypeTable) where
   shape-held : (t : ℕ) (s : Shape) (x : ℕ × ℕ) → slice_get table t ≡ Some s → IsIn x (list_of held_parts (slice_get table t)) → IsIn x (held_parts s)
   shape-held t s x e h = subst (λ o. IsIn x (list_of held_parts o)) e h
 
-  copyable-leads : (q : List ℕ) (t : ℕ) → IsCopyable table t → Leads held_parts table t q → Leads full_parts table t q
+  copyable-leads : (q : List ℕ) (t : ℕ) → IsCopyable table t → IsPartPath held_parts table t q → IsPartPath full_parts table t q
   copyable-leads [] t copyable l = l
   copyable-leads (i ∷ q) t (plain t' s e p) l = plain-none s (i, l.0) p (shape-held t s (i, l.0) e l.1)
   copyable-leads (i ∷ q) t (composed t' s e p each) l =
       let h = shape-held t s (i, l.0) e l.1 in
       (l.0, subst (λ o. IsIn (i, l.0) (list_of full_parts o)) (sym e) (held-full s (i, l.0) (inr p) h), copyable-leads q l.0 (each l.0 (held-named s i l.0 h)) l.2)
 
-  value-leads : {N : Type 0} (t : ℕ) (d : Cell N) → IsCopyable table t → HasType table t d → (q : List ℕ) → IsTrue (has_value (part d no_parts) (0 ∷ q)) → Leads full_parts table t q
+  value-leads : {N : Type 0} (t : ℕ) (d : Cell N) → IsCopyable table t → HasType table t d → (q : List ℕ) → IsTrue (has_value (part d no_parts) (0 ∷ q)) → IsPartPath full_parts table t q
   value-leads {N} t d copyable typed q h = by (cell_at (0 ∷ q) (part d no_parts)) refl h
     where
-      by : (o : Option (Cell N)) → cell_at (0 ∷ q) (part d no_parts) ≡ o → IsTrue (is_some o) → Leads full_parts table t q
+      by : (o : Option (Cell N)) → cell_at (0 ∷ q) (part d no_parts) ≡ o → IsTrue (is_some o) → IsPartPath full_parts table t q
       by None at h = not_true h
       by (Some e) at h =
           let r = typed-read N table (t ∷ []) 0 q (part d no_parts) e (typed, tt) at in
-          copyable-leads q t copyable (subst (λ t. Leads held_parts table t q) (sym (some-injective r.there)) r.leads)
+          copyable-leads q t copyable (subst (λ t. IsPartPath held_parts table t q) (sym (some-injective r.there)) r.leads)
 
 -- What is read at a path of a copyable type is full, where the values are sound and the facts held that full asks for.
-module _ (c : Code) (deep : AreDeep c) (has : Fact → Bool) (ps : Parts Name) (sound : AreSound c has ps) (i : ℕ) (q : List ℕ) (t : ℕ) (type : type_at c.types c.variables (i ∷ q) ≡ Some t)
+module _ (c : Module) (deep : AreDeep c) (has : Fact → Bool) (ps : Parts Name) (sound : AreSound c has ps) (i : ℕ) (q : List ℕ) (t : ℕ) (type : type_at c.types c.variables (i ∷ q) ≡ Some t)
     (needed : (f : Fact) → IsIn f (full c.types c.variables (i ∷ q)) → IsTrue (has f)) where
   module _ (direct : passes_component c.types c.variables (i ∷ q) ≡ false) where
-    values-there : (r : List ℕ) → IsIn r (steps full_parts c.types t) → IsTrue (has_value ps ((i ∷ q) ++ r))
-    values-there r h = (sound.facts.values ((i ∷ q) ++ r)).1 (needed (init ((i ∷ q) ++ r)) (in-full c i q t type direct (init ((i ∷ q) ++ r)) (in-map (λ r. init ((i ∷ q) ++ r)) r (steps full_parts c.types t) h)))
+    values-there : (r : List ℕ) → IsIn r (part_paths full_parts c.types t) → IsTrue (has_value ps ((i ∷ q) ++ r))
+    values-there r h = (sound.facts.values ((i ∷ q) ++ r)).1 (needed (init ((i ∷ q) ++ r)) (in-full c i q t type direct (init ((i ∷ q) ++ r)) (in-map (λ r. init ((i ∷ q) ++ r)) r (part_paths full_parts c.types t) h)))
 
     root-there : IsTrue (has_value ps (i ∷ q))
     root-there = subst (λ p. IsTrue (has_value ps (i ∷ p))) (append-nil q) (values-there [] (full-root c.types t (deep-at c deep i q t type)))

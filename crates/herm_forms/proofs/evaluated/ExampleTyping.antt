@@ -1,11 +1,12 @@
 -- Which expressions of an example have types.
 use Rattle.std.proofs.Common.{◌≡◌, ℕ, [], ◌∷◌, ◌||◌, Some, refl, sym, ap, ◌∙◌, subst, true≢false}
 use Rattle.std.specs.Prelude.{slice_get, IsTrue}
-use Rattle.herm_model.specs.Types.{Shape, by_in, by_out, boolean, integer, text, callmessage, is_plain, is_composed, IsCopyable, plain, composed}
+use Rattle.herm_model.specs.Types.{Shape, by_in, by_out, boolean, integer, text, callmessage}
+use Rattle.herm_model.specs.Copyable.{is_plain, is_composed, IsCopyable, plain, composed}
 use Rattle.herm_model.specs.TypedExpressions.{is_boolean_shape}
 use Rattle.herm_model.proofs.Lists.{or-left, or-right}
 use Rattle.herm_model.proofs.Options.{some-injective}
-use Rattle.herm_forms.specs.ExpressionLaws.{example_types, ExampleTyping}
+use Rattle.herm_forms.specs.laws.ExpressionLaws.{example_types, ExampleTyping}
 
 abbrev message_shape : Shape
 message_shape = callmessage (record { mode = by_in; content = 1 } ∷ record { mode = by_out; content = 1 } ∷ []) []

@@ -2,16 +2,16 @@
 use Rattle.std.proofs.Common.{◌≡◌, inl, inr, ◌⊎◌, ℕ, ℤ, pos, List, [], ◌∷◌, ◌++◌, length, Bool, true, false, cond, ◌||◌, nat_le, Option, Some, None, refl, sym, subst}
 use Rattle.std.specs.Prelude.{IsTrue, ⊤, not, ◌+ℤ◌, ◌-ℤ◌, ◌*ℤ◌, neg_ℤ, int_div, int_rem}
 use Rattle.herm_model.specs.Lists.{IsIn}
-use Rattle.herm_model.specs.Expressions.{Operator, either, both, equal, unequal, less, at_most, greater, at_least, plus, minus, times, divided, modulo, concatenated, Expression, literal, copy, negated, inverted, operation, size_of, decimal, length_of, is_arithmetic, is_joining, can_overflow, can_deplete}
+use Rattle.herm_model.specs.Expressions.{Operator, logical_or, logical_and, equal, unequal, less, at_most, greater, at_least, plus, minus, times, divided, modulo, concatenated, Expression, literal, copy, negation, logical_not, operation, size_of, decimal, length_of, is_arithmetic, is_joining, can_overflow, can_deplete}
 use Rattle.herm_model.specs.Outcomes.{overflow, depletion, raised_by}
 use Rattle.herm_model.specs.Texts.{signed_numeral}
 use Rattle.herm_model.specs.Tables.{same_integer}
 use Rattle.herm_model.specs.Typed.{is_integer, greatest_text}
 use Rattle.herm_model.specs.Values.{Scalar, a_boolean, an_integer, a_text, a_tag, a_scalar, a_record, a_variant, a_table, a_polymorph, a_callmessage, an_inport, an_outport, Cell, cell, Parts, read_at, Value}
 use Rattle.herm_model.proofs.Lists.{not_true, in-append_left, in-append_right, or-left, or-right}
-use Rattle.herm_forms.specs.Bodies.{Name}
+use Rattle.herm_forms.specs.Frames.{Name}
 use Rattle.herm_forms.specs.Evaluate.{Evaluated, gives, raises, no_value, gives_scalar, gives_boolean, scalar_then, one_then, two_then, boolean_then, integer_then, text_then, within_bits, by_divisor, within_length, compared, on_booleans, on_integers, on_texts, operate, value_there, rows_there, evaluate}
-use Rattle.herm_forms.specs.ExpressionLaws.{RaisesItsExceptions}
+use Rattle.herm_forms.specs.laws.ExpressionLaws.{RaisesItsExceptions}
 
 -- it raises Overflow where the first test holds, Depletion where the second does, and nothing else
 abbrev Raises : Bool → Bool → Evaluated → Type 0
@@ -101,8 +101,8 @@ length-raises o bytes = by (nat_le (length bytes) greatest_text)
     by false = inr (refl, refl)
 
 operator-raises : (o : Operator) (x y : Scalar) → Raises (is_arithmetic o) (is_joining o) (operate o x y)
-operator-raises either x y = two-booleans false false ◌||◌ x y
-operator-raises both x y = two-booleans false false _ x y
+operator-raises logical_or x y = two-booleans false false ◌||◌ x y
+operator-raises logical_and x y = two-booleans false false _ x y
 operator-raises equal x y = tt
 operator-raises unequal x y = tt
 operator-raises less x y = two-ordered false false _ _ x y
@@ -135,9 +135,9 @@ module _ (ps : Parts Name) where
   evaluation-raises : (e : Expression) → Raises (can_overflow e) (can_deplete e) (evaluate ps e)
   evaluation-raises (literal l) = tt
   evaluation-raises (copy p) = there-raises (read_at p ps)
-  evaluation-raises (negated e) = on-one true (can_deplete e) (integer_then (λ z. within_bits (neg_ℤ z))) (evaluate ps e) (λ y. on-integer true (can_deplete e) (λ z. within_bits (neg_ℤ z)) y (λ z. bits-raise (can_deplete e) (neg_ℤ z)))
+  evaluation-raises (negation e) = on-one true (can_deplete e) (integer_then (λ z. within_bits (neg_ℤ z))) (evaluate ps e) (λ y. on-integer true (can_deplete e) (λ z. within_bits (neg_ℤ z)) y (λ z. bits-raise (can_deplete e) (neg_ℤ z)))
       (raises-more (can_overflow e) true (can_deplete e) (can_deplete e) (evaluate ps e) (λ h. refl) (λ h. h) (evaluation-raises e))
-  evaluation-raises (inverted e) = on-one (can_overflow e) (can_deplete e) (boolean_then (λ b. gives_boolean (not b))) (evaluate ps e) (λ y. on-boolean (can_overflow e) (can_deplete e) (λ b. gives_boolean (not b)) y (λ b. tt)) (evaluation-raises e)
+  evaluation-raises (logical_not e) = on-one (can_overflow e) (can_deplete e) (boolean_then (λ b. gives_boolean (not b))) (evaluate ps e) (λ y. on-boolean (can_overflow e) (can_deplete e) (λ b. gives_boolean (not b)) y (λ b. tt)) (evaluation-raises e)
   evaluation-raises (operation o left right) =
       let a = is_arithmetic o in let j = is_joining o in
       let ol = can_overflow left in let or = can_overflow right in

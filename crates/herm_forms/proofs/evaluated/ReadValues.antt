@@ -3,12 +3,13 @@ use Rattle.std.proofs.Common.{◌≡◌, inl, inr, ℕ, zero, suc, ◌+◌, arit
 use Rattle.std.proofs.lemmas.List.{append-nil}
 use Rattle.std.proofs.lemmas.Bool.{eqb-true}
 use Rattle.std.specs.Prelude.{slice_get, IsTrue}
-use Rattle.herm_model.specs.Lists.{IsIn, with_some, list_of}
+use Rattle.herm_model.specs.Lists.{IsIn, map_or, list_of}
 use Rattle.herm_model.specs.Paths.{Path, Fact, init, case}
 use Rattle.herm_model.specs.Types.{Mode, by_in, by_inout, by_out, Parameter, TypeTable, Shape, fields, cases, callmessage, part_type, part_of, type_below, type_at, is_cases, is_variant, filled, if_filled, full_parts, is_within_depth, greatest_depth}
 use Rattle.herm_model.specs.Facts.{facts_from, facts_to}
 use Rattle.herm_model.specs.TypedExpressions.{is_out_mode, is_out_parameter, is_out_part, enters_out, passes_out}
-use Rattle.herm_model.specs.Values.{a_scalar, a_record, a_variant, a_table, a_polymorph, a_callmessage, an_inport, an_outport, Cell, cell, Parts, no_parts, part, part_at, inside, readable_of, behind_gaps, cell_at, read_at, has_value, is_component, tells}
+use Rattle.herm_model.specs.Values.{a_scalar, a_record, a_variant, a_table, a_polymorph, a_callmessage, an_inport, an_outport, Cell, cell, Parts, no_parts, part, part_at, inside, readable_of, behind_gaps, cell_at, read_at, has_value}
+use Rattle.herm_model.specs.FactsOfValues.{is_component, satisfies}
 use Rattle.herm_model.specs.Typed.{Degree, IsOf, partly, HasType, HaveTypes, IsFull}
 use Rattle.herm_model.proofs.Lists.{in-append_right, not_true}
 use Rattle.herm_model.proofs.FactTests.{at-numbered, got-IsIn}
@@ -32,7 +33,7 @@ later-filled by_in y x xs h = inr h
 later-filled by_inout y x xs h = inr h
 later-filled by_out y x xs h = h
 
-filled-at : (k j u : ℕ) (ps : List Parameter) → option_map (λ (p : Parameter). p.content) (slice_get ps j) ≡ Some u → with_some false (λ (p : Parameter). is_out_mode p.mode) (slice_get ps j) ≡ false → IsIn (k + j, u) (filled k ps)
+filled-at : (k j u : ℕ) (ps : List Parameter) → option_map (λ (p : Parameter). p.content) (slice_get ps j) ≡ Some u → map_or false (λ (p : Parameter). is_out_mode p.mode) (slice_get ps j) ≡ false → IsIn (k + j, u) (filled k ps)
 filled-at k j u [] e h = none-not_some e
 filled-at k zero u (p ∷ ps) e h =
     let z : k ≡ k + 0 = omega arith in
@@ -52,7 +53,7 @@ module _ (table : TypeTable) where
   asked : (t j u : ℕ) → part_of table (Some t) j ≡ Some u → is_variant table (Some t) ≡ false → is_out_part table (Some t) j ≡ false → IsIn (j, u) (list_of full_parts (slice_get table t))
   asked t j u e v h = by (slice_get table t) e v h
     where
-      by : (o : Option Shape) → with_some None (λ s. part_type s j) o ≡ Some u → with_some false (λ s. is_cases s) o ≡ false → with_some false (λ s. is_out_parameter s j) o ≡ false → IsIn (j, u) (list_of full_parts o)
+      by : (o : Option Shape) → map_or None (λ s. part_type s j) o ≡ Some u → map_or false (λ s. is_cases s) o ≡ false → map_or false (λ s. is_out_parameter s j) o ≡ false → IsIn (j, u) (list_of full_parts o)
       by None e v h = none-not_some e
       by (Some s) e v h = part-asked s j u e v h
 
@@ -108,7 +109,7 @@ module _ (table : TypeTable) where
 
   module _ (N : Type 0) (ps : Parts N) where
     abbrev Tells : List Fact → Type 0
-    Tells fs = (f : Fact) → IsIn f fs → IsTrue (tells ps f)
+    Tells fs = (f : Fact) → IsIn f fs → IsTrue (satisfies ps f)
 
     cell-there : (i : ℕ) (q : List ℕ) → IsTrue (has_value ps (i ∷ q)) → (d : Cell N) × (read_at (i ∷ q) ps ≡ Some d)
     cell-there i q h = by (cell_at (i ∷ q) ps) refl h
@@ -125,7 +126,7 @@ module _ (table : TypeTable) where
           let x = readable-part N table t j c d typed there in
           record { part' = d; there = there; typed = subst (λ v. HasType table v d) (some-injective (sym x.there ∙ next)) x.typed; full' = λ b. absurd (true≢false (sym b)) }
 
-      step-on : (w b : Bool) → is_variant table (Some t) ≡ b → (w ≡ true → IsFull table t c) → w && is_out_part table (Some t) j ≡ false → (b ≡ true → IsTrue (tells ps (case (i ∷ q) j))) → (w || b ≡ false → IsTrue (tells ps (init ((i ∷ q) ++ j ∷ [])))) → Step t j v c (w || b)
+      step-on : (w b : Bool) → is_variant table (Some t) ≡ b → (w ≡ true → IsFull table t c) → w && is_out_part table (Some t) j ≡ false → (b ≡ true → IsTrue (satisfies ps (case (i ∷ q) j))) → (w || b ≡ false → IsTrue (satisfies ps (init ((i ∷ q) ++ j ∷ [])))) → Step t j v c (w || b)
       step-on w true is full' out known here =
           let d = component-there partly t j c typed (ap (λ o. is_component o j) (sym at) ∙ known refl) in
           variant-step t j v c d.0 (w || true) next is d.1 (part-read N table t j c d.0 typed d.1)
@@ -149,7 +150,7 @@ module _ (table : TypeTable) where
         case-in true more e = inl refl
         case-in false more e = absurd (true≢false (sym e))
 
-        told-case : b ≡ true → IsTrue (tells ps (case (i ∷ q) j))
+        told-case : b ≡ true → IsTrue (satisfies ps (case (i ∷ q) j))
         told-case e = told (case (i ∷ q) j) (in-append_right (case (i ∷ q) j) (cond w [] (init (i ∷ q) ∷ [])) (cond b (case (i ∷ q) j ∷ []) [] ++ later) (case-in b later e))
 
         told-later : Tells later

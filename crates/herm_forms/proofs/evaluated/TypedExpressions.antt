@@ -2,9 +2,9 @@
 use Rattle.std.proofs.Common.{◌≡◌, ◌≤◌, ℕ, ◌^◌, arith, ℤ, pos, List, [], ◌∷◌, ◌++◌, length, Bool, true, false, cond, not, nat_lt, nat_le, Option, Some, refl, sym, ap, subst}
 use Rattle.std.proofs.lemmas.Bool.{lt-ltb, leb-true}
 use Rattle.std.specs.Prelude.{slice_get, IsTrue, ⊤, ◌+ℤ◌, ◌-ℤ◌, ◌*ℤ◌, neg_ℤ, int_div, int_rem}
-use Rattle.herm_model.specs.Lists.{every, with_some}
+use Rattle.herm_model.specs.Lists.{all_pass, map_or}
 use Rattle.herm_model.specs.Types.{TypeTable, Shape, boolean, integer, text, names, rows}
-use Rattle.herm_model.specs.Expressions.{Literal, Operator, either, both, equal, unequal, less, at_most, greater, at_least, plus, minus, times, divided, modulo, concatenated}
+use Rattle.herm_model.specs.Expressions.{Literal, Operator, logical_or, logical_and, equal, unequal, less, at_most, greater, at_least, plus, minus, times, divided, modulo, concatenated}
 use Rattle.herm_model.specs.TypedExpressions.{is_boolean_shape, is_integer_shape, is_text_shape, is_scalar_shape, is_ordered_shape, takes, shape_given, HasShape, IsLiteralOf}
 use Rattle.herm_model.specs.Values.{Scalar, a_boolean, an_integer, a_text, a_tag, a_scalar, a_table, Cell, cell, Parts, no_parts, gap, part, size, Value}
 use Rattle.herm_model.specs.Tables.{same_integer, has_distinct_keys}
@@ -12,10 +12,10 @@ use Rattle.herm_model.specs.Typed.{is_integer, is_text, is_text_byte, greatest_t
 use Rattle.herm_model.specs.Outcomes.{overflow, depletion}
 use Rattle.herm_model.proofs.Lists.{not_true, and-both, both-and}
 use Rattle.herm_model.specs.Texts.{signed_numeral}
-use Rattle.herm_forms.specs.Bodies.{Name}
-use Rattle.herm_forms.specs.Edges.{Code}
+use Rattle.herm_forms.specs.Frames.{Name}
+use Rattle.herm_forms.specs.Modules.{Module}
 use Rattle.herm_forms.specs.Evaluate.{Evaluated, gives, raises, no_value, scalar_value, gives_scalar, gives_boolean, scalar_then, one_then, two_then, boolean_then, integer_then, text_then, within_bits, by_divisor, within_length, compared, on_booleans, on_integers, on_texts, operate, scalar_of, rows_there}
-use Rattle.herm_forms.specs.ExpressionLaws.{ComesTo, Decides}
+use Rattle.herm_forms.specs.laws.ExpressionLaws.{ComesTo, Decides}
 use Rattle.herm_forms.proofs.forms.ReadTypes.{is-table}
 use Rattle.herm_forms.proofs.evaluated.NumberTexts.{signed-text}
 
@@ -34,7 +34,7 @@ module _ (table : TypeTable) where
 
   -- a full value of this shape, where the type has it
   abbrev FullBy : Option Shape → Value → Type 0
-  FullBy o (cell n k ps) = Fits table (with_some unfit (λ s. layout whole s k) o) ps × IsTrue (with_some false (λ s. is_bounded s ps) o)
+  FullBy o (cell n k ps) = Fits table (map_or unfit (λ s. layout whole s k) o) ps × IsTrue (map_or false (λ s. is_bounded s ps) o)
 
   shape-full : (s : Shape) (x : Scalar) → FitsShape s x → FullBy (Some s) (scalar_value x)
   shape-full boolean (a_boolean b) h = (tt, refl)
@@ -79,7 +79,7 @@ module _ (table : TypeTable) where
   full-scalar t s v e h f = scalar-of s v h (full-by t s v e f)
 
 -- operands come to scalars, and what is made of these comes to a value
-module _ (c : Code) (t : ℕ) where
+module _ (c : Module) (t : ℕ) where
   one-comes : (u : ℕ) (s : Shape) (f : Scalar → Evaluated) (x : Evaluated) → HasShape c.types u s → IsTrue (is_scalar_shape s) → ((y : Scalar) → FitsShape s y → ComesTo c t (f y)) → ComesTo c u x → ComesTo c t (one_then f x)
   one-comes u s f (gives v) e h on full' = let r = full-scalar c.types u s v e h full' in subst (λ v. ComesTo c t (scalar_then f v)) (sym r.is) (on r.scalar r.fits)
   one-comes u s f (raises exception) e h on full' = tt
@@ -109,15 +109,15 @@ module _ (c : Code) (t : ℕ) where
       by true = tt
       by false = bits-come e (f y z)
 
-  bytes-joined : (s r : List ℕ) → IsTrue (every is_text_byte s) → IsTrue (every is_text_byte r) → IsTrue (every is_text_byte (s ++ r))
+  bytes-joined : (s r : List ℕ) → IsTrue (all_pass is_text_byte s) → IsTrue (all_pass is_text_byte r) → IsTrue (all_pass is_text_byte (s ++ r))
   bytes-joined [] r h k = k
-  bytes-joined (b ∷ s) r h k = let x = and-both (is_text_byte b) (every is_text_byte s) h in both-and (is_text_byte b) (every is_text_byte (s ++ r)) x.0 (bytes-joined s r x.1 k)
+  bytes-joined (b ∷ s) r h k = let x = and-both (is_text_byte b) (all_pass is_text_byte s) h in both-and (is_text_byte b) (all_pass is_text_byte (s ++ r)) x.0 (bytes-joined s r x.1 k)
 
   joined-comes : HasShape c.types t text → (s r : List ℕ) → IsTrue (is_text s) → IsTrue (is_text r) → ComesTo c t (within_length (s ++ r))
   joined-comes e s r h k = by (nat_le (length (s ++ r)) greatest_text) refl
     where
       by : (b : Bool) → nat_le (length (s ++ r)) greatest_text ≡ b → ComesTo c t (cond b (gives_scalar (a_text (s ++ r))) (raises depletion))
-      by true short = scalar-full c.types t text (a_text (s ++ r)) e (both-and (nat_le (length (s ++ r)) greatest_text) (every is_text_byte (s ++ r)) short (bytes-joined s r (and-both (nat_le (length s) greatest_text) (every is_text_byte s) h).1 (and-both (nat_le (length r) greatest_text) (every is_text_byte r) k).1))
+      by true short = scalar-full c.types t text (a_text (s ++ r)) e (both-and (nat_le (length (s ++ r)) greatest_text) (all_pass is_text_byte (s ++ r)) short (bytes-joined s r (and-both (nat_le (length s) greatest_text) (all_pass is_text_byte s) h).1 (and-both (nat_le (length r) greatest_text) (all_pass is_text_byte r) k).1))
       by false short = tt
 
   booleans-come : (f : Bool → Bool → Bool) (s : Shape) (x y : Scalar) → HasShape c.types t boolean → IsTrue (is_boolean_shape s) → FitsShape s x → FitsShape s y → ComesTo c t (on_booleans f x y)
@@ -148,8 +148,8 @@ module _ (c : Code) (t : ℕ) where
   ordered-come f g s x y e h p q = not_true h
 
   operator-comes : (o : Operator) (s : Shape) (x y : Scalar) → HasShape c.types t (shape_given o) → IsTrue (takes o s) → FitsShape s x → FitsShape s y → ComesTo c t (operate o x y)
-  operator-comes either s x y e h p q = booleans-come _ s x y e h p q
-  operator-comes both s x y e h p q = booleans-come _ s x y e h p q
+  operator-comes logical_or s x y e h p q = booleans-come _ s x y e h p q
+  operator-comes logical_and s x y e h p q = booleans-come _ s x y e h p q
   operator-comes equal s x y e h p q = boolean-comes e _
   operator-comes unequal s x y e h p q = boolean-comes e _
   operator-comes less s x y e h p q = ordered-come _ _ s x y e h p q
@@ -169,8 +169,8 @@ module _ (c : Code) (t : ℕ) where
   taken-scalar o integer h = refl
   taken-scalar o text h = refl
   taken-scalar o (names count) h = refl
-  taken-scalar either s h = not_true h
-  taken-scalar both s h = not_true h
+  taken-scalar logical_or s h = not_true h
+  taken-scalar logical_and s h = not_true h
   taken-scalar equal s h = h
   taken-scalar unequal s h = h
   taken-scalar less s h = not_true h
@@ -214,14 +214,14 @@ module _ (c : Code) (t : ℕ) where
   small-comes e n h = let z : n ≤ 4096 = leb-true n 4096 h in scalar-full c.types t integer (an_integer (pos n)) e (lt-ltb n (2 ^ 63) (omega (arith, z)))
 
   bytes-come : HasShape c.types t integer → (x : Scalar) → FitsShape text x → ComesTo c t (text_then (λ bytes. gives_scalar (an_integer (pos (length bytes)))) x)
-  bytes-come e (a_text bytes) h = small-comes e (length bytes) (and-both (nat_le (length bytes) greatest_text) (every is_text_byte bytes) h).0
+  bytes-come e (a_text bytes) h = small-comes e (length bytes) (and-both (nat_le (length bytes) greatest_text) (all_pass is_text_byte bytes) h).0
   bytes-come e x h = absurd h
 
   pub length-comes : (u : ℕ) (x : Evaluated) → HasShape c.types t integer → HasShape c.types u text → ComesTo c u x → ComesTo c t (one_then (text_then (λ bytes. gives_scalar (an_integer (pos (length bytes))))) x)
   length-comes u x e f h = one-comes u text (text_then (λ bytes. gives_scalar (an_integer (pos (length bytes))))) x f refl (bytes-come e) h
 
   rows-bounded : (u row : ℕ) (key : List ℕ) (n : Name) (rs : Parts Name) → HasShape c.types u (rows row key) → HasType c.types u (cell n a_table rs) → IsTrue (nat_le (size rs) greatest_rows)
-  rows-bounded u row key n rs e h = (and-both (nat_le (size rs) greatest_rows) (has_distinct_keys key rs) (subst (λ o. IsTrue (with_some false (λ s. is_bounded s rs) o)) e h.1)).0
+  rows-bounded u row key n rs e h = (and-both (nat_le (size rs) greatest_rows) (has_distinct_keys key rs) (subst (λ o. IsTrue (map_or false (λ s. is_bounded s rs) o)) e h.1)).0
 
   pub size-comes : (u row : ℕ) (key : List ℕ) (d : Cell Name) → HasShape c.types t integer → HasShape c.types u (rows row key) → HasType c.types u d → ComesTo c t (rows_there (Some d))
   size-comes u row key d e f typed =

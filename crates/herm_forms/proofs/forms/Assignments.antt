@@ -2,11 +2,12 @@
 use Rattle.std.proofs.Common.{◌≡◌, ℕ, sym, ◌∙◌, subst}
 use Rattle.std.specs.Prelude.{⊤}
 use Rattle.herm_model.specs.Types.{TypeTable}
-use Rattle.herm_model.specs.Values.{Value, copy_from, rename}
+use Rattle.herm_model.specs.Values.{Value}
+use Rattle.herm_model.specs.CellNames.{copy_from, rename}
 use Rattle.herm_model.specs.Typed.{whole, IsOf, IsFull}
 use Rattle.herm_model.proofs.Renaming.{rename-copy_from, copy_from-constant}
 use Rattle.herm_model.proofs.Typing.{IsOf-renamed, renamed-IsOf}
-use Rattle.herm_forms.specs.Bodies.{Name}
+use Rattle.herm_forms.specs.Frames.{Name}
 
 -- a copy of a full value is full
 pub copied-full : (types : TypeTable) (t : ℕ) (name : ℕ → Name) (s : ℕ) (value : Value) → IsFull types t value → IsFull types t (copy_from name s value)

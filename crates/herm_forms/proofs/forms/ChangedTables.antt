@@ -5,16 +5,17 @@ use mathlib.Core.Bool.{true≢false, false≢true}
 use borrow.Author.Tests.{eqb-true, eq-eqb}
 use Rattle.herm_model.specs.Paths.{Path, Fact}
 use Rattle.herm_model.specs.Types.{Mode, by_in, by_inout, by_out, Parameter, TypeTable, Shape, fields, cases, rows, callmessage, part_type, part_of, type_below, type_at}
-use Rattle.herm_model.specs.Values.{Kind, a_scalar, a_record, a_variant, a_table, a_polymorph, a_callmessage, an_inport, an_outport, Cell, cell, Parts, no_parts, gap, part, part_at, inside, has_value, behind_gaps, readable_of, read_at, change_part, change_readable, change_behind, change_from, change_at, is_component}
+use Rattle.herm_model.specs.Values.{Kind, a_scalar, a_record, a_variant, a_table, a_polymorph, a_callmessage, an_inport, an_outport, Cell, cell, Parts, no_parts, gap, part, part_at, inside, has_value, behind_gaps, readable_of, read_at, change_part, change_readable, change_behind, change_from, change_at}
+use Rattle.herm_model.specs.FactsOfValues.{is_component}
 use Rattle.herm_model.specs.Typed.{Degree, whole, partly, Content, a_value, nothing, exactly, many, unfit, one_whole, parameter_content, layout, layout_at, is_bounded, is_bounded_at, Fits, IsOf, HaveTypes}
 use Rattle.herm_model.proofs.Lists.{slice_get-map}
 use Rattle.herm_model.proofs.Options.{map-some, some-injective}
 use Rattle.herm_model.proofs.FullFacts.{type_of}
 use Rattle.herm_model.proofs.Places.{cell_below, cell-below, read_below, read-below, part_at-change_same, part_at-change_other}
-use Rattle.herm_forms.specs.Bodies.{Name}
+use Rattle.herm_forms.specs.Frames.{Name}
 use Rattle.herm_forms.specs.Forms.{with_parts}
-use Rattle.herm_forms.specs.Edges.{Code}
-use Rattle.herm_forms.specs.Arrival.{AreSound}
+use Rattle.herm_forms.specs.Modules.{Module}
+use Rattle.herm_forms.specs.laws.EdgeLaws.{AreSound}
 use Rattle.herm_forms.proofs.forms.ReadTypes.{behind-there, variant-component}
 
 module _ {N : Type 0} where
@@ -227,7 +228,7 @@ module _ (N : Type 0) (table : TypeTable) where
       by (cell n (an_outport x) qs) h keep again = h
 
 -- the rows of a table of these variables changed, where they stay rows of its type
-pub change-sound : (c : Code) (has : Fact → Bool) (ps : Parts Name) → AreSound c has ps → (i : ℕ) (q : List ℕ) (u row : ℕ) (key : List ℕ) → type_at c.types c.variables (i ∷ q) ≡ Some u → slice_get c.types u ≡ Some (rows row key) → (f : Parts Name → Parts Name)
+pub change-sound : (c : Module) (has : Fact → Bool) (ps : Parts Name) → AreSound c has ps → (i : ℕ) (q : List ℕ) (u row : ℕ) (key : List ℕ) → type_at c.types c.variables (i ∷ q) ≡ Some u → slice_get c.types u ≡ Some (rows row key) → (f : Parts Name → Parts Name)
     → ((n : Name) (rs : Parts Name) → read_at (i ∷ q) ps ≡ Some (cell n a_table rs) → Fits c.types (many row) rs → IsTrue (is_bounded (rows row key) rs) → Fits c.types (many row) (f rs) × IsTrue (is_bounded (rows row key) (f rs)))
     → (n : Name) (rs : Parts Name) → read_at (i ∷ q) ps ≡ Some (cell n a_table rs) → AreSound c has (change_at (i ∷ q) (with_parts f) ps)
 change-sound c has ps sound i q u row key type shape f keep n rs at = record {

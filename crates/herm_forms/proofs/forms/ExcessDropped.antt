@@ -5,12 +5,13 @@ use Rattle.std.proofs.lemmas.List.{append-nil}
 use Rattle.std.specs.Prelude.{IsTrue}
 use mathlib.Core.Bool.{true≢false, false≢true}
 use borrow.Author.Tests.{not-true}
-use Rattle.herm_model.specs.Lists.{IsIn, some_of, list_of}
+use Rattle.herm_model.specs.Lists.{IsIn, any_pass, list_of}
 use Rattle.herm_model.specs.Paths.{Path, Fact, init, path_of, same_fact, is_at_or_below}
-use Rattle.herm_model.specs.Types.{TypeTable, type_at, full_parts, Leads, steps, is_within_depth, greatest_depth}
+use Rattle.herm_model.specs.Types.{TypeTable, type_at, full_parts, IsPartPath, part_paths, is_within_depth, greatest_depth}
 use Rattle.herm_model.specs.Facts.{full_facts, IsClosed}
-use Rattle.herm_model.specs.Nodes.{node, end}
-use Rattle.herm_model.specs.Values.{Cell, Parts, no_parts, part, cell_at, has_value, readable_of, read_at, set_at, change_inside, clear_at, HasExactly, tells}
+use Rattle.herm_model.specs.Targets.{node, end}
+use Rattle.herm_model.specs.Values.{Cell, Parts, no_parts, part, cell_at, has_value, readable_of, read_at, set_at, change_inside, clear_at}
+use Rattle.herm_model.specs.FactsOfValues.{HasExactly, satisfies}
 use Rattle.herm_model.specs.Typed.{HasType, IsFull}
 use Rattle.herm_model.specs.Finalising.{excess, clear_all}
 use Rattle.herm_model.proofs.Lists.{and-both, in-map, in-map_from, cons-tail}
@@ -19,9 +20,10 @@ use Rattle.herm_model.proofs.Declared.{message-closed}
 use Rattle.herm_model.proofs.Steps.{full-named, steps-lead, steps-listed}
 use Rattle.herm_model.proofs.FullFacts.{exact-full}
 use Rattle.herm_model.proofs.Places.{cell_at-set_above}
-use Rattle.herm_forms.specs.Bodies.{Name, Body, cleared, drop}
-use Rattle.herm_forms.specs.Edges.{Code, below, beyond, beyond_full}
-use Rattle.herm_forms.specs.Arrival.{AreDeep, AreSound, without}
+use Rattle.herm_forms.specs.Frames.{Name, Frame, cleared, drop}
+use Rattle.herm_forms.specs.Excess.{below, excess_at, excess_over_full}
+use Rattle.herm_forms.specs.Modules.{Module}
+use Rattle.herm_forms.specs.laws.EdgeLaws.{AreDeep, AreSound, without}
 use Rattle.herm_forms.proofs.forms.MovedContents.{typed-at}
 use Rattle.herm_forms.proofs.Arrived.{drop-variables, arrive-variables, excess-left, edges-exact}
 use Rattle.herm_forms.proofs.forms.Messages.{Dropped, dropped-sound, in-list_of, below-is}
@@ -32,9 +34,9 @@ use Rattle.herm_forms.proofs.SetValues.{clearing-sound}
 use Rattle.herm_forms.proofs.forms.PlainForms.{same_facts}
 
 -- what a value holds beyond its facts is below it
-pub beyond-below : (types : TypeTable) (t : Option ℕ) (facts : List Fact) (x : Path) (b : Body Name) (p : Path) → IsIn p (beyond types t facts x b) → is_at_or_below x p ≡ true
+pub beyond-below : (types : TypeTable) (t : Option ℕ) (facts : List Fact) (x : Path) (b : Frame Name) (p : Path) → IsIn p (excess_at types t facts x b) → is_at_or_below x p ≡ true
 beyond-below types t facts x b p h =
-    let kept = λ (p : Path). some_of (same_fact (init p)) facts in
+    let kept = λ (p : Path). any_pass (same_fact (init p)) facts in
     let d = in-list_of (λ (d : Cell Name). list_of (λ u. map (below x) (excess types (u ∷ []) (has_value (part d no_parts)) kept)) t) (cell_at x b.variables) p h in
     let u = in-list_of (λ (u : ℕ). map (below x) (excess types (u ∷ []) (has_value (part d.0 no_parts)) kept)) t p d.1 in
     let q = in-map_from (below x) p (excess types (u.0 ∷ []) (has_value (part d.0 no_parts)) kept) u.1 in
@@ -62,12 +64,12 @@ cleared-inside i q (p ∷ lost) within d ps at =
 
 -- A value of a type in a variable of its own, which tells these closed facts, its own among them.
 module _ (types : TypeTable) (t : ℕ) (deep : IsTrue (is_within_depth greatest_depth types t)) (facts : List Fact) (shut : IsClosed types (t ∷ []) (λ f. IsIn f facts)) (root : IsIn (init (0 ∷ [])) facts)
-    (d : Cell Name) (typed : HasType types t d) (told : (f : Fact) → IsIn f facts → IsTrue (tells (part d no_parts) f)) where
+    (d : Cell Name) (typed : HasType types t d) (told : (f : Fact) → IsIn f facts → IsTrue (satisfies (part d no_parts) f)) where
   abbrev kept_alone : Path → Bool
-  kept_alone p = some_of (same_fact (init p)) facts
+  kept_alone p = any_pass (same_fact (init p)) facts
 
-  abbrev code_alone : Code
-  code_alone = record { types = types; variables = t ∷ []; entry = end; nodes = []; loops = []; label = λ n f. some_of (same_fact f) facts }
+  abbrev code_alone : Module
+  code_alone = record { types = types; variables = t ∷ []; entry = end; nodes = []; loops = []; label = λ n f. any_pass (same_fact f) facts }
 
   abbrev lost_alone : List Path
   lost_alone = excess types (t ∷ []) (has_value (part d no_parts)) kept_alone
@@ -86,19 +88,19 @@ module _ (types : TypeTable) (t : ℕ) (deep : IsTrue (is_within_depth greatest_
       by (suc i ∷ r) h = absurd (true≢false (sym h.0 ∙ nothing_after i r d))
 
   -- what is left has exactly these facts
-  left-alone : Body Name → AreSound code_alone (λ f. some_of (same_fact f) facts) (clear_all lost_alone (part d no_parts))
+  left-alone : Frame Name → AreSound code_alone (λ f. any_pass (same_fact f) facts) (clear_all lost_alone (part d no_parts))
   left-alone b =
-      let alone : Body Name = record b { variables = part d no_parts } in
-      subst (AreSound code_alone (λ f. some_of (same_fact f) facts)) (arrive-variables code_alone (node 0) alone)
-      (edges-exact code_alone (node 0) alone (tells (part d no_parts)) deep-alone
+      let alone : Frame Name = record b { variables = part d no_parts } in
+      subst (AreSound code_alone (λ f. any_pass (same_fact f) facts)) (arrive-variables code_alone (node 0) alone)
+      (edges-exact code_alone (node 0) alone (satisfies (part d no_parts)) deep-alone
       (record { types = (typed, tt); facts = record { values = λ p. ((λ h. h), (λ h. h)); components = λ p k h. h } })
       (λ f h. told f (listed-IsIn f facts h))
       (λ f g h k. IsIn-listed g facts (shut f g (listed-IsIn f facts h) k)))
 
-  rest-exact : Body Name → (rest : Cell Name) → clear_all lost_alone (part d no_parts) ≡ part rest no_parts → HasType types t rest × HasExactly (part rest no_parts) (λ f. IsTrue (some_of (same_fact f) facts))
-  rest-exact b rest is = let sound = subst (AreSound code_alone (λ f. some_of (same_fact f) facts)) is (left-alone b) in (sound.types.0, sound.facts)
+  rest-exact : Frame Name → (rest : Cell Name) → clear_all lost_alone (part d no_parts) ≡ part rest no_parts → HasType types t rest × HasExactly (part rest no_parts) (λ f. IsTrue (any_pass (same_fact f) facts))
+  rest-exact b rest is = let sound = subst (AreSound code_alone (λ f. any_pass (same_fact f) facts)) is (left-alone b) in (sound.types.0, sound.facts)
 
-module _ (c : Code) (i : ℕ) (q : List ℕ) (has : Fact → Bool) (b : Body Name) (sound : AreSound c has b.variables) where
+module _ (c : Module) (i : ℕ) (q : List ℕ) (has : Fact → Bool) (b : Frame Name) (sound : AreSound c has b.variables) where
   -- behind a source that is taken the values are sound without its facts, whatever was dropped of it
   pub source-taken : (lost : List Path) → ((p : Path) → IsIn p lost → is_at_or_below (i ∷ q) p ≡ true) → AreSound c (without (i ∷ q) has) (cleared (i ∷ q) (drop lost b)).variables
   source-taken lost below' =
@@ -106,9 +108,9 @@ module _ (c : Code) (i : ℕ) (q : List ℕ) (has : Fact → Bool) (b : Body Nam
       same_facts c (without (i ∷ q) d.left) (without (i ∷ q) has) (cleared (i ∷ q) (drop lost b)).variables d.same (clearing-sound c d.left i q (drop lost b).variables d.sound)
 
   -- of nothing there is no excess
-  pub no-source : (t : Option ℕ) (facts : List Fact) → cell_at (i ∷ q) b.variables ≡ None → beyond c.types t facts (i ∷ q) b ≡ []
+  pub no-source : (t : Option ℕ) (facts : List Fact) → cell_at (i ∷ q) b.variables ≡ None → excess_at c.types t facts (i ∷ q) b ≡ []
   no-source t facts at =
-      ap (λ (k : Option (Cell Name)). list_of (λ d. list_of (λ u. map (below (i ∷ q)) (excess c.types (u ∷ []) (has_value (part d no_parts)) (λ p. some_of (same_fact (init p)) facts))) t) k) at
+      ap (λ (k : Option (Cell Name)). list_of (λ d. list_of (λ u. map (below (i ∷ q)) (excess c.types (u ∷ []) (has_value (part d no_parts)) (λ p. any_pass (same_fact (init p)) facts))) t) k) at
 
   -- what a value tells is told at its path, and the other way
   pub told-alone : (d : Cell Name) → cell_at (i ∷ q) b.variables ≡ Some d → (r : List ℕ) → has_value b.variables ((i ∷ q) ++ r) ≡ has_value (part d no_parts) (0 ∷ r)
@@ -125,18 +127,18 @@ module _ (c : Code) (i : ℕ) (q : List ℕ) (has : Fact → Bool) (b : Body Nam
     -- what is left of a source that tells closed facts is there, and has exactly these
     pub record Source (facts : List Fact) : Type 0 where
       pub rest : Cell Name
-      pub there : cell_at (i ∷ q) (drop (beyond c.types (type_at c.types c.variables (i ∷ q)) facts (i ∷ q) b) b).variables ≡ Some rest
+      pub there : cell_at (i ∷ q) (drop (excess_at c.types (type_at c.types c.variables (i ∷ q)) facts (i ∷ q) b) b).variables ≡ Some rest
       pub typed : HasType c.types t rest
-      pub exact : HasExactly (part rest no_parts) (λ f. IsTrue (some_of (same_fact f) facts))
+      pub exact : HasExactly (part rest no_parts) (λ f. IsTrue (any_pass (same_fact f) facts))
 
     module _ (deep : IsTrue (is_within_depth greatest_depth c.types t)) (facts : List Fact) (shut : IsClosed c.types (t ∷ []) (λ f. IsIn f facts)) (root : IsIn (init (0 ∷ [])) facts)
-        (d : Cell Name) (at : cell_at (i ∷ q) b.variables ≡ Some d) (told : (f : Fact) → IsIn f facts → IsTrue (tells (part d no_parts) f)) where
-      beyond-is : beyond c.types (type_at c.types c.variables (i ∷ q)) facts (i ∷ q) b ≡ map (below (i ∷ q)) (lost_alone c.types t deep facts shut root d (typed-source d at) told)
+        (d : Cell Name) (at : cell_at (i ∷ q) b.variables ≡ Some d) (told : (f : Fact) → IsIn f facts → IsTrue (satisfies (part d no_parts) f)) where
+      beyond-is : excess_at c.types (type_at c.types c.variables (i ∷ q)) facts (i ∷ q) b ≡ map (below (i ∷ q)) (lost_alone c.types t deep facts shut root d (typed-source d at) told)
       beyond-is =
-          ap₂ (λ (o : Option ℕ) (k : Option (Cell Name)). list_of (λ d. list_of (λ u. map (below (i ∷ q)) (excess c.types (u ∷ []) (has_value (part d no_parts)) (λ p. some_of (same_fact (init p)) facts))) o) k) type at
+          ap₂ (λ (o : Option ℕ) (k : Option (Cell Name)). list_of (λ d. list_of (λ u. map (below (i ∷ q)) (excess c.types (u ∷ []) (has_value (part d no_parts)) (λ p. any_pass (same_fact (init p)) facts))) o) k) type at
 
       -- what is dropped is below the path itself
-      pub beyond-inside : (p : Path) → IsIn p (beyond c.types (type_at c.types c.variables (i ∷ q)) facts (i ∷ q) b) → (j : ℕ) × (s : Path) × (p ≡ (i ∷ q) ++ j ∷ s)
+      pub beyond-inside : (p : Path) → IsIn p (excess_at c.types (type_at c.types c.variables (i ∷ q)) facts (i ∷ q) b) → (j : ℕ) × (s : Path) × (p ≡ (i ∷ q) ++ j ∷ s)
       beyond-inside p h =
           let x = in-map_from (below (i ∷ q)) p (lost_alone c.types t deep facts shut root d (typed-source d at) told) (subst (IsIn p) beyond-is h) in
           let in' = lost-inside c.types t deep facts shut root d (typed-source d at) told x.0 x.1 in
@@ -149,44 +151,44 @@ module _ (c : Code) (i : ℕ) (q : List ℕ) (has : Fact → Bool) (b : Body Nam
           let r = rest-exact c.types t deep facts shut root d (typed-source d at) told b x.rest x.alone in
           record {
             rest = x.rest;
-            there = ap (cell_at (i ∷ q)) (drop-variables (beyond c.types (type_at c.types c.variables (i ∷ q)) facts (i ∷ q) b) b ∙ ap (λ lost. clear_all lost b.variables) beyond-is) ∙ x.there;
+            there = ap (cell_at (i ∷ q)) (drop-variables (excess_at c.types (type_at c.types c.variables (i ∷ q)) facts (i ∷ q) b) b ∙ ap (λ lost. clear_all lost b.variables) beyond-is) ∙ x.there;
             typed = r.0;
             exact = r.1;
           }
 
 -- a value of a type that has exactly its full facts is full
-pub exactly-full : (types : TypeTable) (t : ℕ) (d : Cell Name) → IsTrue (is_within_depth greatest_depth types t) → HasType types t d → HasExactly (part d no_parts) (λ f. IsTrue (some_of (same_fact f) (full_facts types t (0 ∷ [])))) → IsFull types t d
+pub exactly-full : (types : TypeTable) (t : ℕ) (d : Cell Name) → IsTrue (is_within_depth greatest_depth types t) → HasType types t d → HasExactly (part d no_parts) (λ f. IsTrue (any_pass (same_fact f) (full_facts types t (0 ∷ [])))) → IsFull types t d
 exactly-full types t d deep typed exact =
     exact-full types d greatest_depth t deep typed
     (λ j s. (
-      (λ h. leads j s (in-map_from (λ q. init ((0 ∷ []) ++ q)) (init (0 ∷ j ∷ s)) (steps full_parts types t) (listed-IsIn (init (0 ∷ j ∷ s)) (full_facts types t (0 ∷ [])) ((exact.values (0 ∷ j ∷ s)).0 h)))),
-      (λ l. (exact.values (0 ∷ j ∷ s)).1 (IsIn-listed (init (0 ∷ j ∷ s)) (full_facts types t (0 ∷ [])) (in-map (λ q. init ((0 ∷ []) ++ q)) (j ∷ s) (steps full_parts types t) (steps-listed full_parts types full-named greatest_depth t deep (j ∷ s) l)))),
+      (λ h. leads j s (in-map_from (λ q. init ((0 ∷ []) ++ q)) (init (0 ∷ j ∷ s)) (part_paths full_parts types t) (listed-IsIn (init (0 ∷ j ∷ s)) (full_facts types t (0 ∷ [])) ((exact.values (0 ∷ j ∷ s)).0 h)))),
+      (λ l. (exact.values (0 ∷ j ∷ s)).1 (IsIn-listed (init (0 ∷ j ∷ s)) (full_facts types t (0 ∷ [])) (in-map (λ q. init ((0 ∷ []) ++ q)) (j ∷ s) (part_paths full_parts types t) (steps-listed full_parts types full-named greatest_depth t deep (j ∷ s) l)))),
     ))
   where
-    leads : (j : ℕ) (s : List ℕ) → (r : List ℕ) × IsIn r (steps full_parts types t) × (init (0 ∷ j ∷ s) ≡ init (0 ∷ r)) → Leads full_parts types t (j ∷ s)
-    leads j s x = subst (Leads full_parts types t) (sym (cons-tail (ap path_of x.2))) (steps-lead full_parts types greatest_depth t x.0 x.1)
+    leads : (j : ℕ) (s : List ℕ) → (r : List ℕ) × IsIn r (part_paths full_parts types t) × (init (0 ∷ j ∷ s) ≡ init (0 ∷ r)) → IsPartPath full_parts types t (j ∷ s)
+    leads j s x = subst (IsPartPath full_parts types t) (sym (cons-tail (ap path_of x.2))) (steps-lead full_parts types greatest_depth t x.0 x.1)
 
-module _ (c : Code) (i : ℕ) (q : List ℕ) (has : Fact → Bool) (b : Body Name) (sound : AreSound c has b.variables) (t : ℕ) (type : type_at c.types c.variables (i ∷ q) ≡ Some t) where
-  pub below-source : (p : Path) → IsIn p (beyond_full c (i ∷ q) b) → is_at_or_below (i ∷ q) p ≡ true
+module _ (c : Module) (i : ℕ) (q : List ℕ) (has : Fact → Bool) (b : Frame Name) (sound : AreSound c has b.variables) (t : ℕ) (type : type_at c.types c.variables (i ∷ q) ≡ Some t) where
+  pub below-source : (p : Path) → IsIn p (excess_over_full c (i ∷ q) b) → is_at_or_below (i ∷ q) p ≡ true
   below-source = beyond-below c.types (type_at c.types c.variables (i ∷ q)) (list_of (λ t. full_facts c.types t (0 ∷ [])) (type_at c.types c.variables (i ∷ q))) (i ∷ q) b
 
   module _ (deep : IsTrue (is_within_depth greatest_depth c.types t)) (facts : (f : Fact) → IsIn f (full_facts c.types t (i ∷ q)) → IsTrue (has f)) (d : Cell Name) (at : cell_at (i ∷ q) b.variables ≡ Some d) where
-    full-told : (f : Fact) → IsIn f (full_facts c.types t (0 ∷ [])) → IsTrue (tells (part d no_parts) f)
+    full-told : (f : Fact) → IsIn f (full_facts c.types t (0 ∷ [])) → IsTrue (satisfies (part d no_parts) f)
     full-told f h =
-        let r = in-map_from (λ q. init ((0 ∷ []) ++ q)) f (steps full_parts c.types t) h in
-        subst (λ f. IsTrue (tells (part d no_parts) f)) (sym r.2)
-        (sym (told-alone c i q has b sound d at r.0) ∙ (sound.facts.values ((i ∷ q) ++ r.0)).1 (facts (init ((i ∷ q) ++ r.0)) (in-map (λ r. init ((i ∷ q) ++ r)) r.0 (steps full_parts c.types t) r.1)))
+        let r = in-map_from (λ q. init ((0 ∷ []) ++ q)) f (part_paths full_parts c.types t) h in
+        subst (λ f. IsTrue (satisfies (part d no_parts) f)) (sym r.2)
+        (sym (told-alone c i q has b sound d at r.0) ∙ (sound.facts.values ((i ∷ q) ++ r.0)).1 (facts (init ((i ∷ q) ++ r.0)) (in-map (λ r. init ((i ∷ q) ++ r)) r.0 (part_paths full_parts c.types t) r.1)))
 
     root-full : IsIn (init (0 ∷ [])) (full_facts c.types t (0 ∷ []))
-    root-full = in-map (λ q. init ((0 ∷ []) ++ q)) [] (steps full_parts c.types t) (full-root c.types t deep)
+    root-full = in-map (λ q. init ((0 ∷ []) ++ q)) [] (part_paths full_parts c.types t) (full-root c.types t deep)
 
     -- what is left of a source that has its full facts is there, and full
-    pub source-full : (rest : Cell Name) × (cell_at (i ∷ q) (drop (beyond_full c (i ∷ q) b) b).variables ≡ Some rest) × IsFull c.types t rest
+    pub source-full : (rest : Cell Name) × (cell_at (i ∷ q) (drop (excess_over_full c (i ∷ q) b) b).variables ≡ Some rest) × IsFull c.types t rest
     source-full =
         let s = source-exact c i q has b sound t type deep (full_facts c.types t (0 ∷ [])) (message-closed c.types t [] deep) root-full d at full-told in
-        (s.rest, ap (λ (o : Option ℕ). cell_at (i ∷ q) (drop (beyond c.types (type_at c.types c.variables (i ∷ q)) (list_of (λ t. full_facts c.types t (0 ∷ [])) o) (i ∷ q) b) b).variables) type ∙ s.there, exactly-full c.types t s.rest deep s.typed s.exact)
+        (s.rest, ap (λ (o : Option ℕ). cell_at (i ∷ q) (drop (excess_at c.types (type_at c.types c.variables (i ∷ q)) (list_of (λ t. full_facts c.types t (0 ∷ [])) o) (i ∷ q) b) b).variables) type ∙ s.there, exactly-full c.types t s.rest deep s.typed s.exact)
 
-    pub inside-source : (p : Path) → IsIn p (beyond_full c (i ∷ q) b) → (j : ℕ) × (s : Path) × (p ≡ (i ∷ q) ++ j ∷ s)
+    pub inside-source : (p : Path) → IsIn p (excess_over_full c (i ∷ q) b) → (j : ℕ) × (s : Path) × (p ≡ (i ∷ q) ++ j ∷ s)
     inside-source p h =
         beyond-inside c i q has b sound t type deep (full_facts c.types t (0 ∷ [])) (message-closed c.types t [] deep) root-full d at full-told p
-        (subst (IsIn p) (ap (λ (o : Option ℕ). beyond c.types (type_at c.types c.variables (i ∷ q)) (list_of (λ t. full_facts c.types t (0 ∷ [])) o) (i ∷ q) b) type) h)
+        (subst (IsIn p) (ap (λ (o : Option ℕ). excess_at c.types (type_at c.types c.variables (i ∷ q)) (list_of (λ t. full_facts c.types t (0 ∷ [])) o) (i ∷ q) b) type) h)

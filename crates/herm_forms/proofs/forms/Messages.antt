@@ -1,7 +1,7 @@
 -- Messages that were placed keep values sound.
 use Rattle.std.proofs.Common.{◌≡◌, inl, inr, ℕ, List, [], ◌∷◌, map, Bool, true, false, not, ◌&&◌, Option, Some, None, refl, sym, ◌∙◌, subst}
 use mathlib.Core.Bool.{false≢true}
-use Rattle.herm_model.specs.Lists.{IsIn, some_of, list_of}
+use Rattle.herm_model.specs.Lists.{IsIn, any_pass, list_of}
 use Rattle.herm_model.specs.Paths.{Path, Fact, init, path_of, same_fact, is_at_or_below}
 use Rattle.herm_model.specs.Types.{type_at}
 use Rattle.herm_model.specs.Facts.{declared_facts}
@@ -12,9 +12,10 @@ use Rattle.herm_model.specs.Finalising.{excess, clear_all}
 use Rattle.herm_model.specs.Calls.{inport_at}
 use Rattle.herm_model.proofs.Lists.{in-map_from}
 use Rattle.herm_model.proofs.Beginnings.{below-self, above-longer, below-trans}
-use Rattle.herm_forms.specs.Bodies.{Name, Body, goes, if_there, cleared, drop}
-use Rattle.herm_forms.specs.Edges.{Code, below, beyond_declared}
-use Rattle.herm_forms.specs.Arrival.{AreSound, without, held_after, SendsAreSound}
+use Rattle.herm_forms.specs.Frames.{Name, Frame, goes, if_there, cleared, drop}
+use Rattle.herm_forms.specs.Excess.{below, excess_over_declared}
+use Rattle.herm_forms.specs.Modules.{Module}
+use Rattle.herm_forms.specs.laws.EdgeLaws.{AreSound, without, held_after, SendsAreSound}
 use Rattle.herm_forms.proofs.Arrived.{drop-variables}
 use Rattle.herm_forms.proofs.SetValues.{clearing-sound}
 use Rattle.herm_forms.proofs.forms.PlainForms.{same_body, same_outcome_of, never, same_facts, without-cond}
@@ -28,11 +29,11 @@ pub below-is : (x p : Path) → is_at_or_below x (below x p) ≡ true
 below-is x [] = below-self x
 below-is x (v ∷ q) = above-longer x q
 
-pub beyond-below : (c : Code) (to x : Path) (b : Body Name) (p : Path) → IsIn p (beyond_declared c to x b) → is_at_or_below x p ≡ true
+pub beyond-below : (c : Module) (to x : Path) (b : Frame Name) (p : Path) → IsIn p (excess_over_declared c to x b) → is_at_or_below x p ≡ true
 beyond-below c to x b p h =
-    let d = in-list_of (λ (d : Cell Name). list_of (λ u. map (below x) (excess c.types (u ∷ []) (has_value (part d no_parts)) (λ p. some_of (same_fact (init p)) (list_of (λ t. declared_facts c.types t (0 ∷ [])) (inport_at c.types c.variables to))))) (type_at c.types c.variables x)) (cell_at x b.variables) p h in
-    let u = in-list_of (λ (u : ℕ). map (below x) (excess c.types (u ∷ []) (has_value (part d.0 no_parts)) (λ p. some_of (same_fact (init p)) (list_of (λ t. declared_facts c.types t (0 ∷ [])) (inport_at c.types c.variables to))))) (type_at c.types c.variables x) p d.1 in
-    let q = in-map_from (below x) p (excess c.types (u.0 ∷ []) (has_value (part d.0 no_parts)) (λ p. some_of (same_fact (init p)) (list_of (λ t. declared_facts c.types t (0 ∷ [])) (inport_at c.types c.variables to)))) u.1 in
+    let d = in-list_of (λ (d : Cell Name). list_of (λ u. map (below x) (excess c.types (u ∷ []) (has_value (part d no_parts)) (λ p. any_pass (same_fact (init p)) (list_of (λ t. declared_facts c.types t (0 ∷ [])) (inport_at c.types c.variables to))))) (type_at c.types c.variables x)) (cell_at x b.variables) p h in
+    let u = in-list_of (λ (u : ℕ). map (below x) (excess c.types (u ∷ []) (has_value (part d.0 no_parts)) (λ p. any_pass (same_fact (init p)) (list_of (λ t. declared_facts c.types t (0 ∷ [])) (inport_at c.types c.variables to))))) (type_at c.types c.variables x) p d.1 in
+    let q = in-map_from (below x) p (excess c.types (u.0 ∷ []) (has_value (part d.0 no_parts)) (λ p. any_pass (same_fact (init p)) (list_of (λ t. declared_facts c.types t (0 ∷ [])) (inport_at c.types c.variables to)))) u.1 in
     subst (λ p. is_at_or_below x p ≡ true) (sym q.2) (below-is x q.0)
 
 without-twice : (a b h : Bool) → (b ≡ true → a ≡ true) → not a && (not b && h) ≡ not a && h
@@ -40,7 +41,7 @@ without-twice true b h on = refl
 without-twice false true h on = absurd (false≢true (on refl))
 without-twice false false h on = refl
 
-module _ (c : Code) (i : ℕ) (q : List ℕ) where
+module _ (c : Module) (i : ℕ) (q : List ℕ) where
   -- what is dropped below a path makes no difference once the path itself is cleared
   pub record Dropped (has : Fact → Bool) (ps : Parts Name) : Type 0 where
     pub left : Fact → Bool
@@ -58,7 +59,7 @@ module _ (c : Code) (i : ℕ) (q : List ℕ) where
         same = λ f. d.same f ∙ without-twice (is_at_or_below (i ∷ q) (path_of f)) (is_at_or_below (j ∷ r) (path_of f)) (has f) (λ at. below-trans (i ∷ q) (j ∷ r) (path_of f) (below (j ∷ r) (inl refl)) at);
       }
 
-  sent-sound : (to : Path) (has : Fact → Bool) (b b' : Body Name) (o : Outcome) (lost : List Path) → ((p : Path) → IsIn p lost → is_at_or_below (i ∷ q) p ≡ true) → AreSound c has b.variables
+  sent-sound : (to : Path) (has : Fact → Bool) (b b' : Frame Name) (o : Outcome) (lost : List Path) → ((p : Path) → IsIn p lost → is_at_or_below (i ∷ q) p ≡ true) → AreSound c has b.variables
       → (x : Option (Cell Name)) → if_there (λ d. goes ok (cleared (i ∷ q) (drop lost b))) x ≡ goes o b' → AreSound c (held_after c.types c.variables (Send (i ∷ q) to) o has) b'.variables
   sent-sound to has b b' o lost below sound None is = never o b' is
   sent-sound to has b b' o lost below sound (Some m) is =
@@ -68,9 +69,9 @@ module _ (c : Code) (i : ℕ) (q : List ℕ) where
       (λ f. d.same f ∙ without-cond (is_at_or_below (i ∷ q) (path_of f)) (has f)) gone in
       let there = subst (λ ps. AreSound c (held_after c.types c.variables (Send (i ∷ q) to) ok has) (clear_at (i ∷ q) ps)) (sym (drop-variables lost b)) facts in
       subst (λ o. AreSound c (held_after c.types c.variables (Send (i ∷ q) to) o has) b'.variables) (same_outcome_of ok o (cleared (i ∷ q) (drop lost b)) b' is)
-      (subst (λ (b : Body Name). AreSound c (held_after c.types c.variables (Send (i ∷ q) to) ok has) b.variables) (same_body ok o (cleared (i ∷ q) (drop lost b)) b' is) there)
+      (subst (λ (b : Frame Name). AreSound c (held_after c.types c.variables (Send (i ∷ q) to) ok has) b.variables) (same_body ok o (cleared (i ∷ q) (drop lost b)) b' is) there)
 
 pub sends-sound : SendsAreSound
 sends-sound c i q to has b b' o k message sound is =
-    let lost = beyond_declared c to (i ∷ q) b in
+    let lost = excess_over_declared c to (i ∷ q) b in
     sent-sound c i q to has b b' o lost (beyond-below c to (i ∷ q) b) sound (cell_at (i ∷ q) (drop lost b).variables) is

@@ -4,7 +4,7 @@ use Rattle.std.proofs.lemmas.List.{append-nil}
 use Rattle.std.specs.Prelude.{is_some}
 use Rattle.herm_model.specs.Values.{Cell, Parts, no_parts, part, part_at, inside, cell_at, has_value}
 use Rattle.herm_model.proofs.NothingThere.{nothing-there}
-use Rattle.herm_forms.specs.Bodies.{Name}
+use Rattle.herm_forms.specs.Frames.{Name}
 
 -- below a cell
 pub cell-below : {N : Type 0} (q : List ℕ) (i j : ℕ) (s : List ℕ) (ps : Parts N) → cell_at ((i ∷ q) ++ j ∷ s) ps ≡ cell_at (j ∷ s) (inside (cell_at (i ∷ q) ps))

@@ -8,7 +8,8 @@ use Rattle.herm_model.specs.Paths.{Path, Fact, init, case, path_of}
 use Rattle.herm_model.specs.Types.{TypeTable, Shape, cases, part_type, part_of, is_cases, is_variant}
 use Rattle.herm_model.specs.Facts.{facts_from, facts_to, prefixes, with_prefixes, IsClosed}
 use Rattle.herm_model.specs.StatementTable.{closed}
-use Rattle.herm_model.specs.Values.{Kind, a_scalar, a_record, a_variant, a_table, a_polymorph, a_callmessage, an_inport, an_outport, Cell, cell, Parts, no_parts, gap, part, part_at, inside, opens, cell_at, behind_gaps, readable_of, read_at, is_component, tells}
+use Rattle.herm_model.specs.Values.{Kind, a_scalar, a_record, a_variant, a_table, a_polymorph, a_callmessage, an_inport, an_outport, Cell, cell, Parts, no_parts, gap, part, part_at, inside, opens, cell_at, behind_gaps, readable_of, read_at}
+use Rattle.herm_model.specs.FactsOfValues.{is_component, satisfies}
 use Rattle.herm_model.specs.Typed.{partly, unfit, layout, one_whole, Fits, HasType, HaveTypes}
 use Rattle.herm_model.proofs.Lists.{in-append_right, in-append_cases, in-flat_map, in-flat_map_from}
 use Rattle.herm_model.proofs.ClosedFacts.{once-IsIn, IsIn-once}
@@ -138,26 +139,26 @@ module _ (N : Type 0) (table : TypeTable) where
 
   -- from what is read on the way to what is read at the end, each fact is told
   module _ (ps : Parts N) where
-    own-told : (i : ℕ) (q : List ℕ) (w : Bool) (c : Cell N) (f : Fact) → (w ≡ false → cell_at (i ∷ q) ps ≡ Some c) → IsIn f (cond w [] (init (i ∷ q) ∷ [])) → IsTrue (tells ps f)
+    own-told : (i : ℕ) (q : List ℕ) (w : Bool) (c : Cell N) (f : Fact) → (w ≡ false → cell_at (i ∷ q) ps ≡ Some c) → IsIn f (cond w [] (init (i ∷ q) ∷ [])) → IsTrue (satisfies ps f)
     own-told i q true c f direct h = absurd h
-    own-told i q false c f direct (inl e) = subst (λ f. IsTrue (tells ps f)) (sym e) (ap is_some (direct refl))
+    own-told i q false c f direct (inl e) = subst (λ f. IsTrue (satisfies ps f)) (sym e) (ap is_some (direct refl))
     own-told i q false c f direct (inr h) = absurd h
 
-    case-told : (i : ℕ) (q : List ℕ) (j : ℕ) (c : Cell N) (f : Fact) → read_at (i ∷ q) ps ≡ Some c → (b : Bool) → (b ≡ true → is_component (Some c) j ≡ true) → IsIn f (cond b (case (i ∷ q) j ∷ []) []) → IsTrue (tells ps f)
-    case-told i q j c f at true known (inl e) = subst (λ f. IsTrue (tells ps f)) (sym e) (ap (λ o. is_component o j) at ∙ known refl)
+    case-told : (i : ℕ) (q : List ℕ) (j : ℕ) (c : Cell N) (f : Fact) → read_at (i ∷ q) ps ≡ Some c → (b : Bool) → (b ≡ true → is_component (Some c) j ≡ true) → IsIn f (cond b (case (i ∷ q) j ∷ []) []) → IsTrue (satisfies ps f)
+    case-told i q j c f at true known (inl e) = subst (λ f. IsTrue (satisfies ps f)) (sym e) (ap (λ o. is_component o j) at ∙ known refl)
     case-told i q j c f at true known (inr h) = absurd h
     case-told i q j c f at false known h = absurd h
 
     told-on : (i : ℕ) (q : List ℕ) (t : ℕ) (w : Bool) (j : ℕ) (p : List ℕ) (c : Cell N) (f : Fact) → read_at (i ∷ q) ps ≡ Some c → (w ≡ false → cell_at (i ∷ q) ps ≡ Some c) → (is_variant table (Some t) ≡ true → is_component (Some c) j ≡ true)
-        → (IsIn f (facts_from table ((i ∷ q) ++ j ∷ []) (part_of table (Some t) j) (w || is_variant table (Some t)) p) → IsTrue (tells ps f)) → IsIn f (facts_from table (i ∷ q) (Some t) w (j ∷ p)) → IsTrue (tells ps f)
+        → (IsIn f (facts_from table ((i ∷ q) ++ j ∷ []) (part_of table (Some t) j) (w || is_variant table (Some t)) p) → IsTrue (satisfies ps f)) → IsIn f (facts_from table (i ∷ q) (Some t) w (j ∷ p)) → IsTrue (satisfies ps f)
     told-on i q t w j p c f at direct known further h =
         by (in-append_cases f (cond w [] (init (i ∷ q) ∷ [])) (cond (is_variant table (Some t)) (case (i ∷ q) j ∷ []) [] ++ facts_from table ((i ∷ q) ++ j ∷ []) (part_of table (Some t) j) (w || is_variant table (Some t)) p) h)
       where
-        later : IsIn f (cond (is_variant table (Some t)) (case (i ∷ q) j ∷ []) []) ⊎ IsIn f (facts_from table ((i ∷ q) ++ j ∷ []) (part_of table (Some t) j) (w || is_variant table (Some t)) p) → IsTrue (tells ps f)
+        later : IsIn f (cond (is_variant table (Some t)) (case (i ∷ q) j ∷ []) []) ⊎ IsIn f (facts_from table ((i ∷ q) ++ j ∷ []) (part_of table (Some t) j) (w || is_variant table (Some t)) p) → IsTrue (satisfies ps f)
         later (inl h) = case-told i q j c f at (is_variant table (Some t)) known h
         later (inr h) = further h
 
-        by : IsIn f (cond w [] (init (i ∷ q) ∷ [])) ⊎ IsIn f (cond (is_variant table (Some t)) (case (i ∷ q) j ∷ []) [] ++ facts_from table ((i ∷ q) ++ j ∷ []) (part_of table (Some t) j) (w || is_variant table (Some t)) p) → IsTrue (tells ps f)
+        by : IsIn f (cond w [] (init (i ∷ q) ∷ [])) ⊎ IsIn f (cond (is_variant table (Some t)) (case (i ∷ q) j ∷ []) [] ++ facts_from table ((i ∷ q) ++ j ∷ []) (part_of table (Some t) j) (w || is_variant table (Some t)) p) → IsTrue (satisfies ps f)
         by (inl h) = own-told i q w c f direct h
         by (inr h) = later (in-append_cases f (cond (is_variant table (Some t)) (case (i ∷ q) j ∷ []) []) (facts_from table ((i ∷ q) ++ j ∷ []) (part_of table (Some t) j) (w || is_variant table (Some t)) p) h)
 
@@ -166,7 +167,7 @@ module _ (N : Type 0) (table : TypeTable) where
     next-direct i j q c d b false s direct e = part-on N i j q ps ∙ ap (λ o. part_at j (inside o)) (direct refl) ∙ s e
 
     told-from : (p : List ℕ) (i : ℕ) (q : List ℕ) (t : ℕ) (w : Bool) (c e : Cell N) (f : Fact) → read_at (i ∷ q) ps ≡ Some c → HasType table t c → (w ≡ false → cell_at (i ∷ q) ps ≡ Some c)
-        → read_at ((i ∷ q) ++ p) ps ≡ Some e → IsIn f (facts_from table (i ∷ q) (Some t) w p) → IsTrue (tells ps f)
+        → read_at ((i ∷ q) ++ p) ps ≡ Some e → IsIn f (facts_from table (i ∷ q) (Some t) w p) → IsTrue (satisfies ps f)
     told-from [] i q t w c e f at typed direct end h = own-told i q w c f direct h
     told-from (j ∷ p) i q t w c e f at typed direct end h =
         let onward : read_at (j ∷ p) (readable_of (Some c)) ≡ Some e = ap (λ o. read_at (j ∷ p) (readable_of o)) (sym at) ∙ sym (read-on N q i j p ps) ∙ end in
@@ -179,14 +180,14 @@ module _ (N : Type 0) (table : TypeTable) where
         (subst (λ o. IsIn f (facts_from table ((i ∷ q) ++ j ∷ []) o (w || is_variant table (Some t)) p)) s.next h)) h
 
   module _ (variables : List ℕ) (ps : Parts N) (typed : HaveTypes table variables ps) where
-    pub told-to : (p : Path) (e : Cell N) (f : Fact) → read_at p ps ≡ Some e → IsIn f (facts_to table variables p) → IsTrue (tells ps f)
+    pub told-to : (p : Path) (e : Cell N) (f : Fact) → read_at p ps ≡ Some e → IsIn f (facts_to table variables p) → IsTrue (satisfies ps f)
     told-to [] e f end h = absurd h
     told-to (i ∷ q) e f end h =
         let d = first-read N q i ps e end in
         let x = typed-part N table variables ps i d.0 typed d.1 in
         told-from ps q i [] x.type false d.0 e f d.1 x.typed (λ w. d.1) end (subst (λ o. IsIn f (facts_from table (i ∷ []) o false q)) x.there h)
 
-    told-read : (f : Fact) → IsTrue (tells ps f) → (e : Cell N) × (read_at (path_of f) ps ≡ Some e)
+    told-read : (f : Fact) → IsTrue (satisfies ps f) → (e : Cell N) × (read_at (path_of f) ps ≡ Some e)
     told-read (init []) h = absurd (false≢true h)
     told-read (init (i ∷ q)) h = by (cell_at (i ∷ q) ps) refl h
       where
@@ -200,5 +201,5 @@ module _ (N : Type 0) (table : TypeTable) where
         by (Some e) at h = (e, at)
 
     -- what typed values tell is closed
-    pub told-closed : IsClosed table variables (λ f. IsTrue (tells ps f))
+    pub told-closed : IsClosed table variables (λ f. IsTrue (satisfies ps f))
     told-closed f g h k = let e = told-read f h in told-to (path_of f) e.0 g e.1 (before-path table variables f g k)

@@ -6,15 +6,16 @@ use Rattle.herm_model.specs.Paths.{Fact}
 use Rattle.herm_model.specs.Types.{TypeTable, rows, type_at, is_within_depth, greatest_depth}
 use Rattle.herm_model.specs.Statements.{For}
 use Rattle.herm_model.specs.Outcomes.{Outcome, turn, done}
-use Rattle.herm_model.specs.Values.{Cell, Parts, no_parts, gap, part, parts_of, cell_at, read_at, has_place, put_at, count_in, copy_in, rename_in}
+use Rattle.herm_model.specs.Values.{Cell, Parts, no_parts, gap, part, parts_of, cell_at, read_at, has_place, put_at}
+use Rattle.herm_model.specs.CellNames.{count_in, copy_in, rename_in}
 use Rattle.herm_model.specs.Typed.{many, Fits}
 use Rattle.herm_model.proofs.Renaming.{rename-copy_in, copy_in-constant}
 use Rattle.herm_model.proofs.Typing.{Fits-renamed, renamed-Fits}
-use Rattle.herm_forms.specs.Bodies.{Name, Loop, Body, goes, stuck, if_there, let_go_old, put}
+use Rattle.herm_forms.specs.Frames.{Name, Loop, Frame, goes, stuck, if_there, finalise_old, put}
 use Rattle.herm_forms.specs.Forms.{rows_for, set_rows, next_row, visit}
-use Rattle.herm_forms.specs.Edges.{Code}
-use Rattle.herm_forms.specs.Arrival.{AreSound, held_after}
-use Rattle.herm_forms.specs.ComponentLaws.{RowsAreVisited}
+use Rattle.herm_forms.specs.Modules.{Module}
+use Rattle.herm_forms.specs.laws.EdgeLaws.{AreSound, held_after}
+use Rattle.herm_forms.specs.laws.ComponentLaws.{RowsAreVisited}
 use Rattle.herm_forms.proofs.forms.PlainForms.{same_body, never}
 use Rattle.herm_forms.proofs.forms.SetTargets.{put-full}
 use Rattle.herm_forms.proofs.forms.ReadTypes.{read-typed, is-table}
@@ -43,34 +44,34 @@ set-in s rs (k ∷ loops) l h = by (nat_eq k.statement s) h (set-in s rs loops l
         later (inl h) = inl (inr h)
         later (inr e) = inr e
 
-old-loops : {N : Type 0} (o : Option (Cell N)) (b : Body N) → (let_go_old o b).loops ≡ b.loops
+pub old-loops : {N : Type 0} (o : Option (Cell N)) (b : Frame N) → (finalise_old o b).loops ≡ b.loops
 old-loops None b = refl
 old-loops (Some c) b = refl
 
-module _ (c : Code) (i : ℕ) (q : List ℕ) (j : ℕ) (r : List ℕ) (row u : ℕ) (key : List ℕ) (table : type_at c.types c.variables (i ∷ q) ≡ Some u) (shape : slice_get c.types u ≡ Some (rows row key)) (target : type_at c.types c.variables (j ∷ r) ≡ Some row)
-    (deep : IsTrue (is_within_depth greatest_depth c.types row)) (name : Name → Name) (statement : ℕ) (has : Fact → Bool) (b : Body Name) (sound : AreSound c has b.variables)
+module _ (c : Module) (i : ℕ) (q : List ℕ) (j : ℕ) (r : List ℕ) (row u : ℕ) (key : List ℕ) (table : type_at c.types c.variables (i ∷ q) ≡ Some u) (shape : slice_get c.types u ≡ Some (rows row key)) (target : type_at c.types c.variables (j ∷ r) ≡ Some row)
+    (deep : IsTrue (is_within_depth greatest_depth c.types row)) (name : Name → Name) (statement : ℕ) (has : Fact → Bool) (b : Frame Name) (sound : AreSound c has b.variables)
     (left : (rs : Parts Name) → rows_for statement b.loops ≡ Some rs → Fits c.types (many row) rs) where
   abbrev IsOfBefore : Loop Name → Type 0
   IsOfBefore l = IsIn l b.loops ⊎ ((l.statement ≡ statement) × Fits c.types (many row) l.rows)
 
-  abbrev Goal : Outcome → Body Name → Type 0
+  abbrev Goal : Outcome → Frame Name → Type 0
   Goal o b' = AreSound c (held_after c.types c.variables (For (j ∷ r) (i ∷ q)) o has) b'.variables × ((l : Loop Name) → IsIn l b'.loops → IsOfBefore l)
 
-  placed : (d : Cell Name) → Fits c.types (many row) (part d no_parts) → (cut : Body Name) → AreSound c has cut.variables → ((l : Loop Name) → IsIn l cut.loops → IsOfBefore l) → (o : Outcome) (b' : Body Name) (p : Bool) → has_place cut.variables (j ∷ r) ≡ p
+  placed : (d : Cell Name) → Fits c.types (many row) (part d no_parts) → (cut : Frame Name) → AreSound c has cut.variables → ((l : Loop Name) → IsIn l cut.loops → IsOfBefore l) → (o : Outcome) (b' : Frame Name) (p : Bool) → has_place cut.variables (j ∷ r) ≡ p
       → cond p (goes turn (put (j ∷ r) d cut)) stuck ≡ goes o b' → Goal o b'
   placed d whole' cut rest loops o b' false place is = never o b' is
   placed d whole' cut rest loops o b' true place is = (
     put-full c j r row target deep (For (j ∷ r) (i ∷ q)) turn has has d cut rest whole'.0 (λ f. refl) o b' true place is,
     (λ l h.
-        let same : (put (j ∷ r) d cut).loops ≡ b'.loops = ap (λ (b : Body Name). b.loops) (same_body turn o (put (j ∷ r) d cut) b' is) in
+        let same : (put (j ∷ r) d cut).loops ≡ b'.loops = ap (λ (b : Frame Name). b.loops) (same_body turn o (put (j ∷ r) d cut) b' is) in
         let old = old-loops (cell_at (j ∷ r) cut.variables) (record cut { variables = put_at (j ∷ r) d cut.variables }) in
         loops l (subst (IsIn l) (sym same ∙ old) h)),
   )
 
-  next-sound : (rs : Parts Name) → Fits c.types (many row) rs → (cut : Body Name) → AreSound c has cut.variables → ((l : Loop Name) → IsIn l cut.loops → IsOfBefore l) → (o : Outcome) (b' : Body Name) → next_row statement (j ∷ r) rs cut ≡ goes o b' → Goal o b'
+  next-sound : (rs : Parts Name) → Fits c.types (many row) rs → (cut : Frame Name) → AreSound c has cut.variables → ((l : Loop Name) → IsIn l cut.loops → IsOfBefore l) → (o : Outcome) (b' : Frame Name) → next_row statement (j ∷ r) rs cut ≡ goes o b' → Goal o b'
   next-sound no_parts fits cut rest loops o b' is = (
     goes-sound c (For (j ∷ r) (i ∷ q)) has has cut rest done (λ f. refl) o b' is,
-    (λ l h. loops l (subst (λ (b : Body Name). IsIn l b.loops) (sym (same_body done o cut b' is)) h)),
+    (λ l h. loops l (subst (λ (b : Frame Name). IsIn l b.loops) (sym (same_body done o cut b' is)) h)),
   )
   next-sound (gap rs) fits cut rest loops o b' is = absurd fits
   next-sound (part d rs) fits cut rest loops o b' is =
@@ -80,7 +81,7 @@ module _ (c : Code) (i : ℕ) (q : List ℕ) (j : ℕ) (r : List ℕ) (row u : �
       by l (inl h) = loops l h
       by l (inr e) = inr (ap (λ (l : Loop Name). l.statement) e, subst (λ (l : Loop Name). Fits c.types (many row) l.rows) (sym e) fits.1)
 
-  first-sound : (o : Outcome) (b' : Body Name) (x : Option (Cell Name)) → read_at (i ∷ q) b.variables ≡ x
+  first-sound : (o : Outcome) (b' : Frame Name) (x : Option (Cell Name)) → read_at (i ∷ q) b.variables ≡ x
       → if_there
       (λ t. next_row statement (j ∷ r) (copy_in (λ s. name (b.number, s)) b.serial (parts_of t))
       (record b { serial = b.serial + count_in (parts_of t); loops = record { statement = statement; rows = copy_in (λ s. name (b.number, s)) b.serial (parts_of t) } ∷ b.loops }))
@@ -96,7 +97,7 @@ module _ (c : Code) (i : ℕ) (q : List ℕ) (j : ℕ) (r : List ℕ) (row u : �
       by rs fits l (inl e) = inr (ap (λ (l : Loop Name). l.statement) e, subst (λ (l : Loop Name). Fits c.types (many row) l.rows) (sym e) fits)
       by rs fits l (inr h) = inl h
 
-  visited : (o : Outcome) (b' : Body Name) → visit name statement (j ∷ r) (i ∷ q) b ≡ goes o b' → Goal o b'
+  visited : (o : Outcome) (b' : Frame Name) → visit name statement (j ∷ r) (i ∷ q) b ≡ goes o b' → Goal o b'
   visited o b' is = by (rows_for statement b.loops) refl is
     where
       by : (x : Option (Parts Name)) → rows_for statement b.loops ≡ x
@@ -110,5 +111,5 @@ module _ (c : Code) (i : ℕ) (q : List ℕ) (j : ℕ) (r : List ℕ) (row u : �
       by None e is = first-sound o b' (read_at (i ∷ q) b.variables) refl is
       by (Some rs) e is = next-sound rs (left rs e) b sound (λ l h. inl h) o b' is
 
-pub rows-visited : (c : Code) → RowsAreVisited c
+pub rows-visited : (c : Module) → RowsAreVisited c
 rows-visited c i q j r row u key table shape target deep name statement has b b' o sound left is = visited c i q j r row u key table shape target deep name statement has b sound left o b' is

@@ -1,7 +1,8 @@
 -- Values whose cells are all of certain kinds, and that the primitives on parts keep this.
 use Rattle.std.proofs.Common.{ℕ, zero, suc, ◌+◌, List, [], ◌∷◌, ◌++◌, Bool, true, false, cond, Option, Some, None}
 use Rattle.herm_model.specs.Paths.{Path}
-use Rattle.herm_model.specs.Values.{a_variant, Kind, Cell, cell, Parts, no_parts, gap, part, part_at, place, set_part, gaps, joined, opens, inside, cell_at, change_inside, change_part, set_at, behind_gaps, readable, readable_of, read_at, change_readable, change_behind, change_from, change_at, count, copy_from, copy_in, rename, rename_in, parts_of}
+use Rattle.herm_model.specs.Values.{a_variant, Kind, Cell, cell, Parts, no_parts, gap, part, part_at, place, set_part, gaps, joined, opens, inside, cell_at, change_inside, change_part, set_at, behind_gaps, readable, readable_of, read_at, change_readable, change_behind, change_from, change_at, parts_of}
+use Rattle.herm_model.specs.CellNames.{count, copy_from, copy_in, rename, rename_in}
 use Rattle.herm_model.specs.Tables.{without_part}
 use Rattle.herm_model.specs.Finalising.{waits, pending, pending_in}
 use Rattle.herm_forms.specs.Forms.{with_parts}

@@ -8,16 +8,20 @@ use Rattle.herm_model.specs.Statements.{Form, New, Send, Receive, Select, Call, 
 use Rattle.herm_model.specs.Expressions.{Atom}
 use Rattle.herm_model.specs.Calls.{call_parameters}
 use Rattle.herm_model.specs.StatementTable.{set_by_call}
-use Rattle.herm_model.specs.Values.{Kind, a_callmessage, an_outport, an_inport, Cell, cell, Parts, no_parts, gap, part, cell_at, read_at, copy_in, count_in}
+use Rattle.herm_model.specs.Values.{Kind, a_callmessage, an_outport, an_inport, Cell, cell, Parts, no_parts, gap, part, cell_at, read_at}
+use Rattle.herm_model.specs.CellNames.{copy_in, count_in}
 use Rattle.herm_forms.specs.Evaluate.{Evaluated, gives, raises, no_value, atom_value}
 use Rattle.herm_journal.specs.Actions.{Reply, values, gone, new_port, new_process, to_put, to_take, to_close, to_answer, to_hear, make_port, make_process, put, take, close, answer, hear}
 use Rattle.herm_journal.specs.Actions
-use Rattle.herm_forms.specs.Bodies.{Name, Body, Result, if_there, let_go_all, end_cell, cleared, drop, putting, Taken, with_taken, take_all}
+use Rattle.herm_forms.specs.Frames.{Name, Frame, Completion, if_there, finalise_all, finalise_at_once, cleared, drop, putting, Taken, with_taken, take_all}
 use Rattle.herm_forms.specs.Exchanges
+use Rattle.herm_forms.specs.Callmessages as callmessages
 use Rattle.herm_journal.specs.Messages.{CellReply, CellAction}
-use Rattle.herm_forms.specs.Exchanges.{Composed, compose, assemble, with_message, receive_at, place_of_port, ports_at, inport_at, outport_at, caller_of}
+use Rattle.herm_forms.specs.Exchanges.{receive_at, place_of_port, ports_at, inport_at, outport_at}
+use Rattle.herm_forms.specs.Callmessages.{Composed, compose, assemble, with_message, caller_of}
 use Rattle.herm_forms.specs.Forms.{inport_number, outport_number}
-use Rattle.herm_forms.specs.Edges.{Code, beyond_full, beyond_declared}
+use Rattle.herm_forms.specs.Excess.{excess_over_full, excess_over_declared}
+use Rattle.herm_forms.specs.Modules.{Module}
 use Rattle.herm_forms.specs.Acts.{wants, arguments_at, is_inout, is_out, input_of, inputs_of, composed, kept_at, left_at, given_back, given_at, given_by, settle, settle_reply}
 use Rattle.herm_journal.specs.Kinds.{HasKinds, HaveKinds, AllKinds, IfWant, AllPorts, ReplyKinds, ActionKinds}
 use Rattle.herm_forms.proofs.known.HeldKinds.{IfKinds, cell-kinds, read-kinds, copy-kinds_in}
@@ -40,11 +44,11 @@ module _ {N : Type 0} (name : Name → N) (of : Kind → Type 0) (allows : Allow
   -- what was taken out of paths, and a composed callmessage
   abbrev IfTaken : Option (Taken N) → Type 0
   IfTaken None = Unit {0}
-  IfTaken (Some t) = AllKinds of t.cells × BodyKinds of t.body
+  IfTaken (Some t) = AllKinds of t.cells × BodyKinds of t.frame
 
   abbrev IfComposed : Option (Composed N) → Type 0
   IfComposed None = Unit {0}
-  IfComposed (Some c) = HasKinds of c.message × BodyKinds of c.body
+  IfComposed (Some c) = HasKinds of c.message × BodyKinds of c.frame
 
   with-taken : (c : Cell N) (o : Option (Taken N)) → HasKinds of c → IfTaken o → IfTaken (with_taken c o)
   with-taken c None h k = tt
@@ -54,7 +58,7 @@ module _ {N : Type 0} (name : Name → N) (of : Kind → Type 0) (allows : Allow
   took None next h k = tt
   took (Some c) next h k = with-taken c next h k
 
-  take-all : (paths : List Path) (b : Body N) → BodyKinds of b → IfTaken (take_all paths b)
+  take-all : (paths : List Path) (b : Frame N) → BodyKinds of b → IfTaken (take_all paths b)
   take-all [] b e = (tt, e)
   take-all (p ∷ paths) b e = took (cell_at p b.variables) (take_all paths (cleared p b)) (cell-kinds of p b.variables e.0) (take-all paths (cleared p b) (is-cleared name of allows p b e))
 
@@ -69,15 +73,15 @@ module _ {N : Type 0} (name : Name → N) (of : Kind → Type 0) (allows : Allow
   assemble-kinds (by_out ∷ modes) copies moved h k = map-parts gap (assemble modes copies moved) (λ ps g. g) (assemble-kinds modes copies moved h k)
   assemble-kinds modes copies moved h k = tt
 
-  with-message : (b : Body N) (o : Option (Parts N)) → BodyKinds of b → IfParts of o → IfComposed (option_map (with_message name b) o)
+  with-message : (b : Frame N) (o : Option (Parts N)) → BodyKinds of b → IfParts of o → IfComposed (option_map (with_message name b) o)
   with-message b None e h = tt
   with-message b (Some ps) e h = ((e.3 b.calls, h), e)
 
-  compose-taken : (modes : List Mode) (copies : Parts N) (o : Option (Taken N)) → HaveKinds of copies → IfTaken o → IfComposed (option_and_then (λ taken. option_map (with_message name taken.body) (assemble modes copies taken.cells)) o)
+  compose-taken : (modes : List Mode) (copies : Parts N) (o : Option (Taken N)) → HaveKinds of copies → IfTaken o → IfComposed (option_and_then (λ taken. option_map (with_message name taken.frame) (assemble modes copies taken.cells)) o)
   compose-taken modes copies None h k = tt
-  compose-taken modes copies (Some t) h k = with-message t.body (assemble modes copies t.cells) k.1 (assemble-kinds modes copies t.cells h k.0)
+  compose-taken modes copies (Some t) h k = with-message t.frame (assemble modes copies t.cells) k.1 (assemble-kinds modes copies t.cells h k.0)
 
-  compose-kinds : (modes : List Mode) (inputs : Parts ⊤) (lost moved : List Path) (b : Body N) → HaveKinds of inputs → BodyKinds of b → IfComposed (compose name modes inputs lost moved b)
+  compose-kinds : (modes : List Mode) (inputs : Parts ⊤) (lost moved : List Path) (b : Frame N) → HaveKinds of inputs → BodyKinds of b → IfComposed (compose name modes inputs lost moved b)
   compose-kinds modes inputs lost moved b h e =
       compose-taken modes (copy_in (λ s. name (b.number, s)) b.serial inputs) (take_all moved (drop lost (record b { serial = b.serial + count_in inputs }))) (copy-kinds_in of (λ s. name (b.number, s)) b.serial inputs h)
       (take-all moved (drop lost (record b { serial = b.serial + count_in inputs })) (is-drop name of allows lost (record b { serial = b.serial + count_in inputs }) e))
@@ -91,13 +95,13 @@ module _ {N : Type 0} (name : Name → N) (of : Kind → Type 0) (allows : Allow
   composed-inputs f None h on = tt
   composed-inputs f (Some ps) h on = on ps h
 
-  composed-kinds : (c : Code) (o : Path) (arguments : List Atom) (b : Body N) → BodyKinds of b → IfComposed (composed name c o arguments b)
+  composed-kinds : (c : Module) (o : Path) (arguments : List Atom) (b : Frame N) → BodyKinds of b → IfComposed (composed name c o arguments b)
   composed-kinds c o arguments b e =
       composed-inputs _ (inputs_of (call_parameters c.types c.variables o) arguments b.variables) (inputs-kinds (call_parameters c.types c.variables o) arguments b.variables e.0)
-      (λ inputs h. compose-kinds (map (λ p. p.mode) (call_parameters c.types c.variables o)) inputs (flat_map (λ p. beyond_full c p b) (arguments_at c is_inout o arguments)) (arguments_at c is_inout o arguments) b h e)
+      (λ inputs h. compose-kinds (map (λ p. p.mode) (call_parameters c.types c.variables o)) inputs (flat_map (λ p. excess_over_full c p b) (arguments_at c is_inout o arguments)) (arguments_at c is_inout o arguments) b h e)
 
-  given-kinds : (c : Code) (paths : List Path) (b : Body N) → BodyKinds of b → IfTaken (given_back c paths b)
-  given-kinds c paths b e = take-all paths (drop (flat_map (λ p. beyond_full c p b) paths) b) (is-drop name of allows (flat_map (λ p. beyond_full c p b) paths) b e)
+  given-kinds : (c : Module) (paths : List Path) (b : Frame N) → BodyKinds of b → IfTaken (given_back c paths b)
+  given-kinds c paths b e = take-all paths (drop (flat_map (λ p. excess_over_full c p b) paths) b) (is-drop name of allows (flat_map (λ p. excess_over_full c p b) paths) b e)
 
   -- the port that the outport at a path leads to, and that of an inport
   abbrev IfOutport : Option ℕ → Type 0
@@ -116,10 +120,10 @@ module _ {N : Type 0} (name : Name → N) (of : Kind → Type 0) (allows : Allow
   inport-cell None h = tt
   inport-cell (Some c) h = inport-kinds name of allows c h
 
-  outport-path : (o : Path) (b : Body N) → BodyKinds of b → IfOutport (outport_at o b)
+  outport-path : (o : Path) (b : Frame N) → BodyKinds of b → IfOutport (outport_at o b)
   outport-path o b e = outport-cell (read_at o b.variables) (read-kinds of o b.variables e.0)
 
-  inport-path : (i : Path) (b : Body N) → BodyKinds of b → IfInport name of allows (inport_at i b)
+  inport-path : (i : Path) (b : Frame N) → BodyKinds of b → IfInport name of allows (inport_at i b)
   inport-path i b e = inport-cell (read_at i b.variables) (read-kinds of i b.variables e.0)
 
   -- what each form wants
@@ -155,7 +159,7 @@ module _ {N : Type 0} (name : Name → N) (of : Kind → Type 0) (allows : Allow
   port-then None more h k = tt
   port-then (Some n) more h k = port-before n more h k
 
-  ports-kinds : (paths : List Path) (b : Body N) → BodyKinds of b → IfPorts (ports_at paths b)
+  ports-kinds : (paths : List Path) (b : Frame N) → BodyKinds of b → IfPorts (ports_at paths b)
   ports-kinds [] b e = tt
   ports-kinds (i ∷ paths) b e = port-then (inport_at i b) (ports_at paths b) (inport-path i b e) (ports-kinds paths b e)
 
@@ -190,9 +194,9 @@ module _ {N : Type 0} (name : Name → N) (of : Kind → Type 0) (allows : Allow
   work-wants (cell n (a_callmessage caller call) ps) h = (h.0, tt)
   work-wants c h = tt
 
-  pub wants-kinds : (c : Code) (form : Form) (b : Body N) → BodyKinds of b → IfWant of (wants name c form b)
+  pub wants-kinds : (c : Module) (form : Form) (b : Frame N) → BodyKinds of b → IfWant of (wants name c form b)
   wants-kinds c (New x) b e = tt
-  wants-kinds c (Send x o) b e = send-wants (outport_at o b) (cell_at x (drop (beyond_declared c o x b) b).variables) (outport-path o b e) (cell-kinds of x (drop (beyond_declared c o x b) b).variables (is-drop name of allows (beyond_declared c o x b) b e).0)
+  wants-kinds c (Send x o) b e = send-wants (outport_at o b) (cell_at x (drop (excess_over_declared c o x b) b).variables) (outport-path o b e) (cell-kinds of x (drop (excess_over_declared c o x b) b).variables (is-drop name of allows (excess_over_declared c o x b) b e).0)
   wants-kinds c (Receive x i) b e = receive-wants (inport_at i b) (inport-path i b e)
   wants-kinds c (Select arms) b e = select-wants (ports_at (map (λ a. a.port) arms) b) (ports-kinds (map (λ a. a.port) arms) b e)
   wants-kinds c (Call o arguments) b e = call-wants (outport_at o b) (composed name c o arguments b) (outport-path o b e) (composed-kinds c o arguments b e)
@@ -202,68 +206,68 @@ module _ {N : Type 0} (name : Name → N) (of : Kind → Type 0) (allows : Allow
   wants-kinds c form b e = tt
 
   -- what each answer leaves
-  all-new_inport : (x : Path) (a : CellAction N) (b : Body N) → ActionKinds of a → BodyKinds of b → All name of allows (Exchanges.new_inport name x a b)
+  all-new_inport : (x : Path) (a : CellAction N) (b : Frame N) → ActionKinds of a → BodyKinds of b → All name of allows (Exchanges.new_inport name x a b)
   all-new_inport x (make_port (Some k)) b h e = all-making name of allows (an_inport k) no_parts (putting x ok) b h tt e (λ d b' h' e'. all-putting name of allows x ok d b' h' e')
   all-new_inport x (make_port None) b h e = went _ b e
   all-new_inport x _ b h e = never
 
-  all-create : (o : Path) (a : CellAction N) (b : Body N) → ActionKinds of a → BodyKinds of b → All name of allows (Exchanges.create name o a b)
+  all-create : (o : Path) (a : CellAction N) (b : Frame N) → ActionKinds of a → BodyKinds of b → All name of allows (Exchanges.create name o a b)
   all-create o (make_process code (Some made)) b h e =
       all-making name of allows (an_inport made.1) no_parts _ b h tt e (λ d b' h' e'. all-making name of allows (an_outport made.1) no_parts (putting o ok) b' (allows.outports made.1 h) tt e' (λ d' b'' h'' e''. all-putting name of allows o ok d' b'' h'' e''))
   all-create o (make_process code None) b h e = went _ b e
   all-create o _ b h e = never
 
-  all-send : (lost : List Path) (x : Path) (a : CellAction N) (b : Body N) → ActionKinds of a → BodyKinds of b → All name of allows (Exchanges.send lost x a b)
+  all-send : (lost : List Path) (x : Path) (a : CellAction N) (b : Frame N) → ActionKinds of a → BodyKinds of b → All name of allows (Exchanges.send lost x a b)
   all-send lost x (put (Some k) m) b h e = all-moving name of allows lost x _ b e (λ d b' h' e'. went ok b' e')
   all-send lost x (put None m) b h e = all-moving name of allows lost x _ b e (λ d b' h' e'. all-putting name of allows x (raised disconnected) m b' h e')
   all-send lost x _ b h e = never
 
-  all-receive : (x : Path) (a : CellAction N) (b : Body N) → ActionKinds of a → BodyKinds of b → All name of allows (Exchanges.receive x a b)
+  all-receive : (x : Path) (a : CellAction N) (b : Frame N) → ActionKinds of a → BodyKinds of b → All name of allows (Exchanges.receive x a b)
   all-receive x (take k m) b h e = all-putting name of allows x ok m b h e
   all-receive x _ b h e = never
 
-  all-receive_at : (targets : List Path) (i place : ℕ) (m : Cell N) (b : Body N) → HasKinds of m → BodyKinds of b → All name of allows (receive_at targets i place m b)
+  all-receive_at : (targets : List Path) (i place : ℕ) (m : Cell N) (b : Frame N) → HasKinds of m → BodyKinds of b → All name of allows (receive_at targets i place m b)
   all-receive_at [] i place m b h e = never
   all-receive_at (x ∷ targets) i place m b h e = all-cond name of allows (nat_eq i place) _ _ (all-putting name of allows x (arm place) m b h e) (all-receive_at targets (suc i) place m b h e)
 
-  all-select : (targets ports : List Path) (from : ℕ) (a : CellAction N) (b : Body N) → ActionKinds of a → BodyKinds of b → All name of allows (Exchanges.select targets ports from a b)
+  all-select : (targets ports : List Path) (from : ℕ) (a : CellAction N) (b : Frame N) → ActionKinds of a → BodyKinds of b → All name of allows (Exchanges.select targets ports from a b)
   all-select targets ports from (take k m) b h e = all-there name of allows _ (option_and_then (place_of_port 0 from) (ports_at ports b)) (λ place. all-receive_at targets 0 place m b h e)
   all-select targets ports from _ b h e = never
 
-  all-composed : (next : Composed N → Result N) (k : Option (Composed N)) → IfComposed k → ((c : Composed N) → BodyKinds of c.body → All name of allows (next c)) → All name of allows (if_there next k)
+  all-composed : (next : Composed N → Completion N) (k : Option (Composed N)) → IfComposed k → ((c : Composed N) → BodyKinds of c.frame → All name of allows (next c)) → All name of allows (if_there next k)
   all-composed next None h on = never
   all-composed next (Some c) h on = on c h.1
 
-  all-call : (k : Option (Composed N)) (outs : List Path) (a : CellAction N) → IfComposed k → ActionKinds of a → All name of allows (Exchanges.call k outs a)
-  all-call k outs (put (Some i) m) h g = all-composed _ k h (λ c e. stayed (record c.body { call = Some c.call }) e)
-  all-call k outs (put None m) h g = all-composed _ k h (λ c e. went (raised disconnected) (drop outs (end_cell m c.body)) (is-drop name of allows outs (end_cell m c.body) (is-end name of allows m c.body g e)))
+  all-call : (k : Option (Composed N)) (outs : List Path) (a : CellAction N) → IfComposed k → ActionKinds of a → All name of allows (callmessages.call k outs a)
+  all-call k outs (put (Some i) m) h g = all-composed _ k h (λ c e. stayed (record c.frame { call = Some c.call }) e)
+  all-call k outs (put None m) h g = all-composed _ k h (λ c e. went (raised disconnected) (drop outs (finalise_at_once m c.frame)) (is-drop name of allows outs (finalise_at_once m c.frame) (is-end name of allows m c.frame g e)))
   all-call k outs _ h g = never
 
-  all-taken : (next : Taken N → Result N) (o : Option (Taken N)) → IfTaken o → ((t : Taken N) → BodyKinds of t.body → All name of allows (next t)) → All name of allows (if_there next o)
+  all-taken : (next : Taken N → Completion N) (o : Option (Taken N)) → IfTaken o → ((t : Taken N) → BodyKinds of t.frame → All name of allows (next t)) → All name of allows (if_there next o)
   all-taken next None h on = never
   all-taken next (Some t) h on = on t h.1
 
-  all-return : (taken : Option (Taken N)) (m : Path) (a : CellAction N) → IfTaken taken → All name of allows (Exchanges.return taken m a)
-  all-return taken m (answer k r) h = all-taken _ taken h (λ t e. all-taking name of allows m _ t.body e (λ d b' g e'. went ok (end_cell d b') (is-end name of allows d b' g e')))
+  all-return : (taken : Option (Taken N)) (m : Path) (a : CellAction N) → IfTaken taken → All name of allows (callmessages.return taken m a)
+  all-return taken m (answer k r) h = all-taken _ taken h (λ t e. all-taking name of allows m _ t.frame e (λ d b' g e'. went ok (finalise_at_once d b') (is-end name of allows d b' g e')))
   all-return taken m _ h = never
 
-  all-hear_reply : (back outs : List Path) (keep left : ℕ → List Path) (r : CellReply N) (b : Body N) → ReplyKinds of r → BodyKinds of b → All name of allows (Exchanges.hear_reply back outs keep left r b)
+  all-hear_reply : (back outs : List Path) (keep left : ℕ → List Path) (r : CellReply N) (b : Frame N) → ReplyKinds of r → BodyKinds of b → All name of allows (callmessages.hear_reply back outs keep left r b)
   all-hear_reply back outs keep left (values cs) b h e = all-putting_all name of allows back ok cs b h e
   all-hear_reply back outs keep left (Actions.raised x cs) b h e = all-putting_all name of allows (keep x) (raised x) cs (drop (left x) b) h (is-drop name of allows (left x) b e)
   all-hear_reply back outs keep left gone b h e = went (raised disconnected) (drop outs b) (is-drop name of allows outs b e)
 
-  all-hear_call : (back outs : List Path) (keep left : ℕ → List Path) (call : ℕ) (a : CellAction N) (b : Body N) → ActionKinds of a → BodyKinds of b → All name of allows (Exchanges.hear_call back outs keep left call a b)
+  all-hear_call : (back outs : List Path) (keep left : ℕ → List Path) (call : ℕ) (a : CellAction N) (b : Frame N) → ActionKinds of a → BodyKinds of b → All name of allows (callmessages.hear_call back outs keep left call a b)
   all-hear_call back outs keep left call (hear k r) b h e = all-cond name of allows (nat_eq k call) _ _ (all-hear_reply back outs keep left r (record b { call = None }) h e) never
   all-hear_call back outs keep left call _ b h e = never
 
-  pub all-work : (item : Cell N) (a : CellAction N) (b : Body N) → HasKinds of item → ActionKinds of a → BodyKinds of b → All name of allows (Exchanges.work_done item a b)
-  all-work item (close count left) b h g e = stayed (end_cell item (let_go_all left b)) (is-end name of allows item (let_go_all left b) h (is-all name of allows left b g e))
-  all-work item (answer k r) b h g e = stayed (end_cell item b) (is-end name of allows item b h e)
+  pub all-work : (item : Cell N) (a : CellAction N) (b : Frame N) → HasKinds of item → ActionKinds of a → BodyKinds of b → All name of allows (Exchanges.work_done item a b)
+  all-work item (close count left) b h g e = stayed (finalise_at_once item (finalise_all left b)) (is-end name of allows item (finalise_all left b) h (is-all name of allows left b g e))
+  all-work item (answer k r) b h g e = stayed (finalise_at_once item b) (is-end name of allows item b h e)
   all-work item _ b h g e = never
 
-  pub all-settle : (c : Code) (form : Form) (at : ℕ) (a : CellAction N) (b : Body N) → ActionKinds of a → BodyKinds of b → All name of allows (settle name c form at a b)
+  pub all-settle : (c : Module) (form : Form) (at : ℕ) (a : CellAction N) (b : Frame N) → ActionKinds of a → BodyKinds of b → All name of allows (settle name c form at a b)
   all-settle c (New x) at a b h e = all-new_inport x a b h e
-  all-settle c (Send x o) at a b h e = all-send (beyond_declared c o x b) x a b h e
+  all-settle c (Send x o) at a b h e = all-send (excess_over_declared c o x b) x a b h e
   all-settle c (Receive x i) at a b h e = all-receive x a b h e
   all-settle c (Select arms) at a b h e = all-select (map (λ a. a.target) arms) (map (λ a. a.port) arms) at a b h e
   all-settle c (Call o arguments) at a b h e = all-call (composed name c o arguments b) (arguments_at c is_out o arguments) a (composed-kinds c o arguments b e) h
@@ -272,6 +276,6 @@ module _ {N : Type 0} (name : Name → N) (of : Kind → Type 0) (allows : Allow
   all-settle c (Create o process) at a b h e = all-create o a b h e
   all-settle c _ at a b h e = never
 
-  pub all-settle_reply : (c : Code) (form : Form) (call : ℕ) (a : CellAction N) (b : Body N) → ActionKinds of a → BodyKinds of b → All name of allows (settle_reply c form call a b)
+  pub all-settle_reply : (c : Module) (form : Form) (call : ℕ) (a : CellAction N) (b : Frame N) → ActionKinds of a → BodyKinds of b → All name of allows (settle_reply c form call a b)
   all-settle_reply c (Call o arguments) call a b h e = all-hear_call (set_by_call c.types c.variables o arguments) (arguments_at c is_out o arguments) (kept_at c o arguments) (left_at c o arguments) call a b h e
   all-settle_reply c _ call a b h e = never

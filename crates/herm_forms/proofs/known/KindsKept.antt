@@ -5,21 +5,25 @@ use Rattle.herm_model.specs.Paths.{Path}
 use Rattle.herm_model.specs.Types.{Shape, fields, rows, type_at}
 use Rattle.herm_model.specs.Outcomes.{Outcome, ok, turn, raised, depletion, duplicate_key, polymorph_mismatch, overflow}
 use Rattle.herm_model.specs.Statements.{Form, Assign, Move, New, Discard, Unite, Dissolve, Reveal, Case, Wrap, Unwrap, Insert, Remove, Get, For, Connect, If, While, Raise, Leave}
-use Rattle.herm_model.specs.Expressions.{Operator, either, both, equal, unequal, less, at_most, greater, at_least, plus, minus, times, divided, modulo, concatenated, Expression, literal, copy, negated, inverted, operation, decimal, length_of, Atom, path}
+use Rattle.herm_model.specs.Expressions.{Operator, logical_or, logical_and, equal, unequal, less, at_most, greater, at_least, plus, minus, times, divided, modulo, concatenated, Expression, literal, copy, negation, logical_not, operation, decimal, length_of, Atom, path}
 use Rattle.herm_model.specs.Calls.{shape_at}
-use Rattle.herm_model.specs.Nodes.{Target}
+use Rattle.herm_model.specs.Targets.{Target}
 use Rattle.herm_model.specs.Finalising.{excess, pending, pending_in}
-use Rattle.herm_model.specs.Values.{has_place, Scalar, a_boolean, an_integer, a_text, Kind, a_scalar, a_record, a_variant, a_table, a_polymorph, a_callmessage, an_outport, an_inport, Cell, cell, Parts, no_parts, gap, part, part_at, parts_of, size, has_value, cell_at, read_at, put_at, copy_from, copy_in, count, count_in, polymorph_depth, Value, forget}
+use Rattle.herm_model.specs.Values.{has_place, Scalar, a_boolean, an_integer, a_text, Kind, a_scalar, a_record, a_variant, a_table, a_polymorph, a_callmessage, an_outport, an_inport, Cell, cell, Parts, no_parts, gap, part, part_at, parts_of, size, has_value, cell_at, read_at, put_at, polymorph_depth, Value}
+use Rattle.herm_model.specs.CellNames.{copy_from, copy_in, count, count_in, forget}
 use Rattle.herm_model.specs.Tables.{has_key, key_of, place_of_key, without_part, same_integer, same_scalar}
 use Rattle.herm_model.specs.Texts.{signed_numeral}
 use Rattle.herm_model.specs.Typed.{greatest_rows, greatest_polymorph, is_integer, greatest_text}
 use Rattle.herm_forms.specs.Evaluate
 use Rattle.herm_forms.specs.Evaluate.{Evaluated, gives, raises, no_value, one_then, two_then, scalar_then, boolean_then, integer_then, text_then, within_bits, within_length, by_divisor, compared, on_booleans, on_integers, on_texts, operate, value_there, rows_there, evaluate, atom_value, key_values, gives_boolean, gives_scalar}
-use Rattle.herm_forms.specs.Bodies.{Name, Loop, Body, Result, goes, stays, stuck, if_there, let_go, let_go_parts, let_go_old, let_go_all, end_name, end_cell, cleared, drop_at, drop, reading, taking, putting, putting_all, making, copying, copying_parts, counted_step, counted_action}
-use Rattle.herm_forms.specs.Bodies
+use Rattle.herm_forms.specs.Frames.{Name, Loop, Frame, Completion, goes, stays, stuck, if_there, finalise, finalise_parts, finalise_old, finalise_all, finalise_name, finalise_at_once, cleared, drop_at, drop, reading, taking, putting, putting_all, making, copying, copying_parts, counted_step, counted_action}
+use Rattle.herm_forms.specs.Frames
 use Rattle.herm_forms.specs.Forms
 use Rattle.herm_forms.specs.Forms.{with_value, moving, moving_content, Opened, component_in, content_of, component_of, change_rows, add_row, finding, rows_for, set_rows, next_row, inport_number, tested}
-use Rattle.herm_forms.specs.Edges.{Code, arrive, keeps, keeps_loop, let_go_loops, leave_loops, beyond_full}
+use Rattle.herm_forms.specs.EdgeFinalising.{arrive, keeps}
+use Rattle.herm_forms.specs.LeavingLoops.{keeps_loop, finalise_loops, leave_loops}
+use Rattle.herm_forms.specs.Excess.{excess_over_full}
+use Rattle.herm_forms.specs.Modules.{Module}
 use Rattle.herm_forms.specs.Acts.{key_at, new_value, act}
 use Rattle.herm_journal.specs.Kinds.{HasKinds, HaveKinds, AllKinds}
 use Rattle.herm_forms.proofs.known.HeldKinds.{IfKinds, all-append, part-kinds, cell-kinds, read-kinds, parts-kinds, set-kinds_at, change-kinds_at, with-kinds, joined-kinds, without-kinds, gaps-kinds, copy-kinds, copy-kinds_in, renamed-kinds, pending-kinds, pending-kinds_in}
@@ -51,7 +55,7 @@ abbrev pub GivesKinds : (Kind → Type 0) → Evaluated → Type 0
 GivesKinds of = Gives (HasKinds of)
 
 -- a body's cells are of the kinds, and callmessages of its own are allowed
-abbrev pub BodyKinds : {N : Type 0} → (Kind → Type 0) → Body N → Type 0
+abbrev pub BodyKinds : {N : Type 0} → (Kind → Type 0) → Frame N → Type 0
 BodyKinds of b = HaveKinds of b.variables × LoopKinds of b.loops × AllKinds of b.work × ((call : ℕ) → of (a_callmessage b.number call))
 
 pub value-given : {N : Type 0} (Of : Value → Type 0) (o : Option (Cell N)) → ((d : Cell N) → o ≡ Some d → Of (forget d)) → Gives Of (value_there o)
@@ -117,8 +121,8 @@ module _ (Of : Value → Type 0) (scalars : (s : Scalar) → Of (Evaluate.scalar
   texts-given f s t on = text-then (λ u. text_then (f u) t) s (λ u. text-then (f u) t (on u))
 
   operated : (o : Operator) (s t : Scalar) → Gives Of (operate o s t)
-  operated either s t = booleans-given ◌||◌ s t
-  operated both s t = booleans-given ◌&&◌ s t
+  operated logical_or s t = booleans-given ◌||◌ s t
+  operated logical_and s t = booleans-given ◌&&◌ s t
   operated equal s t = scalar-given (a_boolean (same_scalar s t))
   operated unequal s t = scalar-given (a_boolean (not (same_scalar s t)))
   operated less s t = on-compared int_lt Evaluate.is_before s t
@@ -141,8 +145,8 @@ module _ (Of : Value → Type 0) (scalars : (s : Scalar) → Of (Evaluate.scalar
   pub evaluate-from : {N : Type 0} (ps : Parts N) (e : Expression) → ((p : Path) → e ≡ copy p → (d : Cell N) → read_at p ps ≡ Some d → Of (forget d)) → Gives Of (evaluate ps e)
   evaluate-from ps (literal l) h = scalar-given _
   evaluate-from ps (copy p) h = value-given Of (read_at p ps) (h p refl)
-  evaluate-from ps (negated e) h = one-then _ (evaluate ps e) (λ s. integer-then _ s (λ z. within-bits (neg_ℤ z)))
-  evaluate-from ps (inverted e) h = one-then _ (evaluate ps e) (λ s. boolean-then _ s (λ b. scalar-given (a_boolean (not b))))
+  evaluate-from ps (negation e) h = one-then _ (evaluate ps e) (λ s. integer-then _ s (λ z. within-bits (neg_ℤ z)))
+  evaluate-from ps (logical_not e) h = one-then _ (evaluate ps e) (λ s. boolean-then _ s (λ b. scalar-given (a_boolean (not b))))
   evaluate-from ps (operation o x y) h = two-then (operate o) (evaluate ps x) (evaluate ps y) (operated o)
   evaluate-from ps (Expression.size_of p) h = rows-kinds (read_at p ps)
   evaluate-from ps (decimal e) h = one-then _ (evaluate ps e) (λ s. integer-then _ s (λ z. scalar-given (a_text (signed_numeral z))))
@@ -174,82 +178,82 @@ module _ (of : Kind → Type 0) (allows : AllowsPlain of) where
 
 module _ {N : Type 0} (name : Name → N) (of : Kind → Type 0) (allows : AllowsPlain of) where
   -- the result's body is of the kinds, if it has a body
-  pub data All : Result N → Type 0 where
-    went : (o : Outcome) (b : Body N) → BodyKinds of b → All (goes o b)
-    stayed : (b : Body N) → BodyKinds of b → All (stays b)
+  pub data All : Completion N → Type 0 where
+    went : (o : Outcome) (b : Frame N) → BodyKinds of b → All (goes o b)
+    stayed : (b : Frame N) → BodyKinds of b → All (stays b)
     never : All stuck
 
-  pub is-go : (c : Cell N) (b : Body N) → HasKinds of c → BodyKinds of b → BodyKinds of (let_go c b)
+  pub is-go : (c : Cell N) (b : Frame N) → HasKinds of c → BodyKinds of b → BodyKinds of (finalise c b)
   is-go c b h e = (e.0, e.1, all-append of b.work (pending c) e.2 (pending-kinds of c h), e.3)
 
-  is-parts : (ps : Parts N) (b : Body N) → HaveKinds of ps → BodyKinds of b → BodyKinds of (let_go_parts ps b)
+  is-parts : (ps : Parts N) (b : Frame N) → HaveKinds of ps → BodyKinds of b → BodyKinds of (finalise_parts ps b)
   is-parts ps b h e = (e.0, e.1, all-append of b.work (pending_in ps) e.2 (pending-kinds_in of ps h), e.3)
 
-  is-old : (o : Option (Cell N)) (b : Body N) → IfKinds of o → BodyKinds of b → BodyKinds of (let_go_old o b)
+  is-old : (o : Option (Cell N)) (b : Frame N) → IfKinds of o → BodyKinds of b → BodyKinds of (finalise_old o b)
   is-old None b h e = e
   is-old (Some c) b h e = is-go c b h e
 
-  pub is-all : (cs : List (Cell N)) (b : Body N) → AllKinds of cs → BodyKinds of b → BodyKinds of (let_go_all cs b)
+  pub is-all : (cs : List (Cell N)) (b : Frame N) → AllKinds of cs → BodyKinds of b → BodyKinds of (finalise_all cs b)
   is-all [] b h e = e
-  is-all (c ∷ cs) b h e = is-all cs (let_go c b) h.1 (is-go c b h.0 e)
+  is-all (c ∷ cs) b h e = is-all cs (finalise c b) h.1 (is-go c b h.0 e)
 
-  pub is-end : (c : Cell N) (b : Body N) → HasKinds of c → BodyKinds of b → BodyKinds of (end_cell c b)
-  is-end (cell m k ps) b h e = is-parts ps (end_name m b) h.1 e
+  pub is-end : (c : Cell N) (b : Frame N) → HasKinds of c → BodyKinds of b → BodyKinds of (finalise_at_once c b)
+  is-end (cell m k ps) b h e = is-parts ps (finalise_name m b) h.1 e
 
-  pub is-cleared : (p : Path) (b : Body N) → BodyKinds of b → BodyKinds of (cleared p b)
+  pub is-cleared : (p : Path) (b : Frame N) → BodyKinds of b → BodyKinds of (cleared p b)
   is-cleared p b e = (set-kinds_at of p None b.variables tt e.0, e.1, e.2, e.3)
 
-  pub is-drop : (paths : List Path) (b : Body N) → BodyKinds of b → BodyKinds of (drop paths b)
+  pub is-drop : (paths : List Path) (b : Frame N) → BodyKinds of b → BodyKinds of (drop paths b)
   is-drop [] b e = e
   is-drop (p ∷ paths) b e = is-drop paths (drop_at p b) (is-old (cell_at p b.variables) (cleared p b) (cell-kinds of p b.variables e.0) (is-cleared p b e))
 
-  is-put : (p : Path) (c : Cell N) (b : Body N) → HasKinds of c → BodyKinds of b → BodyKinds of (Bodies.put p c b)
+  is-put : (p : Path) (c : Cell N) (b : Frame N) → HasKinds of c → BodyKinds of b → BodyKinds of (Frames.put p c b)
   is-put p c b h e =
       is-old (cell_at p b.variables) (record b { variables = put_at p c b.variables }) (cell-kinds of p b.variables e.0) (set-kinds_at of p (Some c) b.variables h e.0, e.1, e.2, e.3)
 
-  pub all-cond : (t : Bool) (r s : Result N) → All r → All s → All (cond t r s)
+  pub all-cond : (t : Bool) (r s : Completion N) → All r → All s → All (cond t r s)
   all-cond true r s a b = a
   all-cond false r s a b = b
 
-  pub all-there : {X : Type 0} (next : X → Result N) (o : Option X) → ((x : X) → All (next x)) → All (if_there next o)
+  pub all-there : {X : Type 0} (next : X → Completion N) (o : Option X) → ((x : X) → All (next x)) → All (if_there next o)
   all-there next None on = never
   all-there next (Some x) on = on x
 
-  pub all-cell : (next : Cell N → Result N) (o : Option (Cell N)) → IfKinds of o → ((c : Cell N) → HasKinds of c → All (next c)) → All (if_there next o)
+  pub all-cell : (next : Cell N → Completion N) (o : Option (Cell N)) → IfKinds of o → ((c : Cell N) → HasKinds of c → All (next c)) → All (if_there next o)
   all-cell next None h on = never
   all-cell next (Some c) h on = on c h
 
-  pub all-putting : (p : Path) (o : Outcome) (c : Cell N) (b : Body N) → HasKinds of c → BodyKinds of b → All (putting p o c b)
-  all-putting p o c b h e = all-cond (has_place b.variables p) (goes o (Bodies.put p c b)) stuck (went o (Bodies.put p c b) (is-put p c b h e)) never
+  pub all-putting : (p : Path) (o : Outcome) (c : Cell N) (b : Frame N) → HasKinds of c → BodyKinds of b → All (putting p o c b)
+  all-putting p o c b h e = all-cond (has_place b.variables p) (goes o (Frames.put p c b)) stuck (went o (Frames.put p c b) (is-put p c b h e)) never
 
-  pub all-putting_all : (paths : List Path) (o : Outcome) (cs : List (Cell N)) (b : Body N) → AllKinds of cs → BodyKinds of b → All (putting_all paths o cs b)
+  pub all-putting_all : (paths : List Path) (o : Outcome) (cs : List (Cell N)) (b : Frame N) → AllKinds of cs → BodyKinds of b → All (putting_all paths o cs b)
   all-putting_all [] o [] b h e = went o b e
   all-putting_all [] o (c ∷ cs) b h e = never
   all-putting_all (p ∷ paths) o [] b h e = never
   all-putting_all (p ∷ paths) o (c ∷ cs) b h e =
-      all-cond (has_place b.variables p) (putting_all paths o cs (Bodies.put p c b)) stuck (all-putting_all paths o cs (Bodies.put p c b) h.1 (is-put p c b h.0 e)) never
+      all-cond (has_place b.variables p) (putting_all paths o cs (Frames.put p c b)) stuck (all-putting_all paths o cs (Frames.put p c b) h.1 (is-put p c b h.0 e)) never
 
-  pub all-taking : (p : Path) (next : Cell N → Body N → Result N) (b : Body N) → BodyKinds of b → ((c : Cell N) (b' : Body N) → HasKinds of c → BodyKinds of b' → All (next c b')) → All (taking p next b)
+  pub all-taking : (p : Path) (next : Cell N → Frame N → Completion N) (b : Frame N) → BodyKinds of b → ((c : Cell N) (b' : Frame N) → HasKinds of c → BodyKinds of b' → All (next c b')) → All (taking p next b)
   all-taking p next b e on = all-cell (λ c. next c (cleared p b)) (cell_at p b.variables) (cell-kinds of p b.variables e.0) (λ c h. on c (cleared p b) h (is-cleared p b e))
 
-  pub all-moving : (lost : List Path) (y : Path) (next : Cell N → Body N → Result N) (b : Body N) → BodyKinds of b → ((c : Cell N) (b' : Body N) → HasKinds of c → BodyKinds of b' → All (next c b')) → All (moving lost y next b)
+  pub all-moving : (lost : List Path) (y : Path) (next : Cell N → Frame N → Completion N) (b : Frame N) → BodyKinds of b → ((c : Cell N) (b' : Frame N) → HasKinds of c → BodyKinds of b' → All (next c b')) → All (moving lost y next b)
   all-moving lost y next b e on = all-taking y next (drop lost b) (is-drop lost b e) on
 
-  pub all-making : (k : Kind) (ps : Parts N) (next : Cell N → Body N → Result N) (b : Body N) → of k → HaveKinds of ps → BodyKinds of b → ((c : Cell N) (b' : Body N) → HasKinds of c → BodyKinds of b' → All (next c b')) → All (making name k ps next b)
+  pub all-making : (k : Kind) (ps : Parts N) (next : Cell N → Frame N → Completion N) (b : Frame N) → of k → HaveKinds of ps → BodyKinds of b → ((c : Cell N) (b' : Frame N) → HasKinds of c → BodyKinds of b' → All (next c b')) → All (making name k ps next b)
   all-making k ps next b h g e on = on (cell (name (b.number, b.serial)) k ps) (record b { serial = suc b.serial }) (h, g) e
 
-  all-copying : {M : Type 0} (c : Cell M) (next : Cell N → Body N → Result N) (b : Body N) → HasKinds of c → BodyKinds of b → ((c : Cell N) (b' : Body N) → HasKinds of c → BodyKinds of b' → All (next c b')) → All (copying name c next b)
+  all-copying : {M : Type 0} (c : Cell M) (next : Cell N → Frame N → Completion N) (b : Frame N) → HasKinds of c → BodyKinds of b → ((c : Cell N) (b' : Frame N) → HasKinds of c → BodyKinds of b' → All (next c b')) → All (copying name c next b)
   all-copying c next b h e on = on (copy_from (λ s. name (b.number, s)) b.serial c) (record b { serial = b.serial + count c }) (copy-kinds of (λ s. name (b.number, s)) b.serial c h) e
 
-  all-copying_parts : {M : Type 0} (ps : Parts M) (next : Parts N → Body N → Result N) (b : Body N) → HaveKinds of ps → BodyKinds of b → ((qs : Parts N) (b' : Body N) → HaveKinds of qs → BodyKinds of b' → All (next qs b')) → All (copying_parts name ps next b)
+  all-copying_parts : {M : Type 0} (ps : Parts M) (next : Parts N → Frame N → Completion N) (b : Frame N) → HaveKinds of ps → BodyKinds of b → ((qs : Parts N) (b' : Frame N) → HaveKinds of qs → BodyKinds of b' → All (next qs b')) → All (copying_parts name ps next b)
   all-copying_parts ps next b h e on = on (copy_in (λ s. name (b.number, s)) b.serial ps) (record b { serial = b.serial + count_in ps }) (copy-kinds_in of (λ s. name (b.number, s)) b.serial ps h) e
 
-  all-value : (next : Value → Body N → Result N) (v : Evaluated) (b : Body N) → GivesKinds of v → BodyKinds of b → ((v : Value) → HasKinds of v → All (next v b)) → All (with_value next v b)
+  all-value : (next : Value → Frame N → Completion N) (v : Evaluated) (b : Frame N) → GivesKinds of v → BodyKinds of b → ((v : Value) → HasKinds of v → All (next v b)) → All (with_value next v b)
   all-value next (gives v) b h e on = on v h
   all-value next (raises x) b h e on = went (raised x) b e
   all-value next no_value b h e on = never
 
-  all-new_value : (s : Option Shape) (x : Path) (b : Body N) → BodyKinds of b → All (new_value name s x b)
+  all-new_value : (s : Option Shape) (x : Path) (b : Frame N) → BodyKinds of b → All (new_value name s x b)
   all-new_value (Some (fields ts)) x b e = all-putting x ok _ (record b { serial = suc b.serial }) (allows.records, gaps-kinds of N (length ts)) e
   all-new_value (Some (rows row key)) x b e = all-putting x ok _ (record b { serial = suc b.serial }) (allows.tables, tt) e
   all-new_value (Some s) x b e = never
@@ -272,40 +276,40 @@ module _ {N : Type 0} (name : Name → N) (of : Kind → Type 0) (allows : Allow
   content-kinds t (cell n (a_polymorph u) (part content no_parts)) h = opened-cond (nat_eq t u) (record { name = n; content = content }) h.1.0
   content-kinds t c h = tt
 
-  all-content : (y : Path) (o : Opened N) (b : Body N) → HasKinds of o.content → BodyKinds of b → All (moving_content y o b)
-  all-content y o b h e = all-putting y ok o.content (end_name o.name b) h e
+  all-content : (y : Path) (o : Opened N) (b : Frame N) → HasKinds of o.content → BodyKinds of b → All (moving_content y o b)
+  all-content y o b h e = all-putting y ok o.content (finalise_name o.name b) h e
 
-  all-opened : (o : Option (Opened N)) (none : Result N) (some : Opened N → Result N) → IfOpened o → All none → ((x : Opened N) → HasKinds of x.content → All (some x)) → All (elim o [ None ↦ none | Some x ↦ some x ])
+  all-opened : (o : Option (Opened N)) (none : Completion N) (some : Opened N → Completion N) → IfOpened o → All none → ((x : Opened N) → HasKinds of x.content → All (some x)) → All (elim o [ None ↦ none | Some x ↦ some x ])
   all-opened None none some h a on = a
   all-opened (Some x) none some h a on = on x h
 
-  all-opened_there : (next : Opened N → Result N) (o : Option (Opened N)) → IfOpened o → ((x : Opened N) → HasKinds of x.content → All (next x)) → All (if_there next o)
+  all-opened_there : (next : Opened N → Completion N) (o : Option (Opened N)) → IfOpened o → ((x : Opened N) → HasKinds of x.content → All (next x)) → All (if_there next o)
   all-opened_there next None h on = never
   all-opened_there next (Some x) h on = on x h
 
-  all-option : {X : Type 0} (o : Option X) (none : Result N) (some : X → Result N) → All none → ((x : X) → All (some x)) → All (elim o [ None ↦ none | Some x ↦ some x ])
+  all-option : {X : Type 0} (o : Option X) (none : Completion N) (some : X → Completion N) → All none → ((x : X) → All (some x)) → All (elim o [ None ↦ none | Some x ↦ some x ])
   all-option None none some a on = a
   all-option (Some x) none some a on = on x
 
-  all-wrap : (t : ℕ) (lost : List Path) (y p : Path) (b : Body N) → BodyKinds of b → All (Forms.wrap name t lost y p b)
+  all-wrap : (t : ℕ) (lost : List Path) (y p : Path) (b : Frame N) → BodyKinds of b → All (Forms.wrap name t lost y p b)
   all-wrap t lost y p b e =
       all-there _ (cell_at y (drop lost b).variables) (λ c. all-cond (nat_lt (polymorph_depth c) greatest_polymorph) _ _
       (all-moving lost y _ b e (λ content b' h e'. all-making (a_polymorph t) (part content no_parts) (putting p ok) b' (allows.polymorphs t) (h, tt) e' (λ d b'' h' e''. all-putting p ok d b'' h' e''))) (went (raised depletion) b e))
 
-  all-unwrap : (t : ℕ) (p y : Path) (b : Body N) → BodyKinds of b → All (Forms.unwrap t p y b)
+  all-unwrap : (t : ℕ) (p y : Path) (b : Frame N) → BodyKinds of b → All (Forms.unwrap t p y b)
   all-unwrap t p y b e =
       all-cell _ (cell_at p b.variables) (cell-kinds of p b.variables e.0) (λ c h. all-opened (content_of t c) _ _ (content-kinds t c h) (went (raised polymorph_mismatch) b e) (λ o g. all-content y o (cleared p b) g (is-cleared p b e)))
 
-  is-rows : (t : Path) (f : Parts N → Parts N) (b : Body N) → ((ps : Parts N) → HaveKinds of ps → HaveKinds of (f ps)) → BodyKinds of b → BodyKinds of (change_rows t f b)
+  is-rows : (t : Path) (f : Parts N → Parts N) (b : Frame N) → ((ps : Parts N) → HaveKinds of ps → HaveKinds of (f ps)) → BodyKinds of b → BodyKinds of (change_rows t f b)
   is-rows t f b on e = (change-kinds_at of t (Forms.with_parts f) b.variables (λ c. with-kinds of f c on) e.0, e.1, e.2, e.3)
 
-  all-insert : (key : List ℕ) (lost : List Path) (r t : Path) (b : Body N) → BodyKinds of b → All (Forms.insert key lost r t b)
+  all-insert : (key : List ℕ) (lost : List Path) (r t : Path) (b : Frame N) → BodyKinds of b → All (Forms.insert key lost r t b)
   all-insert key lost r t b e =
       all-there _ (cell_at r b.variables) (λ row. all-there _ (read_at t b.variables) (λ table.
       all-cond (has_key key (key_of key row) (parts_of table)) _ _ (went (raised duplicate_key) b e) (all-cond (nat_lt (size (parts_of table)) greatest_rows) _ _
       (all-moving lost r _ b e (λ row' b' h e'. all-there _ (read_at t b'.variables) (λ table'. went ok (change_rows t (add_row row') b') (is-rows t (add_row row') b' (λ ps g. joined-kinds of ps (part row' no_parts) g (h, tt)) e')))) (went (raised depletion) b e))))
 
-  all-finding : (key : List ℕ) (k : List Scalar) (t : Path) (next : ℕ → Cell N → Result N) (b : Body N) → BodyKinds of b → ((i : ℕ) (c : Cell N) → HasKinds of c → All (next i c)) → All (finding key k t next b)
+  all-finding : (key : List ℕ) (k : List Scalar) (t : Path) (next : ℕ → Cell N → Completion N) (b : Frame N) → BodyKinds of b → ((i : ℕ) (c : Cell N) → HasKinds of c → All (next i c)) → All (finding key k t next b)
   all-finding key k t next b e on =
       all-cell _ (read_at t b.variables) (read-kinds of t b.variables e.0) (λ table h. all-option (place_of_key key k (parts_of table)) _ _ (went _ b e) (λ i. all-cell (next i) (part_at i (parts_of table)) (part-kinds of i (parts_of table) (parts-kinds of table h)) (on i)))
 
@@ -326,16 +330,16 @@ module _ {N : Type 0} (name : Name → N) (of : Kind → Type 0) (allows : Allow
   rows-for s [] e = tt
   rows-for s (l ∷ loops) e = rows-cond (nat_eq l.statement s) l.rows (rows_for s loops) e.0 (rows-for s loops e.1)
 
-  all-next_row : (s : ℕ) (r : Path) (ps : Parts N) (b : Body N) → HaveKinds of ps → BodyKinds of b → All (next_row s r ps b)
+  all-next_row : (s : ℕ) (r : Path) (ps : Parts N) (b : Frame N) → HaveKinds of ps → BodyKinds of b → All (next_row s r ps b)
   all-next_row s r no_parts b h e = went _ b e
   all-next_row s r (gap ps) b h e = never
   all-next_row s r (part row ps) b h e = all-putting r turn row (record b { loops = set_rows s ps b.loops }) h.0 (e.0, set-rows s ps b.loops h.1 e.1, e.2, e.3)
 
-  all-rows : (o : Option (Parts N)) (none : Result N) (some : Parts N → Result N) → IfParts of o → All none → ((ps : Parts N) → HaveKinds of ps → All (some ps)) → All (elim o [ None ↦ none | Some x ↦ some x ])
+  all-rows : (o : Option (Parts N)) (none : Completion N) (some : Parts N → Completion N) → IfParts of o → All none → ((ps : Parts N) → HaveKinds of ps → All (some ps)) → All (elim o [ None ↦ none | Some x ↦ some x ])
   all-rows None none some h a on = a
   all-rows (Some ps) none some h a on = on ps h
 
-  all-tested : (v : Value) (b : Body N) → BodyKinds of b → All (tested v b)
+  all-tested : (v : Value) (b : Frame N) → BodyKinds of b → All (tested v b)
   all-tested (cell m (a_scalar (a_boolean true)) ps) b e = went _ b e
   all-tested (cell m (a_scalar (a_boolean false)) ps) b e = went _ b e
   all-tested v b e = never
@@ -349,23 +353,23 @@ module _ {N : Type 0} (name : Name → N) (of : Kind → Type 0) (allows : Allow
   inport-kinds (cell n (an_inport p) ps) h = h.0
   inport-kinds c h = tt
 
-  all-inport : (next : ℕ → Result N) (o : Option ℕ) → IfInport o → ((n : ℕ) → of (an_inport n) → All (next n)) → All (if_there next o)
+  all-inport : (next : ℕ → Completion N) (o : Option ℕ) → IfInport o → ((n : ℕ) → of (an_inport n) → All (next n)) → All (if_there next o)
   all-inport next None h on = never
   all-inport next (Some n) h on = on n h
 
   -- what a local step does
-  pub all-act : (c : Code) (s : ℕ) (form : Form) (b : Body N) → BodyKinds of b → All (act name c s form b)
+  pub all-act : (c : Module) (s : ℕ) (form : Form) (b : Frame N) → BodyKinds of b → All (act name c s form b)
   all-act c s (Assign x v) b e = all-value (Forms.assign name x) (evaluate b.variables v) b (evaluate-kinds of allows b.variables v e.0) e (λ v h. all-copying v (putting x ok) b h e (λ d b' h' e'. all-putting x ok d b' h' e'))
-  all-act c s (Move y x) b e = all-moving (beyond_full c y b) y (putting x ok) b e (λ d b' h e'. all-putting x ok d b' h e')
+  all-act c s (Move y x) b e = all-moving (excess_over_full c y b) y (putting x ok) b e (λ d b' h e'. all-putting x ok d b' h e')
   all-act c s (New x) b e = all-new_value (shape_at c.types c.variables x) x b e
-  all-act c s (Discard x) b e = all-taking x _ b e (λ d b' h e'. went ok (let_go d b') (is-go d b' h e'))
-  all-act c s (Unite v k y) b e = all-moving (beyond_full c y b) y _ b e (λ d b' h e'. all-making (a_variant k) (part d no_parts) (putting v ok) b' (allows.variants k) (h, tt) e' (λ d' b'' h' e''. all-putting v ok d' b'' h' e''))
+  all-act c s (Discard x) b e = all-taking x _ b e (λ d b' h e'. went ok (finalise d b') (is-go d b' h e'))
+  all-act c s (Unite v k y) b e = all-moving (excess_over_full c y b) y _ b e (λ d b' h e'. all-making (a_variant k) (part d no_parts) (putting v ok) b' (allows.variants k) (h, tt) e' (λ d' b'' h' e''. all-putting v ok d' b'' h' e''))
   all-act c s (Dissolve v k y) b e = all-taking v _ b e (λ d b' h e'. all-opened_there _ (component_in k d) (component-kinds k d h) (λ o g. all-content y o b' g e'))
   all-act c s (Reveal v k) b e = all-there _ (read_at v b.variables) (λ d. went _ b e)
   all-act c s (Case v ks) b e = all-there _ (read_at v b.variables) (λ d. all-there _ (component_of d) (λ k. went _ b e))
-  all-act c s (Wrap y p) b e = all-there _ (type_at c.types c.variables y) (λ t. all-wrap t (beyond_full c y b) y p b e)
+  all-act c s (Wrap y p) b e = all-there _ (type_at c.types c.variables y) (λ t. all-wrap t (excess_over_full c y b) y p b e)
   all-act c s (Unwrap p t y) b e = all-unwrap t p y b e
-  all-act c s (Insert r t) b e = all-insert (key_at c t) (beyond_full c r b) r t b e
+  all-act c s (Insert r t) b e = all-insert (key_at c t) (excess_over_full c r b) r t b e
   all-act c s (Remove r t keys) b e = all-there _ (key_values b.variables keys) (λ k. all-finding (key_at c t) k t _ b e (λ i row h. all-putting r ok row (change_rows t (without_part i) b) h (is-rows t (without_part i) b (λ ps. without-kinds of i ps) e)))
   all-act c s (Get r t keys) b e = all-there _ (key_values b.variables keys) (λ k. all-finding (key_at c t) k t _ b e (λ i row h. all-copying row (putting r ok) b h e (λ d b' h' e'. all-putting r ok d b' h' e')))
   all-act c s (For r t) b e =
@@ -380,13 +384,13 @@ module _ {N : Type 0} (name : Name → N) (of : Kind → Type 0) (allows : Allow
   all-act c s _ b e = never
 
   -- what an edge leaves
-  is-one : (t : Bool) (l : Loop N) (b : Body N) → HaveKinds of l.rows → BodyKinds of b → BodyKinds of (cond t b (let_go_parts l.rows b))
+  is-one : (t : Bool) (l : Loop N) (b : Frame N) → HaveKinds of l.rows → BodyKinds of b → BodyKinds of (cond t b (finalise_parts l.rows b))
   is-one true l b h e = e
   is-one false l b h e = is-parts l.rows b h e
 
-  is-loops : (stay : ℕ → Bool) (loops : List (Loop N)) (b : Body N) → LoopKinds of loops → BodyKinds of b → BodyKinds of (let_go_loops stay loops b)
+  is-loops : (stay : ℕ → Bool) (loops : List (Loop N)) (b : Frame N) → LoopKinds of loops → BodyKinds of b → BodyKinds of (finalise_loops stay loops b)
   is-loops stay [] b h e = e
-  is-loops stay (l ∷ loops) b h e = is-loops stay loops (cond (stay l.statement) b (let_go_parts l.rows b)) h.1 (is-one (stay l.statement) l b h.0 e)
+  is-loops stay (l ∷ loops) b h e = is-loops stay loops (cond (stay l.statement) b (finalise_parts l.rows b)) h.1 (is-one (stay l.statement) l b h.0 e)
 
   kept-cond : (t : Bool) (l : Loop N) (loops : List (Loop N)) → HaveKinds of l.rows → LoopKinds of loops → LoopKinds of (cond t (l ∷ loops) loops)
   kept-cond true l loops h e = (h, e)
@@ -396,10 +400,10 @@ module _ {N : Type 0} (name : Name → N) (of : Kind → Type 0) (allows : Allow
   kept-loops stay [] e = tt
   kept-loops stay (l ∷ loops) e = kept-cond (stay l.statement) l (filter (λ l. stay l.statement) loops) e.0 (kept-loops stay loops e.1)
 
-  is-leave : (stay : ℕ → Bool) (b : Body N) → BodyKinds of b → BodyKinds of (leave_loops stay b)
+  is-leave : (stay : ℕ → Bool) (b : Frame N) → BodyKinds of b → BodyKinds of (leave_loops stay b)
   is-leave stay b e = is-loops stay b.loops (record b { loops = filter (λ l. stay l.statement) b.loops }) e.1 (e.0, kept-loops stay b.loops e.1, e.2, e.3)
 
-  pub is-arrive : (c : Code) (t : Target) (b : Body N) → BodyKinds of b → BodyKinds of (arrive c t b)
+  pub is-arrive : (c : Module) (t : Target) (b : Frame N) → BodyKinds of b → BodyKinds of (arrive c t b)
   is-arrive c t b e =
       let lost = excess c.types c.variables (has_value b.variables) (keeps c t) in
       is-leave (keeps_loop c t) (drop lost b) (is-drop lost b e)

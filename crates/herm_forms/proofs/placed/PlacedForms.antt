@@ -6,24 +6,28 @@ use Rattle.herm_model.specs.Lists.{list_of}
 use Rattle.herm_model.specs.Paths.{Path}
 use Rattle.herm_model.specs.Types.{TypeTable, Shape, boolean, integer, text, names, fields, cases, rows, polymorph, outport, type_at}
 use Rattle.herm_model.specs.Outcomes.{Outcome, ok, turn, raised, depletion, duplicate_key, polymorph_mismatch, not_found}
-use Rattle.herm_model.specs.Expressions.{Literal, Operator, either, both, equal, unequal, less, at_most, greater, at_least, plus, minus, times, divided, modulo, concatenated, Expression, literal, copy, negated, inverted, operation, decimal, length_of}
+use Rattle.herm_model.specs.Expressions.{Literal, Operator, logical_or, logical_and, equal, unequal, less, at_most, greater, at_least, plus, minus, times, divided, modulo, concatenated, Expression, literal, copy, negation, logical_not, operation, decimal, length_of}
 use Rattle.herm_model.specs.Calls.{shape_at}
 use Rattle.herm_model.specs.Statements.{Process, Form, Assign, Move, New, Discard, Unite, Dissolve, Reveal, Case, Wrap, Unwrap, Insert, Remove, Get, For, Connect, If, While, Raise, Leave}
 use Rattle.herm_model.specs.TypedExpressions.{IsLiteralOf, IsTyped, is_scalar_shape, shape_given}
 use Rattle.herm_model.specs.TypedStatements.{IsTypedForm}
-use Rattle.herm_model.specs.Nodes.{Target}
+use Rattle.herm_model.specs.Targets.{Target}
 use Rattle.herm_model.specs.Finalising.{excess}
-use Rattle.herm_model.specs.Values.{has_place, Scalar, a_boolean, Kind, a_scalar, a_record, a_variant, a_table, a_polymorph, an_outport, an_inport, Cell, cell, Parts, no_parts, gap, gaps, part, part_at, parts_of, size, has_value, cell_at, read_at, put_at, copy_from, copy_in, count, count_in, polymorph_depth, Value, forget}
+use Rattle.herm_model.specs.Values.{has_place, Scalar, a_boolean, Kind, a_scalar, a_record, a_variant, a_table, a_polymorph, an_outport, an_inport, Cell, cell, Parts, no_parts, gap, gaps, part, part_at, parts_of, size, has_value, cell_at, read_at, put_at, polymorph_depth, Value}
+use Rattle.herm_model.specs.CellNames.{copy_from, copy_in, count, count_in, forget}
 use Rattle.herm_model.specs.Tables.{has_key, key_of, place_of_key, without_part}
 use Rattle.herm_model.specs.Typed.{greatest_rows, greatest_polymorph}
 use Rattle.herm_model.proofs.Lists.{not_true}
 use Rattle.herm_model.proofs.Options.{none-not_some, some-injective}
 use Rattle.herm_journal.specs.PartTypes.{each, all_of, part_types_at, is_kind_at, has_no_number, IsPlaced, ArePlaced}
 use Rattle.herm_forms.specs.Evaluate.{Evaluated, gives, raises, no_value, evaluate, key_values, scalar_value}
-use Rattle.herm_forms.specs.Bodies.{Name, Loop, Body, Result, goes, stays, stuck, if_there, let_go, let_go_parts, let_go_old, let_go_all, end_name, end_cell, cleared, drop_at, drop, taking, put, putting, making, copying, copying_parts}
+use Rattle.herm_forms.specs.Frames.{Name, Loop, Frame, Completion, goes, stays, stuck, if_there, finalise, finalise_parts, finalise_old, finalise_all, finalise_name, finalise_at_once, cleared, drop_at, drop, taking, put, putting, making, copying, copying_parts}
 use Rattle.herm_forms.specs.Forms
 use Rattle.herm_forms.specs.Forms.{with_value, moving, moving_content, Opened, component_in, content_of, component_of, change_rows, with_parts, add_row, finding, rows_for, set_rows, next_row, inport_number, tested}
-use Rattle.herm_forms.specs.Edges.{Code, arrive, keeps, keeps_loop, let_go_loops, beyond_full}
+use Rattle.herm_forms.specs.EdgeFinalising.{arrive, keeps}
+use Rattle.herm_forms.specs.LeavingLoops.{keeps_loop, finalise_loops}
+use Rattle.herm_forms.specs.Excess.{excess_over_full}
+use Rattle.herm_forms.specs.Modules.{Module}
 use Rattle.herm_forms.specs.Acts.{key_at, new_value, act}
 use Rattle.herm_forms.proofs.known.KindsKept.{Gives, value-given, evaluate-from}
 use Rattle.herm_forms.proofs.placed.PlacedParts.{Agrees, WhereSet, part-placed, row-placed, cell-placed, read-placed, set-placed, clear-placed, change-placed, joined-placed, without-placed, gaps-placed, copy-placed, copy-placed_in, renamed-placed}
@@ -34,7 +38,7 @@ pub record AllowsLocal (types : TypeTable) (P : ℕ → Kind → Type 0) : Type 
   pub portless : (t : ℕ) (k : Kind) → IsTrue (is_kind_at (slice_get types t) k) → IsTrue (has_no_number k) → P t k
   pub connects : (t port n : ℕ) → slice_get types t ≡ Some (outport port) → P port (an_inport n) → P t (an_outport n)
 
-module _ {N : Type 0} (name : Name → N) (c : Code) (P : ℕ → Kind → Type 0) (agrees : Agrees c.types P) (row : ℕ → Option ℕ) where
+module _ {N : Type 0} (name : Name → N) (c : Module) (P : ℕ → Kind → Type 0) (agrees : Agrees c.types P) (row : ℕ → Option ℕ) where
   abbrev Is : ℕ → Cell N → Type 0
   Is t d = IsPlaced c.types P t d
 
@@ -47,10 +51,10 @@ module _ {N : Type 0} (name : Name → N) (c : Code) (P : ℕ → Kind → Type 
   LoopsAre (l ∷ loops) = RowsAre (row l.statement) l.rows × LoopsAre loops
 
   -- so of the variables and of the rows of loops
-  abbrev pub BodyIs : Body N → Type 0
+  abbrev pub BodyIs : Frame N → Type 0
   BodyIs b = ArePlaced c.types P (each c.variables) b.variables × LoopsAre b.loops
 
-  abbrev pub AllAre : Result N → Type 0
+  abbrev pub AllAre : Completion N → Type 0
   AllAre (goes o b) = BodyIs b
   AllAre (stays b) = BodyIs b
   AllAre stuck = ⊤
@@ -67,55 +71,55 @@ module _ {N : Type 0} (name : Name → N) (c : Code) (P : ℕ → Kind → Type 
   read-is [] t ps d h at type = none-not_some at
   read-is (i ∷ q) t ps d h at type = read-placed c.types P agrees c.variables i q ps d t h at type
 
-  old-is : (o : Option (Cell N)) (b : Body N) → BodyIs b → BodyIs (let_go_old o b)
+  old-is : (o : Option (Cell N)) (b : Frame N) → BodyIs b → BodyIs (finalise_old o b)
   old-is None b e = e
   old-is (Some d) b e = e
 
-  pub all-is : (cs : List (Cell N)) (b : Body N) → BodyIs b → BodyIs (let_go_all cs b)
+  pub all-is : (cs : List (Cell N)) (b : Frame N) → BodyIs b → BodyIs (finalise_all cs b)
   all-is [] b e = e
-  all-is (d ∷ cs) b e = all-is cs (let_go d b) e
+  all-is (d ∷ cs) b e = all-is cs (finalise d b) e
 
-  pub end-is : (d : Cell N) (b : Body N) → BodyIs b → BodyIs (end_cell d b)
+  pub end-is : (d : Cell N) (b : Frame N) → BodyIs b → BodyIs (finalise_at_once d b)
   end-is (cell n k ps) b e = e
 
-  pub cleared-is : (p : Path) (b : Body N) → BodyIs b → BodyIs (cleared p b)
+  pub cleared-is : (p : Path) (b : Frame N) → BodyIs b → BodyIs (cleared p b)
   cleared-is p b e = (clear-placed c.types P agrees c.variables p b.variables e.0, e.1)
 
-  pub drop-is : (paths : List Path) (b : Body N) → BodyIs b → BodyIs (drop paths b)
+  pub drop-is : (paths : List Path) (b : Frame N) → BodyIs b → BodyIs (drop paths b)
   drop-is [] b e = e
   drop-is (p ∷ paths) b e = drop-is paths (drop_at p b) (old-is (cell_at p b.variables) (cleared p b) (cleared-is p b e))
 
-  pub put-is : (p : Path) (t : ℕ) (d : Cell N) (b : Body N) → Typed p t → Is t d → BodyIs b → BodyIs (put p d b)
+  pub put-is : (p : Path) (t : ℕ) (d : Cell N) (b : Frame N) → Typed p t → Is t d → BodyIs b → BodyIs (put p d b)
   put-is [] t d b type h e = none-not_some type
   put-is (i ∷ q) t d b type h e =
       old-is (cell_at (i ∷ q) b.variables) (record b { variables = put_at (i ∷ q) d b.variables })
       (set-placed c.types P agrees c.variables i q (Some d) b.variables e.0 (subst (λ o. WhereSet c.types P agrees o (Some d)) (sym type) h), e.1)
 
-  pub all-cond : (t : Bool) (r s : Result N) → AllAre r → AllAre s → AllAre (cond t r s)
+  pub all-cond : (t : Bool) (r s : Completion N) → AllAre r → AllAre s → AllAre (cond t r s)
   all-cond true r s h k = h
   all-cond false r s h k = k
 
-  pub all-there : {X : Type 0} (next : X → Result N) (o : Option X) → ((x : X) → o ≡ Some x → AllAre (next x)) → AllAre (if_there next o)
+  pub all-there : {X : Type 0} (next : X → Completion N) (o : Option X) → ((x : X) → o ≡ Some x → AllAre (next x)) → AllAre (if_there next o)
   all-there next None on = tt
   all-there next (Some x) on = on x refl
 
-  pub all-putting : (p : Path) (t : ℕ) (o : Outcome) (d : Cell N) (b : Body N) → Typed p t → Is t d → BodyIs b → AllAre (putting p o d b)
+  pub all-putting : (p : Path) (t : ℕ) (o : Outcome) (d : Cell N) (b : Frame N) → Typed p t → Is t d → BodyIs b → AllAre (putting p o d b)
   all-putting p t o d b type h e = all-cond (has_place b.variables p) (goes o (put p d b)) stuck (put-is p t d b type h e) tt
 
-  pub all-taking : (p : Path) (t : ℕ) (next : Cell N → Body N → Result N) (b : Body N) → Typed p t → BodyIs b → ((d : Cell N) → Is t d → BodyIs (cleared p b) → AllAre (next d (cleared p b))) → AllAre (taking p next b)
+  pub all-taking : (p : Path) (t : ℕ) (next : Cell N → Frame N → Completion N) (b : Frame N) → Typed p t → BodyIs b → ((d : Cell N) → Is t d → BodyIs (cleared p b) → AllAre (next d (cleared p b))) → AllAre (taking p next b)
   all-taking p t next b type e on = all-there (λ d. next d (cleared p b)) (cell_at p b.variables) (λ d at. on d (cell-is p t b.variables d e.0 at type) (cleared-is p b e))
 
-  pub all-moving : (lost : List Path) (p : Path) (t : ℕ) (next : Cell N → Body N → Result N) (b : Body N) → Typed p t → BodyIs b → ((d : Cell N) (b' : Body N) → Is t d → BodyIs b' → AllAre (next d b')) → AllAre (moving lost p next b)
+  pub all-moving : (lost : List Path) (p : Path) (t : ℕ) (next : Cell N → Frame N → Completion N) (b : Frame N) → Typed p t → BodyIs b → ((d : Cell N) (b' : Frame N) → Is t d → BodyIs b' → AllAre (next d b')) → AllAre (moving lost p next b)
   all-moving lost p t next b type e on = all-taking p t next (drop lost b) type (drop-is lost b e) (λ d h e'. on d (cleared p (drop lost b)) h e')
 
   -- edges
-  one-is : (t : Bool) (l : Loop N) (b : Body N) → BodyIs b → BodyIs (cond t b (let_go_parts l.rows b))
+  one-is : (t : Bool) (l : Loop N) (b : Frame N) → BodyIs b → BodyIs (cond t b (finalise_parts l.rows b))
   one-is true l b e = e
   one-is false l b e = e
 
-  loops-is : (stay : ℕ → Bool) (loops : List (Loop N)) (b : Body N) → BodyIs b → BodyIs (let_go_loops stay loops b)
+  loops-is : (stay : ℕ → Bool) (loops : List (Loop N)) (b : Frame N) → BodyIs b → BodyIs (finalise_loops stay loops b)
   loops-is stay [] b e = e
-  loops-is stay (l ∷ loops) b e = loops-is stay loops (cond (stay l.statement) b (let_go_parts l.rows b)) (one-is (stay l.statement) l b e)
+  loops-is stay (l ∷ loops) b e = loops-is stay loops (cond (stay l.statement) b (finalise_parts l.rows b)) (one-is (stay l.statement) l b e)
 
   first-kept : (t : Bool) (l : Loop N) (loops : List (Loop N)) → RowsAre (row l.statement) l.rows → LoopsAre loops → LoopsAre (cond t (l ∷ loops) loops)
   first-kept true l loops h k = (h, k)
@@ -125,7 +129,7 @@ module _ {N : Type 0} (name : Name → N) (c : Code) (P : ℕ → Kind → Type 
   filtered stay [] h = tt
   filtered stay (l ∷ loops) h = first-kept (stay l.statement) l (filter (λ (l : Loop N). stay l.statement) loops) h.0 (filtered stay loops h.1)
 
-  pub arrive-is : (t : Target) (b : Body N) → BodyIs b → BodyIs (arrive c t b)
+  pub arrive-is : (t : Target) (b : Frame N) → BodyIs b → BodyIs (arrive c t b)
   arrive-is t b e =
       let lost = excess c.types c.variables (has_value b.variables) (keeps c t) in
       let left = drop lost b in
@@ -134,7 +138,7 @@ module _ {N : Type 0} (name : Name → N) (c : Code) (P : ℕ → Kind → Type 
 
   -- local steps
   module _ (allows : AllowsLocal c.types P) where
-    all-value : (next : Value → Body N → Result N) (v : Evaluated) (b : Body N) → BodyIs b → ((w : Value) → v ≡ gives w → AllAre (next w b)) → AllAre (with_value next v b)
+    all-value : (next : Value → Frame N → Completion N) (v : Evaluated) (b : Frame N) → BodyIs b → ((w : Value) → v ≡ gives w → AllAre (next w b)) → AllAre (with_value next v b)
     all-value next (gives v) b e on = on v refl
     all-value next (raises x) b e on = e
     all-value next no_value b e on = tt
@@ -152,7 +156,7 @@ module _ {N : Type 0} (name : Name → N) (c : Code) (P : ℕ → Kind → Type 
     one-of : (ts : List ℕ) (m u : ℕ) (d : Cell N) → slice_get ts m ≡ Some u → Is u d → ArePlaced c.types P (each (list_of (λ t. t ∷ []) (slice_get ts m))) (part d no_parts)
     one-of ts m u d at h = subst (λ o. ArePlaced c.types P (each (list_of (λ t. t ∷ []) o)) (part d no_parts)) (sym at) (h, tt)
 
-    all-new : (x : Path) (t : ℕ) (o : Option Shape) (b : Body N) → Typed x t → slice_get c.types t ≡ o → BodyIs b → AllAre (new_value name o x b)
+    all-new : (x : Path) (t : ℕ) (o : Option Shape) (b : Frame N) → Typed x t → slice_get c.types t ≡ o → BodyIs b → AllAre (new_value name o x b)
     all-new x t (Some (fields ts)) b type shape e =
         all-putting x t ok (cell (name (b.number, b.serial)) a_record (gaps (length ts))) (record b { serial = suc b.serial }) type
         (portless-at t (fields ts) a_record shape refl refl, of-shape t (fields ts) a_record (gaps (length ts)) shape (gaps-placed c.types P agrees N ts (length ts))) e
@@ -184,8 +188,8 @@ module _ {N : Type 0} (name : Name → N) (c : Code) (P : ℕ → Kind → Type 
             subst (λ (o : Opened N). Is t o.content) (some-injective is) (subst (λ t. Is t content) (sym same) (shape-of u polymorph (a_polymorph k) (part content no_parts) shape h.1).0)
     content-is t u d o shape h is = none-not_some is
 
-    all-content : (y : Path) (t : ℕ) (o : Opened N) (b : Body N) → Typed y t → Is t o.content → BodyIs b → AllAre (moving_content y o b)
-    all-content y t o b type h e = all-putting y t ok o.content (end_name o.name b) type h e
+    all-content : (y : Path) (t : ℕ) (o : Opened N) (b : Frame N) → Typed y t → Is t o.content → BodyIs b → AllAre (moving_content y o b)
+    all-content y t o b type h e = all-putting y t ok o.content (finalise_name o.name b) type h e
 
     -- the rows of a table
     rows-are : (u r : ℕ) (key : List ℕ) (d : Cell N) → slice_get c.types u ≡ Some (rows r key) → Is u d → ArePlaced c.types P (all_of r) (parts_of d)
@@ -194,11 +198,11 @@ module _ {N : Type 0} (name : Name → N) (c : Code) (P : ℕ → Kind → Type 
     with-rows : (u r : ℕ) (key : List ℕ) (f : Parts N → Parts N) (d : Cell N) → slice_get c.types u ≡ Some (rows r key) → ((ps : Parts N) → ArePlaced c.types P (all_of r) ps → ArePlaced c.types P (all_of r) (f ps)) → Is u d → Is u (with_parts f d)
     with-rows u r key f (cell n k ps) shape on h = (h.0, subst (λ o. ArePlaced c.types P (part_types_at o k) (f ps)) (sym shape) (on ps (subst (λ o. ArePlaced c.types P (part_types_at o k) ps) shape h.1)))
 
-    change-is : (t : Path) (u r : ℕ) (key : List ℕ) (f : Parts N → Parts N) (b : Body N) → Typed t u → slice_get c.types u ≡ Some (rows r key) → ((ps : Parts N) → ArePlaced c.types P (all_of r) ps → ArePlaced c.types P (all_of r) (f ps)) → BodyIs b → BodyIs (change_rows t f b)
+    change-is : (t : Path) (u r : ℕ) (key : List ℕ) (f : Parts N → Parts N) (b : Frame N) → Typed t u → slice_get c.types u ≡ Some (rows r key) → ((ps : Parts N) → ArePlaced c.types P (all_of r) ps → ArePlaced c.types P (all_of r) (f ps)) → BodyIs b → BodyIs (change_rows t f b)
     change-is [] u r key f b type shape on e = none-not_some type
     change-is (i ∷ q) u r key f b type shape on e = (change-placed c.types P agrees (with_parts f) u (λ d h. with-rows u r key f d shape on h) c.variables i q b.variables e.0 type, e.1)
 
-    all-finding : (key : List ℕ) (k : List Scalar) (t : Path) (u r : ℕ) (key' : List ℕ) (next : ℕ → Cell N → Result N) (b : Body N) → Typed t u → slice_get c.types u ≡ Some (rows r key') → BodyIs b → ((i : ℕ) (d : Cell N) → Is r d → AllAre (next i d)) → AllAre (finding key k t next b)
+    all-finding : (key : List ℕ) (k : List Scalar) (t : Path) (u r : ℕ) (key' : List ℕ) (next : ℕ → Cell N → Completion N) (b : Frame N) → Typed t u → slice_get c.types u ≡ Some (rows r key') → BodyIs b → ((i : ℕ) (d : Cell N) → Is r d → AllAre (next i d)) → AllAre (finding key k t next b)
     all-finding key k t u r key' next b type shape e on =
         all-there (λ table. elim (place_of_key key k (parts_of table)) [ None ↦ goes (raised not_found) b | Some i ↦ if_there (next i) (part_at i (parts_of table)) ]) (read_at t b.variables) (λ table at. by table (read-is t u b.variables table e.0 at type) (place_of_key key k (parts_of table)))
       where
@@ -223,12 +227,12 @@ module _ {N : Type 0} (name : Name → N) (c : Code) (P : ℕ → Kind → Type 
         by true same e more = subst (RowsAre (Some t)) (some-injective e) (subst (λ o. RowsAre o l.rows) (ap row (eqb-true l.statement s same) ∙ is) k.0)
         by false same e more = more e
 
-    all-next : (s : ℕ) (r : Path) (t : ℕ) (ps : Parts N) (b : Body N) → row s ≡ Some t → Typed r t → ArePlaced c.types P (all_of t) ps → BodyIs b → AllAre (next_row s r ps b)
+    all-next : (s : ℕ) (r : Path) (t : ℕ) (ps : Parts N) (b : Frame N) → row s ≡ Some t → Typed r t → ArePlaced c.types P (all_of t) ps → BodyIs b → AllAre (next_row s r ps b)
     all-next s r t no_parts b is type h e = e
     all-next s r t (gap ps) b is type h e = tt
     all-next s r t (part d ps) b is type h e = all-putting r t turn d (record b { loops = set_rows s ps b.loops }) type h.0 (e.0, set-rows s t ps b.loops is h.1 e.1)
 
-    all-visit : (s : ℕ) (r table : Path) (t u : ℕ) (key : List ℕ) (b : Body N) → row s ≡ Some t → Typed r t → Typed table u → slice_get c.types u ≡ Some (rows t key) → BodyIs b → AllAre (Forms.visit name s r table b)
+    all-visit : (s : ℕ) (r table : Path) (t u : ℕ) (key : List ℕ) (b : Frame N) → row s ≡ Some t → Typed r t → Typed table u → slice_get c.types u ≡ Some (rows t key) → BodyIs b → AllAre (Forms.visit name s r table b)
     all-visit s r table t u key b is type at shape e = by (rows_for s b.loops) refl
       where
         by : (o : Option (Parts N)) → rows_for s b.loops ≡ o → AllAre (elim o [
@@ -243,8 +247,8 @@ module _ {N : Type 0} (name : Name → N) (c : Code) (P : ℕ → Kind → Type 
 
     -- what a typed expression gives
     given-scalar : (o : Operator) → IsTrue (is_scalar_shape (shape_given o))
-    given-scalar either = refl
-    given-scalar both = refl
+    given-scalar logical_or = refl
+    given-scalar logical_and = refl
     given-scalar equal = refl
     given-scalar unequal = refl
     given-scalar less = refl
@@ -265,7 +269,7 @@ module _ {N : Type 0} (name : Name → N) (c : Code) (P : ℕ → Kind → Type 
     scalar-is t (names count) shape h x = (portless-at t (names count) (a_scalar x) shape refl refl, subst (λ o. ArePlaced c.types P {N = ⊤} (part_types_at o (a_scalar x)) no_parts) (sym shape) tt)
     scalar-is t s shape h x = not_true h
 
-    literal-is : (l : Literal) (t : ℕ) → IsLiteralOf c.types l t → (x : Scalar) → IsPlaced c.types P t (scalar_value x)
+    pub literal-is : (l : Literal) (t : ℕ) → IsLiteralOf c.types l t → (x : Scalar) → IsPlaced c.types P t (scalar_value x)
     literal-is (Literal.boolean b) t h x = scalar-is t boolean h refl x
     literal-is (Literal.integer z) t h x = scalar-is t integer h.0 refl x
     literal-is (Literal.text bytes) t h x = scalar-is t text h.0 refl x
@@ -277,8 +281,8 @@ module _ {N : Type 0} (name : Name → N) (c : Code) (P : ℕ → Kind → Type 
     value-is : (ps : Parts N) (e : Expression) (t : ℕ) → ArePlaced c.types P (each c.variables) ps → IsTyped c.types c.variables e t → Gives (IsPlaced c.types P t) (evaluate ps e)
     value-is ps (copy p) t h typed = value-given (IsPlaced c.types P t) (read_at p ps) (read-copied p t ps h typed.0.0)
     value-is ps (literal l) t h typed = evaluate-from (IsPlaced c.types P t) (literal-is l t typed) ps (literal l) (λ p is. cc is)
-    value-is ps (negated e) t h typed = evaluate-from (IsPlaced c.types P t) (scalar-is t integer typed.0 refl) ps (negated e) (λ p is. cc is)
-    value-is ps (inverted e) t h typed = evaluate-from (IsPlaced c.types P t) (scalar-is t boolean typed.0 refl) ps (inverted e) (λ p is. cc is)
+    value-is ps (negation e) t h typed = evaluate-from (IsPlaced c.types P t) (scalar-is t integer typed.0 refl) ps (negation e) (λ p is. cc is)
+    value-is ps (logical_not e) t h typed = evaluate-from (IsPlaced c.types P t) (scalar-is t boolean typed.0 refl) ps (logical_not e) (λ p is. cc is)
     value-is ps (operation o left right) t h typed = evaluate-from (IsPlaced c.types P t) (scalar-is t (shape_given o) typed.0 (given-scalar o)) ps (operation o left right) (λ p is. cc is)
     value-is ps (Expression.size_of p) t h typed = evaluate-from (IsPlaced c.types P t) (scalar-is t integer typed.0 refl) ps (Expression.size_of p) (λ p is. cc is)
     value-is ps (decimal e) t h typed = evaluate-from (IsPlaced c.types P t) (scalar-is t text typed.0 refl) ps (decimal e) (λ p is. cc is)
@@ -287,31 +291,31 @@ module _ {N : Type 0} (name : Name → N) (c : Code) (P : ℕ → Kind → Type 
     value-of : (v : Evaluated) (w : Value) (t : ℕ) → Gives (IsPlaced c.types P t) v → v ≡ gives w → IsPlaced c.types P t w
     value-of v w t h is = subst (Gives (IsPlaced c.types P t)) is h
 
-    all-copying : (d : Value) (x : Path) (t : ℕ) (b : Body N) → Typed x t → IsPlaced c.types P t d → BodyIs b → AllAre (copying name d (putting x ok) b)
+    all-copying : (d : Value) (x : Path) (t : ℕ) (b : Frame N) → Typed x t → IsPlaced c.types P t d → BodyIs b → AllAre (copying name d (putting x ok) b)
     all-copying d x t b type h e = all-putting x t ok (copy_from (λ s. name (b.number, s)) b.serial d) (record b { serial = b.serial + count d }) type (copy-placed c.types P agrees (λ s. name (b.number, s)) b.serial t d h) e
 
-    outport-is : (t port k : ℕ) (n : N) → slice_get c.types t ≡ Some (outport port) → P t (an_outport k) → Is t (cell n (an_outport k) no_parts)
+    pub outport-is : (t port k : ℕ) (n : N) → slice_get c.types t ≡ Some (outport port) → P t (an_outport k) → Is t (cell n (an_outport k) no_parts)
     outport-is t port k n shape h = (h, of-shape t (outport port) (an_outport k) no_parts shape tt)
 
     inport-has : (t k : ℕ) (d : Cell N) → Is t d → inport_number d ≡ Some k → P t (an_inport k)
     inport-has t k (cell n (an_inport m) ps) h is = subst (λ m. P t (an_inport m)) (some-injective is) h.0
     inport-has t k (cell n kind ps) h is = none-not_some is
 
-    all-tested : (v : Value) (b : Body N) → BodyIs b → AllAre (tested v b)
+    all-tested : (v : Value) (b : Frame N) → BodyIs b → AllAre (tested v b)
     all-tested (cell m (a_scalar (a_boolean true)) ps) b e = e
     all-tested (cell m (a_scalar (a_boolean false)) ps) b e = e
     all-tested v b e = tt
 
-    pub act-is : (exceptions : ℕ) (processes : List Process) (s : ℕ) (form : Form) (b : Body N) → IsTypedForm c.types c.variables exceptions processes form
+    pub act-is : (exceptions : ℕ) (processes : List Process) (s : ℕ) (form : Form) (b : Frame N) → IsTypedForm c.types c.variables exceptions processes form
         → ((r table : Path) → form ≡ For r table → row s ≡ type_at c.types c.variables r) → BodyIs b → AllAre (act name c s form b)
     act-is exceptions processes s (Assign x v) b h loops e =
         all-value (Forms.assign name x) (evaluate b.variables v) b e (λ w is. all-copying w x h.0 b h.1.0.0 (value-of (evaluate b.variables v) w h.0 (value-is b.variables v h.0 e.0 h.2) is) e)
-    act-is exceptions processes s (Move y x) b h loops e = all-moving (beyond_full c y b) y h.0 (putting x ok) b h.1.0.0 e (λ d b' placed e'. all-putting x h.0 ok d b' h.2.0.0 placed e')
+    act-is exceptions processes s (Move y x) b h loops e = all-moving (excess_over_full c y b) y h.0 (putting x ok) b h.1.0.0 e (λ d b' placed e'. all-putting x h.0 ok d b' h.2.0.0 placed e')
     act-is exceptions processes s (New x) b h loops e = all-new x h.0 (shape_at c.types c.variables x) b h.2.0.0 (sym (ap (option_and_then (slice_get c.types)) h.2.0.0)) e
-    act-is exceptions processes s (Discard x) b h loops e = all-taking x h.0 (λ d b. goes ok (let_go d b)) b h.1.0.0 e (λ d placed e'. e')
+    act-is exceptions processes s (Discard x) b h loops e = all-taking x h.0 (λ d b. goes ok (finalise d b)) b h.1.0.0 e (λ d placed e'. e')
     act-is exceptions processes s (Unite v k y) b h loops e =
         let shape = h.3.1 in
-        all-moving (beyond_full c y b) y h.1 (λ d b. making name (a_variant k) (part d no_parts) (putting v ok) b) b h.4.0.0 e
+        all-moving (excess_over_full c y b) y h.1 (λ d b. making name (a_variant k) (part d no_parts) (putting v ok) b) b h.4.0.0 e
         (λ d b' placed e'. all-putting v h.0 ok (cell (name (b'.number, b'.serial)) (a_variant k) (part d no_parts)) (record b' { serial = suc b'.serial }) h.2.0.0
         (portless-at h.0 (cases h.3.0) (a_variant k) shape refl refl, of-shape h.0 (cases h.3.0) (a_variant k) (part d no_parts) shape (one-of h.3.0 k h.1 d h.3.2 placed)) e')
     act-is exceptions processes s (Dissolve v k y) b h loops e =
@@ -320,10 +324,10 @@ module _ {N : Type 0} (name : Name → N) (c : Code) (P : ℕ → Kind → Type 
     act-is exceptions processes s (Reveal v k) b h loops e = all-there _ (read_at v b.variables) (λ d is. e)
     act-is exceptions processes s (Case v ks) b h loops e = all-there _ (read_at v b.variables) (λ d is. all-there _ (component_of d) (λ k is. e))
     act-is exceptions processes s (Wrap y p) b h loops e =
-        all-there (λ t. Forms.wrap name t (beyond_full c y b) y p b) (type_at c.types c.variables y) (λ t is.
+        all-there (λ t. Forms.wrap name t (excess_over_full c y b) y p b) (type_at c.types c.variables y) (λ t is.
         let same : h.0 ≡ t = some-injective (sym h.2.0.0 ∙ is) in
-        all-there _ (cell_at y (drop (beyond_full c y b) b).variables) (λ d at. all-cond (nat_lt (polymorph_depth d) greatest_polymorph) _ _
-        (all-moving (beyond_full c y b) y h.0 (λ content b. making name (a_polymorph t) (part content no_parts) (putting p ok) b) b h.2.0.0 e
+        all-there _ (cell_at y (drop (excess_over_full c y b) b).variables) (λ d at. all-cond (nat_lt (polymorph_depth d) greatest_polymorph) _ _
+        (all-moving (excess_over_full c y b) y h.0 (λ content b. making name (a_polymorph t) (part content no_parts) (putting p ok) b) b h.2.0.0 e
         (λ content b' placed e'. all-putting p h.1 ok (cell (name (b'.number, b'.serial)) (a_polymorph t) (part content no_parts)) (record b' { serial = suc b'.serial }) h.3.0.0
         (portless-at h.1 polymorph (a_polymorph t) h.4 refl refl, of-shape h.1 polymorph (a_polymorph t) (part content no_parts) h.4 (subst (λ t. Is t content) same placed, tt)) e')) e))
     act-is exceptions processes s (Unwrap p t y) b h loops e =
@@ -335,11 +339,11 @@ module _ {N : Type 0} (name : Name → N) (c : Code) (P : ℕ → Kind → Type 
         unwrapped d placed (Some o) is = all-content y t o (cleared p b) h.3.0.0 (content-is t h.0 d o h.2 placed is) (cleared-is p b e)
     act-is exceptions processes s (Insert r t) b h loops e =
         let table = h.2 in
-        let moved = moving (beyond_full c r b) r (λ d b. if_there (λ (table : Cell N). goes ok (change_rows t (add_row d) b)) (read_at t b.variables)) b in
+        let moved = moving (excess_over_full c r b) r (λ d b. if_there (λ (table : Cell N). goes ok (change_rows t (add_row d) b)) (read_at t b.variables)) b in
         let full = goes (raised depletion) b in
         all-there _ (cell_at r b.variables) (λ d at. all-there _ (read_at t b.variables) (λ found is. all-cond (has_key (key_at c t) (key_of (key_at c t) d) (parts_of found)) (goes (raised duplicate_key) b) (cond (nat_lt (size (parts_of found)) greatest_rows) moved full) e
         (all-cond (nat_lt (size (parts_of found)) greatest_rows) moved full
-        (all-moving (beyond_full c r b) r h.0 (λ d b. if_there (λ (table : Cell N). goes ok (change_rows t (add_row d) b)) (read_at t b.variables)) b h.3.0.0 e
+        (all-moving (excess_over_full c r b) r h.0 (λ d b. if_there (λ (table : Cell N). goes ok (change_rows t (add_row d) b)) (read_at t b.variables)) b h.3.0.0 e
         (λ d' b' placed e'. all-there (λ (table : Cell N). goes ok (change_rows t (add_row d') b')) (read_at t b'.variables)
         (λ found' is'. change-is t table.0 h.0 h.1 (add_row d') b' table.1.0 table.2 (λ ps are. joined-placed c.types P agrees h.0 ps (part d' no_parts) are (placed, tt)) e'))) e)))
     act-is exceptions processes s (Remove r t keys) b h loops e =

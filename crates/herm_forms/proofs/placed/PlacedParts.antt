@@ -4,7 +4,8 @@ use Rattle.std.specs.Prelude.{slice_get, IsTrue, ⊤}
 use Rattle.herm_model.specs.Lists.{list_of}
 use Rattle.herm_model.specs.Paths.{Path}
 use Rattle.herm_model.specs.Types.{TypeTable, Shape, fields, cases, callmessage, Parameter, part_type, part_of, type_below}
-use Rattle.herm_model.specs.Values.{Kind, a_record, a_variant, a_callmessage, Cell, cell, Parts, no_parts, gap, part, part_at, set_part, opens, inside, cell_at, change_inside, change_part, set_at, gaps, joined, behind_gaps, readable_of, read_at, change_behind, change_at, count, copy_from, copy_in, rename, rename_in}
+use Rattle.herm_model.specs.Values.{Kind, a_record, a_variant, a_callmessage, Cell, cell, Parts, no_parts, gap, part, part_at, set_part, opens, inside, cell_at, change_inside, change_part, set_at, gaps, joined, behind_gaps, readable_of, read_at, change_behind, change_at}
+use Rattle.herm_model.specs.CellNames.{count, copy_from, copy_in, rename, rename_in}
 use Rattle.herm_model.specs.Tables.{without_part}
 use Rattle.herm_model.proofs.Lists.{not_true, slice_get-map}
 use Rattle.herm_model.proofs.Options.{none-not_some, some-injective}
@@ -89,6 +90,28 @@ module _ (types : TypeTable) (P : ℕ → Kind → Type 0) (agrees : Agrees type
 
       by : (d : Option (Cell N)) → part_at i ps ≡ d → cell_at (j ∷ r) (inside d) ≡ Some c
           → ((us : List ℕ) (qs : Parts N) → Are (each us) qs → cell_at (j ∷ r) qs ≡ Some c → type_below types (slice_get us j) r ≡ Some t → Is t c) → Is t c
+      by None e at again = none-not_some (sym (none-there (j ∷ r)) ∙ at)
+      by (Some (cell n k qs)) e at again = let x = typed-there ts i ps (cell n k qs) h e in open' x.0 k qs x.1 x.2.0 x.2.1 (opens k) refl at again
+
+  -- and it has a type there
+  pub cell-typed : {N : Type 0} (ts : List ℕ) (i : ℕ) (q : Path) (ps : Parts N) (c : Cell N) → Are (each ts) ps → cell_at (i ∷ q) ps ≡ Some c → (t : ℕ) × (type_below types (slice_get ts i) q ≡ Some t) × Is t c
+  cell-typed ts i [] ps c h at = typed-there ts i ps c h at
+  cell-typed {N} ts i (j ∷ r) ps c h at = by (part_at i ps) refl at (λ us qs. cell-typed us j r qs c)
+    where
+      Found : Type 0
+      Found = (t : ℕ) × (type_below types (part_of types (slice_get ts i) j) r ≡ Some t) × Is t c
+
+      Again : Type 0
+      Again = (us : List ℕ) (qs : Parts N) → Are (each us) qs → cell_at (j ∷ r) qs ≡ Some c → (t : ℕ) × (type_below types (slice_get us j) r ≡ Some t) × Is t c
+
+      open' : (u : ℕ) (k : Kind) (qs : Parts N) → slice_get ts i ≡ Some u → P u k → Are (part_types_at (slice_get types u) k) qs → (b : Bool) → opens k ≡ b → cell_at (j ∷ r) (cond b qs no_parts) ≡ Some c → Again → Found
+      open' u k qs there p h false is at again = none-not_some (sym (none-there (j ∷ r)) ∙ at)
+      open' u k qs there p h true is at again =
+          let o = opened u k is p in
+          let x = again o.types' qs (subst (λ l. Are l qs) o.parts h) at in
+          (x.0, ap (λ o. type_below types (part_of types o j) r) there ∙ ap (λ o. type_below types o r) (o.steps j) ∙ x.1, x.2)
+
+      by : (d : Option (Cell N)) → part_at i ps ≡ d → cell_at (j ∷ r) (inside d) ≡ Some c → Again → Found
       by None e at again = none-not_some (sym (none-there (j ∷ r)) ∙ at)
       by (Some (cell n k qs)) e at again = let x = typed-there ts i ps (cell n k qs) h e in open' x.0 k qs x.1 x.2.0 x.2.1 (opens k) refl at again
 

@@ -4,7 +4,7 @@ use Rattle.std.proofs.lemmas.Bool.{eqb-true}
 use Rattle.std.specs.Prelude.{slice_get, nat_eq, IsTrue}
 use mathlib.Core.Bool.{false≢true}
 use Rattle.std.proofs.Math.Bool.{or-false}
-use Rattle.herm_model.specs.Lists.{IsIn, some_of, list_of}
+use Rattle.herm_model.specs.Lists.{IsIn, any_pass, list_of}
 use Rattle.herm_model.specs.Paths.{Path}
 use Rattle.herm_model.specs.Types.{Shape, inport, type_at}
 use Rattle.herm_model.specs.TypedExpressions.{HasShape}
@@ -19,13 +19,13 @@ use Rattle.herm_model.proofs.ThereFacts.{listed-there}
 use Rattle.herm_model.specs.Values.{Cell}
 use Rattle.herm_journal.specs.Actions.{put, take}
 use Rattle.herm_journal.specs.Messages.{is_inport, message_of_port, IsMessage}
-use Rattle.herm_forms.specs.Bodies.{Name, Body}
-use Rattle.herm_forms.specs.Edges.{Code}
+use Rattle.herm_forms.specs.Frames.{Name, Frame}
+use Rattle.herm_forms.specs.Modules.{Module}
 use Rattle.herm_forms.specs.Exchanges
 use Rattle.herm_forms.specs.Exchanges.{ports_at, place_of_port}
-use Rattle.herm_forms.specs.TargetLaws.{IsForArm}
+use Rattle.herm_forms.specs.laws.TargetLaws.{IsForArm}
 use Rattle.herm_forms.specs.Incoming.{leads_from}
-use Rattle.herm_forms.specs.TypedForms.{IsTypedIn}
+use Rattle.herm_forms.specs.laws.TypedForms.{IsTypedIn}
 use Rattle.herm_forms.specs.laws.FormsSound.{KeepsAnswering, AnswerKeeps, GivesMessage}
 use Rattle.herm_forms.proofs.forms.PlainForms.{never}
 use Rattle.herm_forms.proofs.forms.Messages.{sends-sound}
@@ -36,15 +36,15 @@ use Rattle.herm_forms.proofs.called.Returns.{returns-keep}
 use Rattle.herm_forms.proofs.typed.LocalForms.{path-deep}
 
 -- The path of a port that has this number: where it is found among the ports that a form looks at.
-leads-is : (n : ℕ) (b : Body Name) (i : Path) → leads_from n b i ≡ true → Exchanges.inport_at i b ≡ Some n
+leads-is : (n : ℕ) (b : Frame Name) (i : Path) → leads_from n b i ≡ true → Exchanges.inport_at i b ≡ Some n
 leads-is n b i e = by (Exchanges.inport_at i b) e
   where
-    by : (o : Option ℕ) → some_of (nat_eq n) (list_of (λ k. k ∷ []) o) ≡ true → o ≡ Some n
+    by : (o : Option ℕ) → any_pass (nat_eq n) (list_of (λ k. k ∷ []) o) ≡ true → o ≡ Some n
     by None e = absurd (false≢true e)
     by (Some k) e = ap (λ i. Some i) (sym (eqb-true n k (sym (or-false (nat_eq n k)) ∙ e)))
 
-leads-cond : (n k : ℕ) (b : Body Name) (i : Path) → Exchanges.inport_at i b ≡ Some k → leads_from n b i ≡ nat_eq n k
-leads-cond n k b i e = ap (λ o. some_of (nat_eq n) (list_of (λ k. k ∷ []) o)) e ∙ or-false (nat_eq n k)
+pub leads-cond : (n k : ℕ) (b : Frame Name) (i : Path) → Exchanges.inport_at i b ≡ Some k → leads_from n b i ≡ nat_eq n k
+leads-cond n k b i e = ap (λ o. any_pass (nat_eq n) (list_of (λ k. k ∷ []) o)) e ∙ or-false (nat_eq n k)
 
 -- a place is no earlier than where the count begins
 place-after : (k from n : ℕ) (ports : List ℕ) → place_of_port k from ports ≡ Some n → k ≤ n
@@ -55,8 +55,16 @@ place-after k from n (p ∷ ports) e = by (nat_eq from p) e (place-after (suc k)
     by true e again = let same : k ≡ n = some-injective e in omega (arith, same)
     by false e again = let more = again e in omega (arith, more)
 
+-- the one path that a `receive` looks at
+pub found-only : (n : ℕ) (b : Frame Name) (i j : Path) → find (leads_from n b) (i ∷ []) ≡ Some j → j ≡ i
+found-only n b i j e = by (found-in (leads_from n b) j (i ∷ []) e).0
+  where
+    by : IsIn j (i ∷ []) → j ≡ i
+    by (inl e) = e
+    by (inr h) = absurd h
+
 -- the first port in written order is that of the arm at whose place it is found
-arm-looked : (arms : List Arm) (b : Body Name) (from k n : ℕ) (j : Path) → find (leads_from from b) (map (λ a. a.port) arms) ≡ Some j
+pub arm-looked : (arms : List Arm) (b : Frame Name) (from k n : ℕ) (j : Path) → find (leads_from from b) (map (λ a. a.port) arms) ≡ Some j
     → option_and_then (place_of_port k from) (ports_at (map (λ a. a.port) arms) b) ≡ Some n → (m : ℕ) (a : Arm) → n ≡ k + m → slice_get arms m ≡ Some a → a.port ≡ j
 arm-looked [] b from k n j found place m a same at = none-not_some found
 arm-looked (x ∷ arms) b from k n j found place m a same at =
@@ -83,7 +91,7 @@ arm-looked (x ∷ arms) b from k n j found place m a same at =
     by p ports rest true is found place m same at again = here (sym (some-injective (ap (λ t. cond t (Some k) (place_of_port (suc k) from ports)) is ∙ place))) m same at (some-injective found)
     by p ports rest false is found place m same at again = further ports rest found (ap (λ t. cond t (Some k) (place_of_port (suc k) from ports)) is ∙ place) m same at again
 
-module _ (exceptions : ℕ) (processes : List Process) (c : Code) where
+module _ (exceptions : ℕ) (processes : List Process) (c : Module) where
   -- what is taken is a message of the type of the port from which it is taken
   record Taken (x i : Path) (m : Cell Name) : Type 0 where
     type : ℕ
@@ -110,12 +118,8 @@ module _ (exceptions : ℕ) (processes : List Process) (c : Code) where
   receive-keeps [] i is acts name place action has b b' o sound needed comes at = none-not_some is.typed.2.0.0
   receive-keeps (j ∷ q) i is acts name place (take k m) has b b' o sound needed comes at =
       let found = chain-some (type_at c.types c.variables) (find (leads_from place b) (i ∷ [])) comes.0 comes.1 in
-      let t = taken-at (j ∷ q) i m comes.0 is.typed (subst (λ i. type_at c.types c.variables i ≡ Some comes.0) (only found.0 (found-in (leads_from place b) found.0 (i ∷ []) found.1).0) found.2) comes.2 in
+      let t = taken-at (j ∷ q) i m comes.0 is.typed (subst (λ i. type_at c.types c.variables i ≡ Some comes.0) (found-only place b i found.0 found.1) found.2) comes.2 in
       receives-keep c j q t.type t.port i t.target t.from t.takes has b b' o k m t.is_message sound at
-    where
-      only : (y : Path) → IsIn y (i ∷ []) → y ≡ i
-      only y (inl e) = e
-      only y (inr h) = absurd h
   receive-keeps (j ∷ q) i is acts name place action has b b' o sound needed comes at = never o b' at
 
   pub select-keeps : (arms : List Arm) → AnswerKeeps exceptions processes c (Select arms)

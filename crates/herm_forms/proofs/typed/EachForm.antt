@@ -9,9 +9,11 @@ use Rattle.herm_model.proofs.Options.{none-not_some, chain-some, map-some}
 use Rattle.herm_journal.specs.Actions.{to_put, to_take, to_answer, values}
 use Rattle.herm_journal.specs.Actions
 use Rattle.herm_journal.specs.Messages.{CellWant, CellReply}
-use Rattle.herm_forms.specs.Bodies.{Name, Body, Taken}
-use Rattle.herm_forms.specs.Edges.{Code, beyond_declared}
-use Rattle.herm_forms.specs.Exchanges.{Composed, outport_at, ports_at, caller_of, return_wants}
+use Rattle.herm_forms.specs.Frames.{Name, Frame, Taken}
+use Rattle.herm_forms.specs.Excess.{excess_over_declared}
+use Rattle.herm_forms.specs.Modules.{Module}
+use Rattle.herm_forms.specs.Exchanges.{outport_at, ports_at}
+use Rattle.herm_forms.specs.Callmessages.{Composed, caller_of, return_wants}
 use Rattle.herm_forms.specs.Acts.{composed, wants, given_back, given_at, given_by}
 use Rattle.herm_forms.specs.laws.FormsSound.{LocalKeeps, AnswerKeeps}
 use Rattle.herm_forms.proofs.Counting.{recount, recount_composed, recount-drop}
@@ -20,7 +22,7 @@ use Rattle.herm_forms.proofs.KeptForms.{recount-composed}
 use Rattle.herm_forms.proofs.forms.PlainForms.{never}
 use Rattle.herm_forms.proofs.typed.FormsSound.{forms-sound}
 
-module _ (exceptions : ℕ) (processes : List Process) (c : Code) where
+module _ (exceptions : ℕ) (processes : List Process) (c : Module) where
   -- a typed form other than `for`; as a local step an action is stuck
   pub each-local : (form : Form) → (IsVisit form → ⊥) → LocalKeeps exceptions processes c form
   each-local (Assign x e) other = (forms-sound exceptions processes c).assign x e
@@ -56,7 +58,7 @@ module _ (exceptions : ℕ) (processes : List Process) (c : Code) where
   each-answer (Create o process) = (forms-sound exceptions processes c).create o process
   each-answer form = λ is acts. not_true acts
 
-module _ (name : Name → Name) (c : Code) (steps actions : ℕ) (b : Body Name) (n : ℕ) (m : Cell Name) where
+module _ (name : Name → Name) (c : Module) (steps actions : ℕ) (b : Frame Name) (n : ℕ) (m : Cell Name) where
   abbrev Puts : Form → Type 0
   Puts form = wants name c form b ≡ Some (to_put n m) → wants name c form (recount steps actions b) ≡ Some (to_put n m)
 
@@ -80,7 +82,7 @@ module _ (name : Name → Name) (c : Code) (steps actions : ℕ) (b : Body Name)
 
   -- what is to be put is the same whatever the counts
   pub puts-same : (form : Form) → Puts form
-  puts-same (Send x o) e = ap (λ (d : Body Name). option_and_then (λ port. option_map (to_put port) (cell_at x d.variables)) (outport_at o b)) (recount-drop steps actions (beyond_declared c o x b) b) ∙ e
+  puts-same (Send x o) e = ap (λ (d : Frame Name). option_and_then (λ port. option_map (to_put port) (cell_at x d.variables)) (outport_at o b)) (recount-drop steps actions (excess_over_declared c o x b) b) ∙ e
   puts-same (Call o arguments) e =
       ap (λ x. option_and_then (λ port. option_map (put-in port) x) (outport_at o b)) (recount-composed (λ _. 0) (λ _. 0) name (λ k h. refl) 0 0 steps actions c o arguments b)
       ∙ called-same (composed name c o arguments b) (outport_at o b) ∙ e

@@ -10,12 +10,12 @@ use Rattle.herm_model.specs.Outcomes.{Outcome, outcomes}
 use Rattle.herm_model.specs.Values.{a_variant, Cell, cell, Parts}
 use Rattle.herm_model.specs.Typed.{partly, Fits, many, HasType}
 use Rattle.herm_model.proofs.Options.{none-not_some, some-injective}
-use Rattle.herm_forms.specs.Bodies.{Name, Body, Result, goes}
+use Rattle.herm_forms.specs.Frames.{Name, Frame, Completion, goes}
 use Rattle.herm_forms.specs.Forms.{rows_for, component_of}
-use Rattle.herm_forms.specs.Edges.{Code}
+use Rattle.herm_forms.specs.Modules.{Module}
 use Rattle.herm_forms.specs.Acts.{is_action, act}
-use Rattle.herm_forms.specs.Arrival.{AreSound}
-use Rattle.herm_forms.specs.TypedForms.{IsTypedIn}
+use Rattle.herm_forms.specs.laws.EdgeLaws.{AreSound}
+use Rattle.herm_forms.specs.laws.TypedForms.{IsTypedIn}
 use Rattle.herm_forms.proofs.forms.ReadTypes.{read-typed, variant-component}
 use Rattle.herm_forms.proofs.typed.FormsGo.{forms-go}
 use Rattle.herm_forms.proofs.typed.LocalGoes.{Comes}
@@ -26,15 +26,15 @@ slice-below [] i x e = none-not_some e
 slice-below (y ∷ ys) zero x e = omega arith
 slice-below (y ∷ ys) (suc i) x e = let more = slice-below ys i x e in omega (arith, more)
 
-ended : (S : List Outcome) (r : Result Name) (o : Outcome) (b : Body Name) → r ≡ goes o b → EndsIn S r → IsIn o S
+ended : (S : List Outcome) (r : Completion Name) (o : Outcome) (b : Frame Name) → r ≡ goes o b → EndsIn S r → IsIn o S
 ended S r o b e h = by (subst (EndsIn S) e h)
   where
     by : EndsIn S (goes o b) → IsIn o S
     by (went o' b' h) = h
 
-module _ (exceptions : ℕ) (processes : List Process) (c : Code) where
+module _ (exceptions : ℕ) (processes : List Process) (c : Module) where
   -- a `case` has an arm for each component that the variant may have
-  covers : (form : Form) → IsTypedIn exceptions processes c form → (has : Fact → Bool) (b : Body Name) → AreSound c has b.variables → (name : Name → Name) (s : ℕ) → CoversCase c name s b form
+  covers : (form : Form) → IsTypedIn exceptions processes c form → (has : Fact → Bool) (b : Frame Name) → AreSound c has b.variables → (name : Name → Name) (s : ℕ) → CoversCase c name s b form
   covers (Case [] ks) is has b sound name s = none-not_some is.typed.2.0
   covers (Case (i ∷ q) ks) is has b sound name s = λ d k at of.
       by d k of (read-typed Name c.types c.variables i q is.typed.0 b.variables d sound.types is.typed.2.0 at)
@@ -51,7 +51,7 @@ module _ (exceptions : ℕ) (processes : List Process) (c : Code) where
   abbrev Needs : Form → (Fact → Bool) → Type 0
   Needs form has = (f : Fact) → IsIn f (needs c.types c.variables form) → IsTrue (has f)
 
-  each-comes : (form : Form) → IsTypedIn exceptions processes c form → IsFalse (is_action c form) → (name : Name → Name) (s : ℕ) (has : Fact → Bool) (b : Body Name) → AreSound c has b.variables → Needs form has
+  each-comes : (form : Form) → IsTypedIn exceptions processes c form → IsFalse (is_action c form) → (name : Name → Name) (s : ℕ) (has : Fact → Bool) (b : Frame Name) → AreSound c has b.variables → Needs form has
       → ((r t : Path) (row : ℕ) → form ≡ For r t → type_at c.types c.variables r ≡ Some row → (rs : Parts Name) → rows_for s b.loops ≡ Some rs → Fits c.types (many row) rs) → Comes (act name c s form b)
   each-comes (Assign x e) is local name s has b sound needed rows' = (forms-go exceptions processes c).assign x e is name s has b sound needed
   each-comes (Move y x) is local name s has b sound needed rows' = (forms-go exceptions processes c).move y x is name s has b sound needed
@@ -75,9 +75,9 @@ module _ (exceptions : ℕ) (processes : List Process) (c : Code) where
   each-comes form is local name s has b sound needed rows' = absurd (true≢false local)
 
   -- with its outcome
-  pub each-goes : (form : Form) → IsTypedIn exceptions processes c form → IsFalse (is_action c form) → (name : Name → Name) (s : ℕ) (has : Fact → Bool) (b : Body Name) → AreSound c has b.variables → Needs form has
+  pub each-goes : (form : Form) → IsTypedIn exceptions processes c form → IsFalse (is_action c form) → (name : Name → Name) (s : ℕ) (has : Fact → Bool) (b : Frame Name) → AreSound c has b.variables → Needs form has
       → ((r t : Path) (row : ℕ) → form ≡ For r t → type_at c.types c.variables r ≡ Some row → (rs : Parts Name) → rows_for s b.loops ≡ Some rs → Fits c.types (many row) rs)
-      → (o : Outcome) × (b' : Body Name) × (act name c s form b ≡ goes o b') × IsIn o (outcomes c.types c.variables form)
+      → (o : Outcome) × (b' : Frame Name) × (act name c s form b ≡ goes o b') × IsIn o (outcomes c.types c.variables form)
   each-goes form is local name s has b sound needed rows' =
       let x = each-comes form is local name s has b sound needed rows' in
       (x.0, x.1, x.2, ended (outcomes c.types c.variables form) (act name c s form b) x.0 x.1 x.2 (acts-end c name s b form (covers form is has b sound name s)))

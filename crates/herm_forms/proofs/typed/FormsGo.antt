@@ -1,12 +1,12 @@
 -- Every typed form that is a local step comes to an outcome.
 use Rattle.std.proofs.Common.{ℕ, List}
 use Rattle.herm_model.specs.Statements.{Process}
-use Rattle.herm_forms.specs.Edges.{Code}
+use Rattle.herm_forms.specs.Modules.{Module}
 use Rattle.herm_forms.specs.laws.FormsGoOn.{FormsGoOn}
 use Rattle.herm_forms.proofs.typed.LocalGoes.{assign-comes, move-comes, new-comes, discard-comes, unite-comes, dissolve-comes, reveal-comes, choose-comes, wrap-comes, unwrap-comes, remove-comes, get-comes, visit-comes, connect-comes, if-comes, while-comes, raise-comes, leave-comes}
 use Rattle.herm_forms.proofs.typed.InsertGoes.{insert-comes}
 
-pub forms-go : (exceptions : ℕ) (processes : List Process) (c : Code) → FormsGoOn exceptions processes c
+pub forms-go : (exceptions : ℕ) (processes : List Process) (c : Module) → FormsGoOn exceptions processes c
 forms-go exceptions processes c = record {
   assign = assign-comes exceptions processes c;
   move = move-comes exceptions processes c;

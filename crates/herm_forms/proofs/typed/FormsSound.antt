@@ -1,14 +1,14 @@
 -- Every typed form keeps sound values, and what it gives away suits.
 use Rattle.std.proofs.Common.{ℕ, List}
 use Rattle.herm_model.specs.Statements.{Process}
-use Rattle.herm_forms.specs.Edges.{Code}
+use Rattle.herm_forms.specs.Modules.{Module}
 use Rattle.herm_forms.specs.laws.FormsSound.{FormsKeepSound, FormsGiveWhatSuits}
 use Rattle.herm_forms.proofs.forms.KnownComponents.{components-known}
 use Rattle.herm_forms.proofs.typed.LocalForms.{assign-keeps, move-keeps, new-keeps, discard-keeps, unite-keeps, dissolve-keeps, wrap-keeps, unwrap-keeps, insert-keeps, remove-keeps, get-keeps, visit-keeps, connect-keeps, if-keeps, while-keeps, raise-keeps, leave-keeps}
 use Rattle.herm_forms.proofs.typed.ActionForms.{inport-keeps, send-gives, send-keeps, receive-keeps, select-keeps, return-keeps, return-by-keeps, create-keeps}
 use Rattle.herm_forms.proofs.typed.CallForms.{call-gives, call-keeps, return-gives, return-by-gives}
 
-pub forms-sound : (exceptions : ℕ) (processes : List Process) (c : Code) → FormsKeepSound exceptions processes c
+pub forms-sound : (exceptions : ℕ) (processes : List Process) (c : Module) → FormsKeepSound exceptions processes c
 forms-sound exceptions processes c = record {
   assign = assign-keeps exceptions processes c;
   move = move-keeps exceptions processes c;
@@ -39,7 +39,7 @@ forms-sound exceptions processes c = record {
   leave = leave-keeps exceptions processes c;
 }
 
-pub forms-give : (exceptions : ℕ) (processes : List Process) (c : Code) → FormsGiveWhatSuits exceptions processes c
+pub forms-give : (exceptions : ℕ) (processes : List Process) (c : Module) → FormsGiveWhatSuits exceptions processes c
 forms-give exceptions processes c = record {
   sent = send-gives exceptions processes c;
   called = call-gives exceptions processes c;

@@ -1,7 +1,7 @@
 -- A typed `insert` is not stuck: no table lies in a row of its own, so the table is there behind the row that moves.
 use Rattle.std.proofs.Common.{◌≡◌, inl, ℕ, List, [], ◌∷◌, Bool, true, false, cond, not, ◌&&◌, Option, Some, None, nat_lt, refl, sym, ap, ◌∙◌, subst}
 use Rattle.std.specs.Prelude.{slice_get, IsTrue}
-use Rattle.herm_model.specs.Lists.{IsIn, list_of, with_some}
+use Rattle.herm_model.specs.Lists.{IsIn, list_of, map_or}
 use Rattle.herm_model.specs.Paths.{Path, Fact, init, path_of, is_at_or_below}
 use Rattle.herm_model.specs.Types.{TypeTable, Shape, rows, named_types, part_type, part_of, type_below, type_at}
 use Rattle.herm_model.specs.Facts.{facts_to}
@@ -17,12 +17,13 @@ use Rattle.herm_model.proofs.Lists.{in-append_left, in-append_right}
 use Rattle.herm_model.proofs.Options.{none-not_some, some-injective}
 use Rattle.herm_model.proofs.Beginnings.{below-trans, begins-with}
 use Rattle.herm_model.proofs.TypedPaths.{at-append}
-use Rattle.herm_forms.specs.Bodies.{goes, reading}
+use Rattle.herm_forms.specs.Frames.{goes, reading}
 use Rattle.herm_forms.specs.Forms.{moving, change_rows, add_row}
-use Rattle.herm_forms.specs.Edges.{Code, beyond_full}
+use Rattle.herm_forms.specs.Excess.{excess_over_full}
+use Rattle.herm_forms.specs.Modules.{Module}
 use Rattle.herm_forms.specs.Acts.{key_at}
-use Rattle.herm_forms.specs.Arrival.{without}
-use Rattle.herm_forms.specs.TypedForms.{IsTypedIn}
+use Rattle.herm_forms.specs.laws.EdgeLaws.{without}
+use Rattle.herm_forms.specs.laws.TypedForms.{IsTypedIn}
 use Rattle.herm_forms.specs.laws.FormsGoOn.{GoesOn}
 use Rattle.herm_forms.proofs.Arrived.{to-direct}
 use Rattle.herm_forms.proofs.evaluated.CopiedValues.{part-named, nothing-below}
@@ -34,7 +35,7 @@ module _ (types : TypeTable) where
   named-part : (t i u : ℕ) → part_of types (Some t) i ≡ Some u → IsIn u (list_of named_types (slice_get types t))
   named-part t i u e = by (slice_get types t) e
     where
-      by : (o : Option Shape) → with_some None (λ s. part_type s i) o ≡ Some u → IsIn u (list_of named_types o)
+      by : (o : Option Shape) → map_or None (λ s. part_type s i) o ≡ Some u → IsIn u (list_of named_types o)
       by None e = none-not_some e
       by (Some s) e = part-named s i u e
 
@@ -51,7 +52,7 @@ module _ (types : TypeTable) where
   reaches-on t u v (at_once t' u' h) m = further t u v h (at_once u v m)
   reaches-on t u v (further t' w u' h r) m = further t w v h (reaches-on w u v r m)
 
-module _ (exceptions : ℕ) (processes : List Process) (c : Code) where
+module _ (exceptions : ℕ) (processes : List Process) (c : Module) where
   -- the table is not at or below the row
   not-inside : (i : ℕ) (q : List ℕ) (t : Path) (row u : ℕ) (key : List ℕ) → IsWellFormedTable exceptions c.types → type_at c.types c.variables (i ∷ q) ≡ Some row → type_at c.types c.variables t ≡ Some u → HasShape c.types u (rows row key)
       → is_at_or_below (i ∷ q) t ≡ true → ⊥
@@ -88,7 +89,7 @@ module _ (exceptions : ℕ) (processes : List Process) (c : Code) where
           away true e = absurd (not-inside i q t is.typed.0 is.typed.2.0 is.typed.1 is.table is.typed.3.0.0 is.typed.2.1.0 is.typed.2.2 (below-trans (i ∷ q) (path_of f) t e (way-begins c.types c.variables t f m)))
 
       by : ((f : Fact) → IsIn f (facts_to c.types c.variables t) → IsTrue (has f)) → (known fits : Bool)
-          → Comes (cond known (goes (raised duplicate_key) b) (cond fits (moving (beyond_full c (i ∷ q) b) (i ∷ q) (λ row b. reading t (λ table. goes ok (change_rows t (add_row row) b)) b) b) (goes (raised depletion) b)))
+          → Comes (cond known (goes (raised duplicate_key) b) (cond fits (moving (excess_over_full c (i ∷ q) b) (i ∷ q) (λ row b. reading t (λ table. goes ok (change_rows t (add_row row) b)) b) b) (goes (raised depletion) b)))
       by held true fits = (raised duplicate_key, b, refl)
       by held false false = (raised depletion, b, refl)
       by held false true =

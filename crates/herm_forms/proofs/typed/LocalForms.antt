@@ -8,11 +8,11 @@ use Rattle.herm_model.specs.TypedExpressions.{HasShape}
 use Rattle.herm_model.specs.Statements.{Form, Assign, Move, New, Discard, Unite, Dissolve, Wrap, Unwrap, Insert, Remove, Get, For, Connect, If, While, Raise, Leave, Process}
 use Rattle.herm_model.proofs.Options.{none-not_some, some-injective}
 use Rattle.herm_model.proofs.TypedCalls.{shape-is}
-use Rattle.herm_forms.specs.Edges.{Code}
+use Rattle.herm_forms.specs.Modules.{Module}
 use Rattle.herm_forms.specs.Acts.{new_value}
-use Rattle.herm_forms.specs.Arrival.{KeepsSound}
-use Rattle.herm_forms.specs.FormLaws.{KeepsFinding}
-use Rattle.herm_forms.specs.TypedForms.{IsTypedIn}
+use Rattle.herm_forms.specs.laws.EdgeLaws.{PreservesSoundness}
+use Rattle.herm_forms.specs.laws.FormLaws.{PreservesNeeds}
+use Rattle.herm_forms.specs.laws.TypedForms.{IsTypedIn}
 use Rattle.herm_forms.specs.laws.FormsSound.{KeepsVisiting, LocalKeeps}
 use Rattle.herm_forms.proofs.evaluated.CopiedValues.{deep-at}
 use Rattle.herm_forms.proofs.evaluated.AssignedExpressions.{typed-assignments}
@@ -24,13 +24,14 @@ use Rattle.herm_forms.proofs.forms.MovedContents.{contents-move}
 use Rattle.herm_forms.proofs.forms.InsertedRows.{rows-inserted}
 use Rattle.herm_forms.proofs.forms.RemovedRows.{rows-found}
 use Rattle.herm_forms.proofs.forms.VisitedRows.{rows-visited}
+use Rattle.herm_forms.proofs.forms.VisitedLoops.{visited-loops}
 use Rattle.herm_forms.proofs.typed.TypedAtoms.{typed-deep}
 
 -- a form that keeps sound values in any case does so where it finds what it needs
-finding : (c : Code) (form : Form) → KeepsSound c form → KeepsFinding c form
+finding : (c : Module) (form : Form) → PreservesSoundness c form → PreservesNeeds c form
 finding c form keeps name statement has b b' o sound needed is = keeps name statement has b b' o sound is
 
-module _ (exceptions : ℕ) (processes : List Process) (c : Code) where
+module _ (exceptions : ℕ) (processes : List Process) (c : Module) where
   -- the type at a path is within the depth
   pub path-deep : (form : Form) → IsTypedIn exceptions processes c form → (i : ℕ) (q : List ℕ) (t : ℕ) → type_at c.types c.variables (i ∷ q) ≡ Some t → IsTrue (is_within_depth greatest_depth c.types t)
   path-deep form is i q t e = deep-at c (typed-deep exceptions processes c form is) i q t e
@@ -44,7 +45,7 @@ module _ (exceptions : ℕ) (processes : List Process) (c : Code) where
   move-keeps (i ∷ q) [] is = none-not_some is.typed.2.0.0
   move-keeps (i ∷ q) (j ∷ r) is = moves-keep c i q j r is.typed.0 is.typed.1.0.0 is.typed.2.0.0 (path-deep (Move (i ∷ q) (j ∷ r)) is i q is.typed.0 is.typed.1.0.0)
 
-  new-by : (i : ℕ) (q : List ℕ) (t : ℕ) (s : Shape) → type_at c.types c.variables (i ∷ q) ≡ Some t → HasShape c.types t s → KeepsFinding c (New (i ∷ q))
+  new-by : (i : ℕ) (q : List ℕ) (t : ℕ) (s : Shape) → type_at c.types c.variables (i ∷ q) ≡ Some t → HasShape c.types t s → PreservesNeeds c (New (i ∷ q))
   new-by i q t (fields ts) type shape = (new-values-keep c).new i q t ts type shape
   new-by i q t (rows row key) type shape = (new-values-keep c).new_table i q t row key type shape
   new-by i q t s type shape = λ name statement has b b' o sound needed is. never o b' (ap (λ s. new_value name s (i ∷ q) b) (sym (shape-is c.types c.variables (i ∷ q) t _ type shape)) ∙ is)
@@ -113,7 +114,8 @@ module _ (exceptions : ℕ) (processes : List Process) (c : Code) where
   visit-keeps (j ∷ r) (i ∷ q) is row e =
       let h = is.typed in
       let same : h.0 ≡ row = some-injective (sym h.3.0.0 ∙ e) in
-      rows-visited c i q j r row h.2.0 h.1 h.2.1.0 (h.2.2 ∙ ap (λ row. Some (rows row h.1)) same) e (path-deep (For (j ∷ r) (i ∷ q)) is j r row e)
+      let visited = rows-visited c i q j r row h.2.0 h.1 h.2.1.0 (h.2.2 ∙ ap (λ row. Some (rows row h.1)) same) e (path-deep (For (j ∷ r) (i ∷ q)) is j r row e) in
+      λ name statement has b b' o sound left is. let v = visited name statement has b b' o sound left is in (v.0, v.1, visited-loops name statement (j ∷ r) (i ∷ q) o b' b is)
 
   pub connect-keeps : (o i : Path) → LocalKeeps exceptions processes c (Connect o i)
   connect-keeps [] from is = none-not_some is.typed.2.0.0

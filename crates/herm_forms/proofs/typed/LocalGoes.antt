@@ -3,7 +3,7 @@ use Rattle.std.proofs.Common.{◌≡◌, inl, ℕ, suc, List, [], ◌∷◌, ◌
 use Rattle.std.specs.Prelude.{flat_map, IsTrue, IsFalse, nat_eq, nat_lt}
 use Rattle.std.proofs.lemmas.Bool.{eqb-true}
 use mathlib.Core.Bool.{false≢true}
-use Rattle.herm_model.specs.Lists.{IsIn, with_some}
+use Rattle.herm_model.specs.Lists.{IsIn, map_or}
 use Rattle.herm_model.specs.Paths.{Path, Fact, init, case, are_apart}
 use Rattle.herm_model.specs.Types.{Shape, fields, rows, cases, outport, inport, type_at}
 use Rattle.herm_model.specs.Facts.{facts_to, with_prefixes}
@@ -16,20 +16,23 @@ use Rattle.herm_model.specs.Expressions.{paths_read, paths_among}
 use Rattle.herm_model.specs.Tables.{same_key, key_of, place_of_key, without_part}
 use Rattle.herm_model.specs.Outcomes.{Outcome, ok, is_true, is_false, component, raised, depletion, polymorph_mismatch, not_found, done, turn}
 use Rattle.herm_model.specs.TypedStatements.{IsTarget, IsSource, can_be_new}
-use Rattle.herm_model.specs.Values.{Scalar, a_boolean, a_table, gap, copy_in, Kind, a_scalar, a_variant, a_polymorph, an_inport, Cell, cell, Parts, no_parts, part, part_at, parts_of, cell_at, read_at, is_component, tells, has_place, polymorph_depth}
+use Rattle.herm_model.specs.Values.{Scalar, a_boolean, a_table, gap, Kind, a_scalar, a_variant, a_polymorph, an_inport, Cell, cell, Parts, no_parts, part, part_at, parts_of, cell_at, read_at, has_place, polymorph_depth}
+use Rattle.herm_model.specs.CellNames.{copy_in}
+use Rattle.herm_model.specs.FactsOfValues.{is_component, satisfies}
 use Rattle.herm_model.specs.Typed.{partly, unfit, layout, many, Fits, HasType, greatest_polymorph}
 use Rattle.herm_model.proofs.Lists.{not_true, in-flat_map, in-append_left, in-append_right}
 use Rattle.herm_model.proofs.Options.{none-not_some, some-injective, map-some}
 use Rattle.herm_model.proofs.TypedCalls.{shape-is}
-use Rattle.herm_forms.specs.Bodies.{Name, Body, Result, goes, stuck, if_there, let_go, end_name, cleared, drop, put, taking, putting, making, copying_parts}
+use Rattle.herm_forms.specs.Frames.{Name, Frame, Completion, goes, stuck, if_there, finalise, finalise_name, cleared, drop, put, taking, putting, making, copying_parts}
 use Rattle.herm_forms.specs.Forms.{moving, change_rows, rows_for, set_rows, next_row, moving_content, Opened, component_in, component_of, content_of, inport_number, finding, with_value, tested}
 use Rattle.herm_forms.specs.Forms
 use Rattle.herm_forms.specs.Evaluate.{Evaluated, gives, raises, no_value, evaluate, key_values}
-use Rattle.herm_forms.specs.Edges.{Code, beyond_full}
+use Rattle.herm_forms.specs.Excess.{excess_over_full}
+use Rattle.herm_forms.specs.Modules.{Module}
 use Rattle.herm_forms.specs.Acts.{is_action, key_at, new_value, act}
-use Rattle.herm_forms.specs.Arrival.{AreSound, without}
-use Rattle.herm_forms.specs.ExpressionLaws.{ComesTo, Decides}
-use Rattle.herm_forms.specs.TypedForms.{IsTypedIn}
+use Rattle.herm_forms.specs.laws.EdgeLaws.{AreSound, without}
+use Rattle.herm_forms.specs.laws.ExpressionLaws.{ComesTo, Decides}
+use Rattle.herm_forms.specs.laws.TypedForms.{IsTypedIn}
 use Rattle.herm_forms.specs.laws.FormsGoOn.{GoesOn, VisitGoesOn}
 use Rattle.herm_journal.proofs.Rising.{same-true}
 use Rattle.herm_journal.specs.Messages.{is_inport}
@@ -49,17 +52,17 @@ use Rattle.herm_forms.proofs.typed.LocalForms.{path-deep}
 use Rattle.herm_forms.proofs.typed.Room.{HasParent, has-parent, parent-left, value-there, place-there}
 
 -- a result that goes on
-abbrev pub Comes : Result Name → Type 0
-Comes r = (o : Outcome) × (b' : Body Name) × (r ≡ goes o b')
+abbrev pub Comes : Completion Name → Type 0
+Comes r = (o : Outcome) × (b' : Frame Name) × (r ≡ goes o b')
 
-comes-by : (r s : Result Name) → r ≡ s → Comes s → Comes r
+comes-by : (r s : Completion Name) → r ≡ s → Comes s → Comes r
 comes-by r s e x = (x.0, x.1, e ∙ x.2)
 
 -- the end of a statement with a target
-set-comes : (x : Path) (o : Outcome) (d : Cell Name) (b : Body Name) → IsTrue (has_place b.variables x) → Comes (putting x o d b)
+set-comes : (x : Path) (o : Outcome) (d : Cell Name) (b : Frame Name) → IsTrue (has_place b.variables x) → Comes (putting x o d b)
 set-comes x o d b place = (o, put x d b, ap (λ t. cond t (goes o (put x d b)) stuck) place)
 
-pub there-comes : {X : Type 0} (next : X → Result Name) (o : Option X) (x : X) → o ≡ Some x → Comes (next x) → Comes (if_there next o)
+pub there-comes : {X : Type 0} (next : X → Completion Name) (o : Option X) (x : X) → o ≡ Some x → Comes (next x) → Comes (if_there next o)
 there-comes next o x e h = comes-by (if_there next o) (next x) (ap (if_there next) e) h
 
 -- what stands at the place of a key is a row
@@ -78,39 +81,39 @@ part-found key k (part d ps) i e = by (same_key (key_of key d) k) e (part-found 
         let row = again n.0 n.1 in
         (row.0, ap (λ i. part_at i (part d ps)) (sym n.2) ∙ row.1)
 
-module _ (exceptions : ℕ) (processes : List Process) (c : Code) where
+module _ (exceptions : ℕ) (processes : List Process) (c : Module) where
   module _ (form : Form) (is : IsTypedIn exceptions processes c form) (has : Fact → Bool) (needed : (f : Fact) → IsIn f (needs c.types c.variables form) → IsTrue (has f)) where
-    abbrev asks : List Fact
+    abbrev pub asks : List Fact
     asks = (row c.types c.variables form).needed
 
     pub asked : (f : Fact) → IsIn f asks → IsTrue (has f)
     asked f h = needed f (in-closed c.types c.variables asks f h)
 
-    parent-of : (x : Path) (t : ℕ) → IsTarget c.types c.variables x t → ((f : Fact) → IsIn f (room_for c.types c.variables x) → IsIn f asks) → HasParent has x
+    pub parent-of : (x : Path) (t : ℕ) → IsTarget c.types c.variables x t → ((f : Fact) → IsIn f (room_for c.types c.variables x) → IsIn f asks) → HasParent has x
     parent-of x t target among = has-parent c has x t target.0.0 target.1 (λ f h. asked f (among f h))
 
-    module _ (b : Body Name) (sound : AreSound c has b.variables) where
-      place-of : (x : Path) (t : ℕ) → IsTarget c.types c.variables x t → ((f : Fact) → IsIn f (room_for c.types c.variables x) → IsIn f asks) → IsTrue (has_place b.variables x)
+    module _ (b : Frame Name) (sound : AreSound c has b.variables) where
+      pub place-of : (x : Path) (t : ℕ) → IsTarget c.types c.variables x t → ((f : Fact) → IsIn f (room_for c.types c.variables x) → IsIn f asks) → IsTrue (has_place b.variables x)
       place-of x t target among = place-there c has b.variables sound x t target.0.0 target.1 (parent-of x t target among)
 
       -- a source that is there leaves, and a target that is apart from it has still its place
-      taken-comes : (i : ℕ) (q : List ℕ) (u : ℕ) → IsSource c.types c.variables (i ∷ q) u → ((f : Fact) → IsIn f (present c.types c.variables (i ∷ q)) → IsIn f asks) → (next : Cell Name → Body Name → Result Name)
+      taken-comes : (i : ℕ) (q : List ℕ) (u : ℕ) → IsSource c.types c.variables (i ∷ q) u → ((f : Fact) → IsIn f (present c.types c.variables (i ∷ q)) → IsIn f asks) → (next : Cell Name → Frame Name → Completion Name)
           → ((d : Cell Name) → cell_at (i ∷ q) b.variables ≡ Some d → Comes (next d (cleared (i ∷ q) b))) → Comes (taking (i ∷ q) next b)
       taken-comes i q u source among next on =
           let d = value-there c has b.variables sound i q (asked (init (i ∷ q)) (among (init (i ∷ q)) (to-direct c.types c.variables i q source.1))) in
           there-comes (λ d. next d (cleared (i ∷ q) b)) (cell_at (i ∷ q) b.variables) d.0 d.1 (on d.0 d.1)
 
-      pub moved-comes : (i : ℕ) (q : List ℕ) (u : ℕ) → IsSource c.types c.variables (i ∷ q) u → ((f : Fact) → IsIn f (full c.types c.variables (i ∷ q)) → IsIn f asks) → (next : Cell Name → Body Name → Result Name)
-          → ((d : Cell Name) (b' : Body Name) → AreSound c (without (i ∷ q) has) b'.variables → Comes (next d b')) → Comes (moving (beyond_full c (i ∷ q) b) (i ∷ q) next b)
+      pub moved-comes : (i : ℕ) (q : List ℕ) (u : ℕ) → IsSource c.types c.variables (i ∷ q) u → ((f : Fact) → IsIn f (full c.types c.variables (i ∷ q)) → IsIn f asks) → (next : Cell Name → Frame Name → Completion Name)
+          → ((d : Cell Name) (b' : Frame Name) → AreSound c (without (i ∷ q) has) b'.variables → Comes (next d b')) → Comes (moving (excess_over_full c (i ∷ q) b) (i ∷ q) next b)
       moved-comes i q u source among next on =
           let type = source.0.0 in
           let own = value-there c has b.variables sound i q (asked (init (i ∷ q)) (among (init (i ∷ q)) (in-append_left (init (i ∷ q)) (facts_to c.types c.variables (i ∷ q)) _ (to-direct c.types c.variables i q source.1)))) in
           let s = source-full c i q has b sound u type (path-deep exceptions processes c form is i q u type) (λ f h. asked f (among f (in-full c i q u type source.1 f h))) own.0 own.1 in
-          there-comes (λ d. next d (cleared (i ∷ q) (drop (beyond_full c (i ∷ q) b) b))) (cell_at (i ∷ q) (drop (beyond_full c (i ∷ q) b) b).variables) s.0 s.1
-          (on s.0 (cleared (i ∷ q) (drop (beyond_full c (i ∷ q) b) b)) (source-taken c i q has b sound (beyond_full c (i ∷ q) b) (below-source c i q has b sound u type)))
+          there-comes (λ d. next d (cleared (i ∷ q) (drop (excess_over_full c (i ∷ q) b) b))) (cell_at (i ∷ q) (drop (excess_over_full c (i ∷ q) b) b).variables) s.0 s.1
+          (on s.0 (cleared (i ∷ q) (drop (excess_over_full c (i ∷ q) b) b)) (source-taken c i q has b sound (excess_over_full c (i ∷ q) b) (below-source c i q has b sound u type)))
 
       -- what moves is set, perhaps inside a cell that is made for it
-      place-left : (y x : Path) (t : ℕ) → IsTarget c.types c.variables x t → IsTrue (are_apart y x) → ((f : Fact) → IsIn f (room_for c.types c.variables x) → IsIn f asks) → (b' : Body Name) → AreSound c (without y has) b'.variables → IsTrue (has_place b'.variables x)
+      place-left : (y x : Path) (t : ℕ) → IsTarget c.types c.variables x t → IsTrue (are_apart y x) → ((f : Fact) → IsIn f (room_for c.types c.variables x) → IsIn f asks) → (b' : Frame Name) → AreSound c (without y has) b'.variables → IsTrue (has_place b'.variables x)
       place-left y x t target apart among b' left = place-there c (without y has) b'.variables left x t target.0.0 target.1 (parent-left c has y x apart (parent-of x t target among))
 
   -- the forms
@@ -133,7 +136,7 @@ module _ (exceptions : ℕ) (processes : List Process) (c : Code) where
   pub discard-comes : (x : Path) → IsTypedIn exceptions processes c (Discard x) → GoesOn c (Discard x)
   discard-comes [] is name statement has b sound needed = none-not_some is.typed.1.0.0
   discard-comes (i ∷ q) is name statement has b sound needed =
-      taken-comes (Discard (i ∷ q)) is has needed b sound i q is.typed.0 is.typed.1 (λ f h. h) (λ d b. goes ok (let_go d b)) (λ d at. (ok, let_go d (cleared (i ∷ q) b), refl))
+      taken-comes (Discard (i ∷ q)) is has needed b sound i q is.typed.0 is.typed.1 (λ f h. h) (λ d b. goes ok (finalise d b)) (λ d at. (ok, finalise d (cleared (i ∷ q) b), refl))
 
   pub unite-comes : (v : Path) (k : ℕ) (y : Path) → IsTypedIn exceptions processes c (Unite v k y) → GoesOn c (Unite v k y)
   unite-comes v k [] is name statement has b sound needed = none-not_some is.typed.4.0.0
@@ -152,17 +155,17 @@ module _ (exceptions : ℕ) (processes : List Process) (c : Code) where
       let type = is.typed.2.0.0 in
       let own = value-there c has b.variables sound i q (asked form is has needed (init (i ∷ q)) (among (init (i ∷ q)) (in-append_left (init (i ∷ q)) (facts_to c.types c.variables (i ∷ q)) _ (to-direct c.types c.variables i q is.typed.2.1)))) in
       let s = source-full c i q has b sound t type (path-deep exceptions processes c form is i q t type) (λ f h. asked form is has needed f (among f (in-full c i q t type is.typed.2.1 f h))) own.0 own.1 in
-      there-comes (λ t. Forms.wrap name t (beyond_full c (i ∷ q) b) (i ∷ q) p b) (type_at c.types c.variables (i ∷ q)) t type
-      (there-comes _ (cell_at (i ∷ q) (drop (beyond_full c (i ∷ q) b) b).variables) s.0 s.1 (by (nat_lt (polymorph_depth s.0) greatest_polymorph) t among))
+      there-comes (λ t. Forms.wrap name t (excess_over_full c (i ∷ q) b) (i ∷ q) p b) (type_at c.types c.variables (i ∷ q)) t type
+      (there-comes _ (cell_at (i ∷ q) (drop (excess_over_full c (i ∷ q) b) b).variables) s.0 s.1 (by (nat_lt (polymorph_depth s.0) greatest_polymorph) t among))
     where
       by : (deep : Bool) (t : ℕ) → ((f : Fact) → IsIn f (full c.types c.variables (i ∷ q)) → IsIn f (asks (Wrap (i ∷ q) p) is has needed))
-          → Comes (cond deep (moving (beyond_full c (i ∷ q) b) (i ∷ q) (λ content b. making name (a_polymorph t) (part content no_parts) (putting p ok) b) b) (goes (raised depletion) b))
+          → Comes (cond deep (moving (excess_over_full c (i ∷ q) b) (i ∷ q) (λ content b. making name (a_polymorph t) (part content no_parts) (putting p ok) b) b) (goes (raised depletion) b))
       by true t among =
           moved-comes (Wrap (i ∷ q) p) is has needed b sound i q is.typed.0 is.typed.2 among (λ content b. making name (a_polymorph t) (part content no_parts) (putting p ok) b)
           (λ d b' left. set-comes p ok _ _ (place-left (Wrap (i ∷ q) p) is has needed b sound (i ∷ q) p is.typed.1 is.typed.3 is.typed.5 (λ f h. in-append_left f (room_for c.types c.variables p) (full c.types c.variables (i ∷ q)) h) b' left))
       by false t among = (raised depletion, b, refl)
 
-  decided-comes : (v : Evaluated) (b : Body Name) → Decides v → Comes (with_value tested v b)
+  decided-comes : (v : Evaluated) (b : Frame Name) → Decides v → Comes (with_value tested v b)
   decided-comes (gives (cell n (a_scalar (a_boolean true)) ps)) b h = (is_true, b, refl)
   decided-comes (gives (cell n (a_scalar (a_boolean false)) ps)) b h = (is_false, b, refl)
   decided-comes (gives v) b h = absurd h
@@ -200,7 +203,7 @@ module _ (exceptions : ℕ) (processes : List Process) (c : Code) where
       let d = read-there c.types Name ps c.variables (typed-deep exceptions processes c form is) sound.types i q t h.0 h.1 (λ f m. told f (held f m)) in
       (d.0, d.1, read-typed Name c.types c.variables i q t ps d.0 sound.types h.0 d.1)
     where
-      told : (f : Fact) → IsTrue (has f) → IsTrue (tells ps f)
+      told : (f : Fact) → IsTrue (has f) → IsTrue (satisfies ps f)
       told (init p) h = (sound.facts.values p).1 h
       told (case p k) h = sound.facts.components p k h
 
@@ -211,7 +214,7 @@ module _ (exceptions : ℕ) (processes : List Process) (c : Code) where
 
   -- a value of a type of components has one of them
   has-component : (t : ℕ) (ts : List ℕ) (d : Cell Name) → HasShape c.types t (cases ts) → HasType c.types t d → (k : ℕ) × (component_of d ≡ Some k)
-  has-component t ts (cell n kind ps) shape h = by kind (subst (λ o. Fits c.types (with_some unfit (λ s. layout partly s kind) o) ps) shape h.0)
+  has-component t ts (cell n kind ps) shape h = by kind (subst (λ o. Fits c.types (map_or unfit (λ s. layout partly s kind) o) ps) shape h.0)
     where
       by : (kind : Kind) → Fits c.types (layout partly (cases ts) kind) ps → (k : ℕ) × (component_of (cell n kind ps) ≡ Some k)
       by (a_variant k) h = (k, refl)
@@ -224,8 +227,8 @@ module _ (exceptions : ℕ) (processes : List Process) (c : Code) where
       there-comes _ (read_at v b.variables) d.0 d.1 (there-comes _ (component_of d.0) k.0 k.1 (component k.0, b, refl))
 
   -- a value of an inport type is an inport
-  has-inport : (t message : ℕ) (declared : List Fact) (d : Cell Name) → HasShape c.types t (inport message declared) → HasType c.types t d → (k : ℕ) × (inport_number d ≡ Some k)
-  has-inport t message declared (cell n kind ps) shape h = by kind (subst (λ o. Fits c.types (with_some unfit (λ s. layout partly s kind) o) ps) shape h.0)
+  pub has-inport : (t message : ℕ) (declared : List Fact) (d : Cell Name) → HasShape c.types t (inport message declared) → HasType c.types t d → (k : ℕ) × (inport_number d ≡ Some k)
+  has-inport t message declared (cell n kind ps) shape h = by kind (subst (λ o. Fits c.types (map_or unfit (λ s. layout partly s kind) o) ps) shape h.0)
     where
       by : (kind : Kind) → Fits c.types (layout partly (inport message declared) kind) ps → (k : ℕ) × (inport_number (cell n kind ps) ≡ Some k)
       by (an_inport k) h = (k, refl)
@@ -251,7 +254,7 @@ module _ (exceptions : ℕ) (processes : List Process) (c : Code) where
     where
       by : (x : Option (Opened Name)) → IsTrue (has_place (cleared (i ∷ q) b).variables y) → Comes (elim x [ None ↦ goes (raised polymorph_mismatch) b | Some o ↦ moving_content y o (cleared (i ∷ q) b) ])
       by None place = (raised polymorph_mismatch, b, refl)
-      by (Some o) place = set-comes y ok o.content (end_name o.name (cleared (i ∷ q) b)) place
+      by (Some o) place = set-comes y ok o.content (finalise_name o.name (cleared (i ∷ q) b)) place
 
   -- the component of a variant that is known to have it
   component-there : (t k : ℕ) (d : Cell Name) → HasType c.types t d → IsTrue (is_component (Some d) k) → (o : Opened Name) × (component_in k d ≡ Some o)
@@ -278,11 +281,11 @@ module _ (exceptions : ℕ) (processes : List Process) (c : Code) where
       subst (λ o. IsTrue (is_component o k)) (there-read Name q i b.variables d.0 d.1) (sound.facts.components v k (asked form is has needed (case v k) fact)) in
       let o = component-there r.type k d.0 r.typed told in
       there-comes _ (cell_at v b.variables) d.0 d.1 (there-comes _ (component_in k d.0) o.0 o.1
-      (set-comes y ok (o.0).content (end_name (o.0).name (cleared v b))
+      (set-comes y ok (o.0).content (finalise_name (o.0).name (cleared v b))
       (place-left form is has needed b sound v y is.typed.1 is.typed.4 is.typed.5 (λ f h. in-append_left f rooms (case v k ∷ []) h) (cleared v b) (clearing-sound c has i q b.variables sound))))
 
   -- a row that is found by its key is there
-  finding-comes : (key : List ℕ) (k : List Scalar) (t : Path) (next : ℕ → Cell Name → Result Name) (b : Body Name) (d : Cell Name) → read_at t b.variables ≡ Some d
+  finding-comes : (key : List ℕ) (k : List Scalar) (t : Path) (next : ℕ → Cell Name → Completion Name) (b : Frame Name) (d : Cell Name) → read_at t b.variables ≡ Some d
       → ((i : ℕ) (row : Cell Name) → Comes (next i row)) → Comes (finding key k t next b)
   finding-comes key k t next b d at on = there-comes _ (read_at t b.variables) d at (by (place_of_key key k (parts_of d)) refl)
     where
@@ -321,12 +324,12 @@ module _ (exceptions : ℕ) (processes : List Process) (c : Code) where
       (j ∷ r) is.typed.0 h.3.0.0 h.3.1 (parent-of form is has needed (j ∷ r) is.typed.0 h.3 (λ f m. in-append_left f (rooms ++ there) reads (in-append_left f rooms there m))))))
 
   -- rows without gaps have a next one, or there is none
-  next-comes : (row s : ℕ) (r : Path) (ps : Parts Name) (b : Body Name) → Fits c.types (many row) ps → IsTrue (has_place b.variables r) → Comes (next_row s r ps b)
+  next-comes : (row s : ℕ) (r : Path) (ps : Parts Name) (b : Frame Name) → Fits c.types (many row) ps → IsTrue (has_place b.variables r) → Comes (next_row s r ps b)
   next-comes row s r no_parts b h place = (done, b, refl)
   next-comes row s r (gap ps) b h place = absurd h
   next-comes row s r (part d ps) b h place = set-comes r turn d (record b { loops = set_rows s ps b.loops }) place
 
-  copied-comes : (row s : ℕ) (r : Path) (name : ℕ → Name) (n : ℕ) (ps : Parts Name) (b : Body Name) → Fits c.types (many row) ps → IsTrue (has_place b.variables r) → Comes (next_row s r (copy_in name n ps) b)
+  copied-comes : (row s : ℕ) (r : Path) (name : ℕ → Name) (n : ℕ) (ps : Parts Name) (b : Frame Name) → Fits c.types (many row) ps → IsTrue (has_place b.variables r) → Comes (next_row s r (copy_in name n ps) b)
   copied-comes row s r name n no_parts b h place = (done, b, refl)
   copied-comes row s r name n (gap ps) b h place = absurd h
   copied-comes row s r name n (part d ps) b h place = set-comes r turn _ _ place

@@ -2,7 +2,7 @@
 use Rattle.std.proofs.Common.{◌≡◌, ℕ, zero, suc, ◌<◌, arith, List, [], ◌∷◌, ◌++◌, map, Bool, true, false, not, ◌&&◌, ◌||◌, Option, Some, None, slice_get, refl, sym, ap, ◌∙◌, subst, true≢false, nat_lt}
 use Rattle.std.specs.Prelude.{IsTrue, IsFalse}
 use Rattle.std.proofs.lemmas.Bool.{lt-ltb}
-use Rattle.herm_model.specs.Lists.{IsIn, with_some}
+use Rattle.herm_model.specs.Lists.{IsIn, map_or}
 use Rattle.herm_model.specs.Paths.{Path, Fact, init, parent, are_apart, is_at_or_below}
 use Rattle.herm_model.specs.Types.{TypeTable, Shape, Parameter, Raised, fields, cases, callmessage, part_type, part_of, type_at, is_cases, is_variant, passes_component}
 use Rattle.herm_model.specs.StatementTable.{room_for}
@@ -12,9 +12,9 @@ use Rattle.herm_model.proofs.Lists.{slice_get-map}
 use Rattle.herm_model.proofs.Options.{none-not_some}
 use Rattle.herm_model.proofs.Beginnings.{above-longer, below-trans}
 use Rattle.herm_model.proofs.TypedPaths.{at-append, passes-append, or-falses, some-of}
-use Rattle.herm_forms.specs.Bodies.{Name}
-use Rattle.herm_forms.specs.Edges.{Code}
-use Rattle.herm_forms.specs.Arrival.{AreSound, without}
+use Rattle.herm_forms.specs.Frames.{Name}
+use Rattle.herm_forms.specs.Modules.{Module}
+use Rattle.herm_forms.specs.laws.EdgeLaws.{AreSound, without}
 use Rattle.herm_forms.proofs.TypedReading.{opening, typed-read}
 use Rattle.herm_forms.proofs.Arrived.{to-direct}
 use Rattle.herm_forms.proofs.called.ApartPaths.{apart-not_below}
@@ -36,15 +36,15 @@ module _ (N : Type 0) (types : TypeTable) where
   open-size : (u k t : ℕ) (n : N) (kind : Kind) (qs : Parts N) → opens kind ≡ true → HasType types u (cell n kind qs) → part_of types (Some u) k ≡ Some t → IsTrue (nat_lt k (size qs))
   open-size u k t n kind qs is h e =
       let o = opening N types u n kind qs is h in
-      let same : part_of types (Some u) k ≡ part_type o.shape k = ap (with_some None (λ s. part_type s k)) o.found in
+      let same : part_of types (Some u) k ≡ part_type o.shape k = ap (map_or None (λ s. part_type s k)) o.found in
       typed-size o.types qs k t (subst (λ l. Fits types l qs) o.contents h.0) (sym (o.parts k) ∙ sym same ∙ e)
 
   -- a value of another kind has no parts of its own that a path could name
   no-part : (u k t : ℕ) (kind : Kind) (qs : Parts N) {A : Type 0} → ((ts : List ℕ) → Fits types (layout partly (fields ts) kind) qs → ⊥) → ((ps : List Parameter) (rs : List Raised) → Fits types (layout partly (callmessage ps rs) kind) qs → ⊥)
-      → Fits types (with_some unfit (λ s. layout partly s kind) (slice_get types u)) qs → part_of types (Some u) k ≡ Some t → is_variant types (Some u) ≡ false → A
+      → Fits types (map_or unfit (λ s. layout partly s kind) (slice_get types u)) qs → part_of types (Some u) k ≡ Some t → is_variant types (Some u) ≡ false → A
   no-part u k t kind qs {A} not_fields not_message h e v = by (slice_get types u) h e v
     where
-      by : (o : Option Shape) → Fits types (with_some unfit (λ s. layout partly s kind) o) qs → with_some None (λ s. part_type s k) o ≡ Some t → with_some false (λ s. is_cases s) o ≡ false → A
+      by : (o : Option Shape) → Fits types (map_or unfit (λ s. layout partly s kind) o) qs → map_or None (λ s. part_type s k) o ≡ Some t → map_or false (λ s. is_cases s) o ≡ false → A
       by None h e v = absurd h
       by (Some (fields ts)) h e v = absurd (not_fields ts h)
       by (Some (callmessage ps rs)) h e v = absurd (not_message ps rs h)
@@ -66,7 +66,7 @@ module _ (N : Type 0) (types : TypeTable) where
   place-on i k (j ∷ q) ps = place-on j k q (inside (part_at i ps))
 
 -- the parent of a path, and the last step
-parent-split : (i j : ℕ) (p : List ℕ) → (k : ℕ) × (i ∷ j ∷ p ≡ parent (i ∷ j ∷ p) ++ k ∷ [])
+pub parent-split : (i j : ℕ) (p : List ℕ) → (k : ℕ) × (i ∷ j ∷ p ≡ parent (i ∷ j ∷ p) ++ k ∷ [])
 parent-split i j [] = (j, refl)
 parent-split i j (l ∷ p) = let r = parent-split j l p in (r.0, ap (i ∷◌) r.1)
 
@@ -76,7 +76,7 @@ HasParent has [] = ⊥
 HasParent has (i ∷ []) = Rattle.std.specs.Prelude.⊤
 HasParent has (i ∷ j ∷ p) = IsTrue (has (init (i ∷ parent (j ∷ p))))
 
-module _ (c : Code) where
+module _ (c : Module) where
   parent-direct : (i j : ℕ) (p : List ℕ) → passes_component c.types c.variables (i ∷ j ∷ p) ≡ false → passes_component c.types c.variables (i ∷ parent (j ∷ p)) ≡ false
   parent-direct i j p direct =
       let k = parent-split i j p in

@@ -8,7 +8,8 @@ use Rattle.herm_model.specs.Expressions.{Atom, literal, path, copy, paths_among}
 use Rattle.herm_model.specs.Calls.{call_parameters, is_given, arguments_by}
 use Rattle.herm_model.specs.Statements.{Form, Process, Remove, Get, Call}
 use Rattle.herm_model.specs.StatementTable.{room_for, present, full, full_of_each, given, set_by_call}
-use Rattle.herm_model.specs.Values.{Cell, Parts, part, read_at, Value, forget}
+use Rattle.herm_model.specs.Values.{Cell, Parts, part, read_at, Value}
+use Rattle.herm_model.specs.CellNames.{forget}
 use Rattle.herm_model.specs.Typed.{IsFull}
 use Rattle.herm_model.specs.TypedExpressions.{HasShape}
 use Rattle.herm_model.specs.WellFormedTables.{IsWellFormedTable, IsScalarField}
@@ -16,33 +17,33 @@ use Rattle.herm_model.specs.TypedStatements.{IsTypedAtom, IsArgument, AreArgumen
 use Rattle.herm_model.proofs.Lists.{in-flat_map, in-flat_map_from, in-append_right}
 use Rattle.herm_model.proofs.Options.{some-injective}
 use Rattle.herm_model.proofs.TypedCalls.{parameters-are}
-use Rattle.herm_forms.specs.Bodies.{Name}
-use Rattle.herm_forms.specs.Edges.{Code}
+use Rattle.herm_forms.specs.Frames.{Name}
+use Rattle.herm_forms.specs.Modules.{Module}
 use Rattle.herm_forms.specs.Evaluate.{Evaluated, gives, scalar_value, scalar_of, atom_value, value_there, key_of_value}
 use Rattle.herm_forms.specs.Acts.{input_of, inputs_of, value_before}
-use Rattle.herm_forms.specs.Arrival.{AreSound, AreDeep}
-use Rattle.herm_forms.specs.CallLaws.{AreFullInputs}
-use Rattle.herm_forms.specs.ExpressionLaws.{ComesTo, WhereFound}
-use Rattle.herm_forms.specs.TypedForms.{IsTypedIn}
+use Rattle.herm_forms.specs.laws.EdgeLaws.{AreSound, AreDeep}
+use Rattle.herm_forms.specs.laws.CallLaws.{AreFullInputs}
+use Rattle.herm_forms.specs.laws.ExpressionLaws.{ComesTo, WhereFound}
+use Rattle.herm_forms.specs.laws.TypedForms.{IsTypedIn}
 use Rattle.herm_forms.specs.laws.TypedAtoms.{ComeToKey, ComeToInputs, TypedAtomsAreFull}
 use Rattle.herm_forms.proofs.forms.ToldFacts.{in-closed}
 use Rattle.herm_forms.proofs.evaluated.AssignedExpressions.{typed-comes}
 use Rattle.herm_forms.proofs.evaluated.TypedExpressions.{literal-comes, full-scalar}
 
 -- the types of variables in a well-formed table are within the depth
-pub typed-deep : (exceptions : ℕ) (processes : List Process) (c : Code) (form : Form) → IsTypedIn exceptions processes c form → AreDeep c
+pub typed-deep : (exceptions : ℕ) (processes : List Process) (c : Module) (form : Form) → IsTypedIn exceptions processes c form → AreDeep c
 typed-deep exceptions processes c form is t h = is.table.shallow t (is.variables t h)
 
 -- it comes to a full value
-record Full (c : Code) (t : ℕ) (v : Evaluated) : Type 0 where
+record Full (c : Module) (t : ℕ) (v : Evaluated) : Type 0 where
   value : Value
   given : v ≡ gives value
   is_full : IsFull c.types t value
 
-full-of : (c : Code) (t : ℕ) (v : Evaluated) → Full c t v → (value : Value) → v ≡ gives value → IsFull c.types t value
+full-of : (c : Module) (t : ℕ) (v : Evaluated) → Full c t v → (value : Value) → v ≡ gives value → IsFull c.types t value
 full-of c t v x value is = subst (ComesTo c t) (sym x.given ∙ is) x.is_full
 
-module _ (c : Code) (deep : AreDeep c) (has : Fact → Bool) (ps : Parts Name) (sound : AreSound c has ps) where
+module _ (c : Module) (deep : AreDeep c) (has : Fact → Bool) (ps : Parts Name) (sound : AreSound c has ps) where
   -- the full facts of each of these paths are held
   abbrev Holds : List Path → Type 0
   Holds paths = (p : Path) → IsIn p paths → (f : Fact) → IsIn f (full c.types c.variables p) → IsTrue (has f)
@@ -128,7 +129,7 @@ key-scalars exceptions types u row key ts well shape fielded i h =
     let same : k.0 ≡ ts = cc (sym k.1 ∙ fielded) in
     subst (λ ts. IsScalarField types ts i) same (k.3 i h)
 
-module _ (exceptions : ℕ) (processes : List Process) (c : Code) where
+module _ (exceptions : ℕ) (processes : List Process) (c : Module) where
   found-key : (r t : Path) (keys : List Atom) (row : ℕ) (found : IsFound c.types c.variables r t keys row) → IsWellFormedTable exceptions c.types → AreDeep c → WhereFound c (Remove r t keys) (ComeToKey c found.1 found.0 keys)
   found-key r t keys row found well deep has ps sound needed =
       let before = room_for c.types c.variables r ++ present c.types c.variables t in
@@ -146,7 +147,7 @@ module _ (exceptions : ℕ) (processes : List Process) (c : Code) where
       (subst (λ params. AreArguments c.types c.variables params arguments) (sym same) h.5)
       (of-each c (typed-deep exceptions processes c (Call o arguments) is) has ps sound (given c.types c.variables o arguments) (λ f m. needed f (in-closed c.types c.variables (before ++ paths) f (in-append_right f before paths m))))
 
-pub typed-atoms : (exceptions : ℕ) (processes : List Process) (c : Code) → TypedAtomsAreFull exceptions processes c
+pub typed-atoms : (exceptions : ℕ) (processes : List Process) (c : Module) → TypedAtomsAreFull exceptions processes c
 typed-atoms exceptions processes c = record {
   removed = λ r t keys is. found-key exceptions processes c r t keys is.typed.0 is.typed.1 is.table (typed-deep exceptions processes c (Remove r t keys) is);
   got = λ r t keys is. found-key exceptions processes c r t keys is.typed.0 is.typed.1 is.table (typed-deep exceptions processes c (Get r t keys) is);

@@ -10,23 +10,23 @@ use Rattle.herm_model.specs.Types.{type_at}
 use Rattle.herm_model.specs.Values.{Parts}
 use Rattle.herm_model.specs.Typed.{Fits, many}
 use Rattle.herm_forms.specs.Forms.{rows_for}
-use Rattle.herm_forms.specs.Bodies.{Name, Body, goes}
-use Rattle.herm_forms.specs.Edges.{Code}
+use Rattle.herm_forms.specs.Frames.{Name, Frame, goes}
+use Rattle.herm_forms.specs.Modules.{Module}
 use Rattle.herm_forms.specs.Acts.{is_action, act}
-use Rattle.herm_forms.specs.Arrival.{AreSound}
-use Rattle.herm_forms.specs.TypedForms.{IsTypedIn}
+use Rattle.herm_forms.specs.laws.EdgeLaws.{AreSound}
+use Rattle.herm_forms.specs.laws.TypedForms.{IsTypedIn}
 
 -- In sound values that have what the form needs, it comes to an outcome. Language reference, "Sound states".
-abbrev pub GoesOn : Code → Form → Type 0
-GoesOn c form = (name : Name → Name) (statement : ℕ) (has : Fact → Bool) (b : Body Name) → AreSound c has b.variables → ((f : Fact) → IsIn f (needs c.types c.variables form) → IsTrue (has f))
-    → (o : Outcome) × (b' : Body Name) × (act name c statement form b ≡ goes o b')
+abbrev pub GoesOn : Module → Form → Type 0
+GoesOn c form = (name : Name → Name) (statement : ℕ) (has : Fact → Bool) (b : Frame Name) → AreSound c has b.variables → ((f : Fact) → IsIn f (needs c.types c.variables form) → IsTrue (has f))
+    → (o : Outcome) × (b' : Frame Name) × (act name c statement form b ≡ goes o b')
 
 -- So does a test of `for`, where the rows that its loop has yet to visit are full.
-abbrev pub VisitGoesOn : Code → (row : ℕ) → (target table : Path) → Type 0
-VisitGoesOn c row r t = (name : Name → Name) (statement : ℕ) (has : Fact → Bool) (b : Body Name) → AreSound c has b.variables → ((f : Fact) → IsIn f (needs c.types c.variables (For r t)) → IsTrue (has f))
-    → ((rs : Parts Name) → rows_for statement b.loops ≡ Some rs → Fits c.types (many row) rs) → (o : Outcome) × (b' : Body Name) × (act name c statement (For r t) b ≡ goes o b')
+abbrev pub VisitGoesOn : Module → (row : ℕ) → (target table : Path) → Type 0
+VisitGoesOn c row r t = (name : Name → Name) (statement : ℕ) (has : Fact → Bool) (b : Frame Name) → AreSound c has b.variables → ((f : Fact) → IsIn f (needs c.types c.variables (For r t)) → IsTrue (has f))
+    → ((rs : Parts Name) → rows_for statement b.loops ≡ Some rs → Fits c.types (many row) rs) → (o : Outcome) × (b' : Frame Name) × (act name c statement (For r t) b ≡ goes o b')
 
-module _ (exceptions : ℕ) (processes : List Process) (c : Code) where
+module _ (exceptions : ℕ) (processes : List Process) (c : Module) where
   abbrev pub LocalGoesOn : Form → Type 0
   LocalGoesOn form = IsTypedIn exceptions processes c form → GoesOn c form
 

@@ -4,7 +4,8 @@ use Rattle.herm_model.specs.Lists.{IsIn}
 use Rattle.herm_model.specs.Paths.{Path, Fact, init}
 use Rattle.herm_model.specs.Types.{TypeTable, is_within_depth, greatest_depth}
 use Rattle.herm_model.specs.Facts.{IsFactOf}
-use Rattle.herm_model.specs.Values.{Name, Parts, has_value, HasExactly}
+use Rattle.herm_model.specs.Values.{Name, Parts, has_value}
+use Rattle.herm_model.specs.FactsOfValues.{HasExactly}
 use Rattle.herm_model.specs.Finalising.{excess}
 
 -- The order of paths: by variables and then by parts, a path before those that go on from it.

@@ -7,8 +7,8 @@ use Rattle.herm_model.specs.WellFormedTables.{IsWellFormedTable}
 use Rattle.herm_model.specs.TypedPrograms.{IsTypedProcess}
 use Rattle.herm_model.specs.tests.TableTests.{broken_table_rules}
 use Rattle.herm_model.specs.tests.BodyTests.{ProcessRule, typed, broken_process_rules}
-use Rattle.herm_model.specs.judged.StatementTypes.{statement_types, helper, main_of}
-use Rattle.herm_model.specs.judged.TableRuleExamples.{TableExample}
+use Rattle.herm_model.specs.examples.StatementTypes.{statement_types, helper, main_of}
+use Rattle.herm_model.specs.examples.TableRuleExamples.{TableExample}
 
 -- there is one exception of the program, Busy
 abbrev pub example_exceptions : ℕ

@@ -4,13 +4,13 @@ use Rattle.herm_model.specs.Lists.{IsIn}
 use Rattle.herm_model.specs.Paths.{Path, Fact, init, case}
 use Rattle.herm_model.specs.Types.{Parameter, Raised, inport, callmessage, TypeTable, type_at, passes_component, is_within_depth, greatest_depth, full_parts, held_parts, variable_paths}
 use Rattle.herm_model.specs.Facts.{full_facts, declared_facts, IsFactOf}
-use Rattle.herm_model.specs.Expressions.{Literal, Expression, literal, copy, negated, inverted, operation, size_of, decimal, length_of, Atom, path, paths_read, paths_among}
+use Rattle.herm_model.specs.Expressions.{Literal, Expression, literal, copy, negation, logical_not, operation, size_of, decimal, length_of, Atom, path, paths_read, paths_among}
 use Rattle.herm_model.specs.Statements.{Form, Assign, Move, New, Discard, Unite, Dissolve, Reveal, Case, Wrap, Unwrap, Insert, Remove, Get, For, Connect, Send, Receive, Select, Call, Return, ReturnBy, Create, If, While, Raise, Leave, Arm, Process, Differ}
 use Rattle.herm_model.specs.Outcomes.{Outcome, outcomes, disconnected}
-use Rattle.herm_model.specs.Nodes.{Target}
+use Rattle.herm_model.specs.Targets.{Target}
 use Rattle.herm_model.specs.Calls.{call_raises, kept_for}
 use Rattle.herm_model.specs.StatementTable.{needs, makes, kills, set_by_call, kept_by_call}
-use Rattle.herm_model.specs.Control.{flow_of, Hop, Leads}
+use Rattle.herm_model.specs.ControlPaths.{flow_of, Hop, IsControlPath}
 use Rattle.herm_model.specs.TypedExpressions.{HasShape, IsLiteralOf}
 use Rattle.herm_model.specs.WellFormedTables.{IsType, IsWellFormedTable}
 use Rattle.herm_model.specs.TypedStatements.{IsTypedForm}
@@ -54,7 +54,7 @@ TypedFormsHaveTheirFacts = (exceptions : ℕ) (table : TypeTable) (variables : L
 -- What is held on a control path of a typed process is a fact of its variables.
 abbrev pub HeldFactsAreThere : Type 0
 HeldFactsAreThere = (exceptions : ℕ) (table : TypeTable) (processes : List Process) (p : Process) → IsWellFormedTable exceptions table → IsTypedProcess exceptions table processes p
-    → (hops : List Hop) (there : Target) (f : Fact) → Leads (flow_of table p) f hops there true → IsFactOf table p.variables f
+    → (hops : List Hop) (there : Target) (f : Fact) → IsControlPath (flow_of table p) f hops there true → IsFactOf table p.variables f
 
 -- The exceptions that a typed call's callmessage declares differ, are there, and keep arguments that the call sets; with
 -- Disconnected none is kept, and messages of the call's port travel full.
@@ -77,8 +77,8 @@ CallmessagesTravelFull = (exceptions : ℕ) (table : TypeTable) (port message : 
 abbrev pub literals_in : Expression → List Literal
 literals_in (literal l) = l ∷ []
 literals_in (copy p) = []
-literals_in (negated e) = literals_in e
-literals_in (inverted e) = literals_in e
+literals_in (negation e) = literals_in e
+literals_in (logical_not e) = literals_in e
 literals_in (operation o left right) = literals_in left ++ literals_in right
 literals_in (size_of p) = []
 literals_in (decimal e) = literals_in e

@@ -2,10 +2,11 @@
 use Rattle.std.specs.Prelude.{ℕ, ◌<◌, ◌≤◌, ◌↔◌, List, [], ◌++◌, length, Some, slice_get, IsTrue, ◌≡◌}
 use Rattle.herm_model.specs.Lists.{IsIn}
 use Rattle.herm_model.specs.Paths.{Fact}
-use Rattle.herm_model.specs.Types.{inport, TypeTable, predefined, is_within_depth, greatest_depth, all_parts, steps, variable_paths}
+use Rattle.herm_model.specs.Types.{inport, TypeTable, predefined, is_within_depth, greatest_depth, all_parts, part_paths, variable_paths}
 use Rattle.herm_model.specs.Statements.{Process, numbers_of_block, IsWellFormedBlock}
-use Rattle.herm_model.specs.Nodes.{node, Node, process_nodes}
-use Rattle.herm_model.specs.Control.{flow_of, IsReached}
+use Rattle.herm_model.specs.Nodes.{Node, process_nodes}
+use Rattle.herm_model.specs.Targets.{node}
+use Rattle.herm_model.specs.ControlPaths.{flow_of, IsReached}
 use Rattle.herm_model.specs.TypedExpressions.{HasShape}
 use Rattle.herm_model.specs.WellFormedTables.{predefined_exceptions, greatest_paths, BeginsPredefined, Reaches, IsType, OfEachShape, NamesTypes, HasKey, LeadsToInport, CopiesInputs, DeclaresFields, DeclaresOneCase, RaisesKnown, RaisesDifferent, KeepsReturned, KeepsRising, KeepsNoneDisconnected, IsWellFormedTable}
 use Rattle.herm_model.specs.TypedStatements.{IsTypedForm}
@@ -21,7 +22,7 @@ TableKeeps exceptions table types_known = OfEachShape table (NamesTypes table)
 TableKeeps exceptions table exceptions_known = OfEachShape table (RaisesKnown exceptions)
 TableKeeps exceptions table exceptions_differ = OfEachShape table RaisesDifferent
 TableKeeps exceptions table shallow = ((t : ℕ) → Reaches table t t → ⊥) × ((t : ℕ) → IsType table t → IsTrue (is_within_depth greatest_depth table t))
-TableKeeps exceptions table few_paths = (t : ℕ) → IsType table t → length (steps all_parts table t) ≤ greatest_paths
+TableKeeps exceptions table few_paths = (t : ℕ) → IsType table t → length (part_paths all_parts table t) ≤ greatest_paths
 TableKeeps exceptions table keys = OfEachShape table (HasKey table)
 TableKeeps exceptions table outports = OfEachShape table (LeadsToInport table)
 TableKeeps exceptions table inputs_copyable = OfEachShape table (CopiesInputs table)

@@ -1,8 +1,9 @@
 -- What is proved of texts of values whose type is not known.
 use Rattle.std.specs.Prelude.{◌≡◌, ℕ, List, map, ◌++◌, IsTrue, IsFalse}
-use Rattle.herm_model.specs.Lists.{every}
+use Rattle.herm_model.specs.Lists.{all_pass}
 use Rattle.herm_model.specs.Types.{TypeTable}
-use Rattle.herm_model.specs.Values.{Name, Value, Cell, forget}
+use Rattle.herm_model.specs.Values.{Name, Value, Cell}
+use Rattle.herm_model.specs.CellNames.{forget}
 use Rattle.herm_model.specs.Typed.{Degree, IsOf}
 use Rattle.herm_model.specs.Texts.{text_of}
 use Rattle.herm_model.specs.WellMade.{is_well_made, may_go_on}
@@ -15,7 +16,7 @@ TellsWellMade = (a b : Value) (r s : List ℕ) → IsTrue (is_well_made a) → I
 
 -- two lists of well made values with the same texts are the same
 abbrev pub TellsWellMadeLists : Type 0
-TellsWellMadeLists = (xs ys : List Value) → IsTrue (every is_well_made xs) → IsTrue (every is_well_made ys) → map text_of xs ≡ map text_of ys → xs ≡ ys
+TellsWellMadeLists = (xs ys : List Value) → IsTrue (all_pass is_well_made xs) → IsTrue (all_pass is_well_made ys) → map text_of xs ≡ map text_of ys → xs ≡ ys
 
 -- a value of a type, with all of its parts or some, is well made
 abbrev pub TypedAreWellMade : Type 0 → Type 0

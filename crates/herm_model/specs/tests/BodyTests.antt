@@ -1,9 +1,10 @@
 -- Tests of bodies, processes and programs, rule by rule. A law says that they decide which are typed.
 use Rattle.std.specs.Prelude.{ℕ, zero, suc, List, [], ◌∷◌, ◌++◌, map, filter, length, Bool, true, false, not, cond, ◌&&◌, ◌||◌, nat_eq, nat_lt, nat_le, is_some, slice_get}
-use Rattle.herm_model.specs.Lists.{with_some, every, some_of, numbered, range}
+use Rattle.herm_model.specs.Lists.{map_or, all_pass, any_pass, numbered, range}
 use Rattle.herm_model.specs.Types.{TypeTable, predefined, all_parts, variable_paths}
 use Rattle.herm_model.specs.Statements.{Form, Case, Statement, simple, choosing, repeating, leaving, trying, Block, no_statements, statement, Blocks, no_blocks, block, Handlers, no_handlers, handler, Process, Branching, goes_on, repeats, leaves, chooses, branching_of, count_blocks, numbers_of_block}
-use Rattle.herm_model.specs.Nodes.{Target, node, end, end_by, Node, process_nodes, entry_of, Exit, exits}
+use Rattle.herm_model.specs.Nodes.{Node, process_nodes, entry_of, Exit, exits}
+use Rattle.herm_model.specs.Targets.{Target, node, end, end_by}
 use Rattle.herm_model.specs.tests.TableTests.{broken_table_rules, are_different, on_inport}
 use Rattle.herm_model.specs.TypedStatements.{port_type}
 use Rattle.herm_model.specs.TypedPrograms.{greatest_statements, greatest_variable_paths, main_start, Placed, placed_in, handled, is_some_block, is_some_handler}
@@ -53,7 +54,7 @@ has_different_handlers l (trying body handlers) = are_different nat_eq (handled 
 has_different_handlers l _ = true
 
 abbrev pub handles_known : ℕ → Bool → Statement → Bool
-handles_known exceptions l (trying body handlers) = every (λ e. nat_lt e exceptions) (handled handlers)
+handles_known exceptions l (trying body handlers) = all_pass (λ e. nat_lt e exceptions) (handled handlers)
 handles_known exceptions l _ = true
 
 abbrev pub leaves_loop : Bool → Statement → Bool
@@ -61,7 +62,7 @@ leaves_loop l leaving = l
 leaves_loop l _ = true
 
 abbrev pub of_each_statement : Process → (Bool → Statement → Bool) → Bool
-of_each_statement p test = every (λ (s : Placed). test s.in_loop s.statement) (placed_in false p.body)
+of_each_statement p test = all_pass (λ (s : Placed). test s.in_loop s.statement) (placed_in false p.body)
 
 -- the places to which targets lead
 abbrev pub places_of : List Target → List ℕ
@@ -78,13 +79,13 @@ module _ (table : TypeTable) (p : Process) where
   -- since it goes back only to loops.
   abbrev pub sweep : List (ℕ × Node) → List ℕ → List ℕ
   sweep [] marked = marked
-  sweep (n ∷ ns) marked = sweep ns (cond (some_of (nat_eq n.0) marked) (places_behind n.1 ++ marked) marked)
+  sweep (n ∷ ns) marked = sweep ns (cond (any_pass (nat_eq n.0) marked) (places_behind n.1 ++ marked) marked)
 
   -- the entry is marked, and with each node what is behind it
   abbrev pub are_settled : List ℕ → Bool
   are_settled marked =
-      every (λ i. some_of (nat_eq i) marked) (places_of (entry_of p ∷ []))
-      && every (λ n. not (some_of (nat_eq n.0) marked) || every (λ i. some_of (nat_eq i) marked) (places_behind n.1)) (numbered 0 (process_nodes p))
+      all_pass (λ i. any_pass (nat_eq i) marked) (places_of (entry_of p ∷ []))
+      && all_pass (λ n. not (any_pass (nat_eq n.0) marked) || all_pass (λ i. any_pass (nat_eq i) marked) (places_behind n.1)) (numbered 0 (process_nodes p))
 
   -- sweeps until the marks are settled, at most so many
   abbrev pub settle : ℕ → List ℕ → List ℕ
@@ -96,7 +97,7 @@ module _ (table : TypeTable) (p : Process) where
   marked_places = settle (suc (length (process_nodes p))) (places_of (entry_of p ∷ []))
 
   abbrev pub is_marked : ℕ → Bool
-  is_marked i = some_of (nat_eq i) marked_places
+  is_marked i = any_pass (nat_eq i) marked_places
 
 -- The rules of processes, by the names of the parts of a typed process.
 pub data ProcessRule : Type 0 where
@@ -108,8 +109,8 @@ process_rules = port ∷ variables_known ∷ few_variable_paths ∷ few_statemen
 
 -- whether a process keeps a rule
 abbrev pub keeps_process_rule : (exceptions : ℕ) → TypeTable → List Process → Process → ProcessRule → Bool
-keeps_process_rule exceptions table processes p port = with_some false (λ t. on_inport (λ message declared. true) (slice_get table t)) (slice_get p.variables 0)
-keeps_process_rule exceptions table processes p variables_known = every (λ t. is_some (slice_get table t)) p.variables
+keeps_process_rule exceptions table processes p port = map_or false (λ t. on_inport (λ message declared. true) (slice_get table t)) (slice_get p.variables 0)
+keeps_process_rule exceptions table processes p variables_known = all_pass (λ t. is_some (slice_get table t)) p.variables
 keeps_process_rule exceptions table processes p few_variable_paths = nat_le (length (variable_paths all_parts table p.variables)) greatest_variable_paths
 keeps_process_rule exceptions table processes p few_statements = nat_le (numbers_of_block p.body) greatest_statements
 keeps_process_rule exceptions table processes p blocks = is_well_formed_block p.body
@@ -118,8 +119,8 @@ keeps_process_rule exceptions table processes p handlers = of_each_statement p h
 keeps_process_rule exceptions table processes p handlers_differ = of_each_statement p has_different_handlers
 keeps_process_rule exceptions table processes p handlers_known = of_each_statement p (handles_known exceptions)
 keeps_process_rule exceptions table processes p leaves_in_loops = of_each_statement p leaves_loop
-keeps_process_rule exceptions table processes p typed = every (λ (n : Node). is_typed_form table p.variables exceptions processes n.form) (process_nodes p)
-keeps_process_rule exceptions table processes p reached = every (is_marked table p) (range 0 (length (process_nodes p)))
+keeps_process_rule exceptions table processes p typed = all_pass (λ (n : Node). is_typed_form table p.variables exceptions processes n.form) (process_nodes p)
+keeps_process_rule exceptions table processes p reached = all_pass (is_marked table p) (range 0 (length (process_nodes p)))
 
 -- the rules that are broken
 abbrev pub broken_process_rules : (exceptions : ℕ) → TypeTable → List Process → Process → List ProcessRule
@@ -132,4 +133,4 @@ is_empty (x ∷ xs) = false
 -- whether a program is typed
 abbrev pub is_typed_program : (exceptions : ℕ) → (defined : TypeTable) → List Process → (main : ℕ) → Bool
 is_typed_program exceptions defined processes main =
-    is_empty (broken_table_rules exceptions defined) && (every (λ p. is_empty (broken_process_rules exceptions (predefined ++ defined) processes p)) processes && is_number (port_type processes main) main_start)
+    is_empty (broken_table_rules exceptions defined) && (all_pass (λ p. is_empty (broken_process_rules exceptions (predefined ++ defined) processes p)) processes && is_number (port_type processes main) main_start)

@@ -1,9 +1,10 @@
 -- Tests of expressions and forms. A law says that they decide which are typed.
 use Rattle.std.specs.Prelude.{ℕ, List, [], ◌∷◌, map, length, Bool, true, false, cond, ◌&&◌, nat_eq, nat_lt, Option, Some, None, is_some, slice_get, option_and_then}
-use Rattle.herm_model.specs.Lists.{with_some, every, some_of, range}
+use Rattle.herm_model.specs.Lists.{map_or, all_pass, any_pass, range}
 use Rattle.herm_model.specs.Paths.{Path, same_path, are_apart}
-use Rattle.herm_model.specs.Types.{Mode, by_in, by_inout, by_out, Parameter, Raised, Shape, boolean, integer, polymorph, names, TypeTable, greatest_depth, type_at, passes_component, is_copyable_within}
-use Rattle.herm_model.specs.Expressions.{Literal, Expression, literal, copy, negated, inverted, operation, size_of, decimal, length_of, Atom, path}
+use Rattle.herm_model.specs.Types.{Mode, by_in, by_inout, by_out, Parameter, Raised, Shape, boolean, integer, polymorph, names, TypeTable, greatest_depth, type_at, passes_component}
+use Rattle.herm_model.specs.Copyable.{is_copyable_within}
+use Rattle.herm_model.specs.Expressions.{Literal, Expression, literal, copy, negation, logical_not, operation, size_of, decimal, length_of, Atom, path}
 use Rattle.herm_model.specs.Typed.{is_integer, is_text}
 use Rattle.herm_model.specs.Statements.{Form, Assign, Move, New, Discard, Unite, Dissolve, Reveal, Case, Wrap, Unwrap, Insert, Remove, Get, For, Connect, Send, Receive, Select, Call, Return, ReturnBy, Create, If, While, Raise, Leave, Arm, Process}
 use Rattle.herm_model.specs.StatementTable.{set_by_call}
@@ -37,7 +38,7 @@ is_polymorph o = false
 -- none is at or below another
 abbrev pub are_all_apart : List Path → Bool
 are_all_apart [] = true
-are_all_apart (x ∷ xs) = every (are_apart x) xs && are_all_apart xs
+are_all_apart (x ∷ xs) = all_pass (are_apart x) xs && are_all_apart xs
 
 module _ (table : TypeTable) where
   abbrev pub literal_type : Literal → Option ℕ
@@ -58,15 +59,15 @@ module _ (table : TypeTable) where
     copied_type p = option_and_then (λ t. cond (is_copyable_within greatest_depth table t) (Some t) None) (seen_type p)
 
     abbrev pub is_table : Path → Bool
-    is_table p = with_some false (λ t. on_rows (λ row key. true) (slice_get table t)) (seen_type p)
+    is_table p = map_or false (λ t. on_rows (λ row key. true) (slice_get table t)) (seen_type p)
 
     abbrev pub expression_type : Expression → Option ℕ
     expression_type (literal l) = literal_type l
     expression_type (copy p) = copied_type p
-    expression_type (negated e) = given_if 1 1 (expression_type e)
-    expression_type (inverted e) = given_if 0 0 (expression_type e)
+    expression_type (negation e) = given_if 1 1 (expression_type e)
+    expression_type (logical_not e) = given_if 0 0 (expression_type e)
     expression_type (operation o left right) =
-        option_and_then (λ t. cond (with_some false (takes o) (slice_get table t) && is_number (expression_type right) t) (Some (number_of_shape (shape_given o))) None) (expression_type left)
+        option_and_then (λ t. cond (map_or false (takes o) (slice_get table t) && is_number (expression_type right) t) (Some (number_of_shape (shape_given o))) None) (expression_type left)
     expression_type (size_of p) = cond (is_table p) (Some 1) None
     expression_type (decimal e) = given_if 1 2 (expression_type e)
     expression_type (length_of e) = given_if 2 1 (expression_type e)
@@ -92,21 +93,21 @@ module _ (table : TypeTable) where
     are_keys ts [] [] = true
     are_keys ts [] (a ∷ atoms) = false
     are_keys ts (i ∷ key) [] = false
-    are_keys ts (i ∷ key) (a ∷ atoms) = with_some false (is_number (atom_type a)) (slice_get ts i) && are_keys ts key atoms
+    are_keys ts (i ∷ key) (a ∷ atoms) = map_or false (is_number (atom_type a)) (slice_get ts i) && are_keys ts key atoms
 
     -- a test of the rows and the key of the table at a path, and of the messages of the port at a path
     abbrev pub at_table : Path → (ℕ → List ℕ → Bool) → Bool
-    at_table p test = with_some false (λ t. on_rows test (slice_get table t)) (seen_type p)
+    at_table p test = map_or false (λ t. on_rows test (slice_get table t)) (seen_type p)
 
     abbrev pub at_outport : Path → (ℕ → Bool) → Bool
-    at_outport o test = with_some false (λ t. on_outport (λ port. on_inport (λ message declared. test message) (slice_get table port)) (slice_get table t)) (seen_type o)
+    at_outport o test = map_or false (λ t. on_outport (λ port. on_inport (λ message declared. test message) (slice_get table port)) (slice_get table t)) (seen_type o)
 
     abbrev pub at_inport : Path → (ℕ → Bool) → Bool
-    at_inport i test = with_some false (λ t. on_inport (λ message declared. test message) (slice_get table t)) (seen_type i)
+    at_inport i test = map_or false (λ t. on_inport (λ message declared. test message) (slice_get table t)) (seen_type i)
 
     -- a test of a component's type
     abbrev pub at_component_type : ℕ → ℕ → (ℕ → Bool) → Bool
-    at_component_type t c test = on_cases (λ ts. with_some false test (slice_get ts c)) (slice_get table t)
+    at_component_type t c test = on_cases (λ ts. map_or false test (slice_get ts c)) (slice_get table t)
 
     abbrev pub is_found : Path → Path → List Atom → (ℕ → Bool) → Bool
     is_found r t keys test = at_table t (λ row key. is_number (own_type r) row && test row && on_fields (λ ts. are_keys ts key keys) (slice_get table row))
@@ -115,35 +116,35 @@ module _ (table : TypeTable) where
     is_received x i = at_inport i (is_number (own_type x))
 
     abbrev pub at_returned : Path → (List Raised → Bool) → Bool
-    at_returned m test = with_some false (λ t. on_callmessage (λ parameters raises. test raises) (slice_get table t)) (own_type m)
+    at_returned m test = map_or false (λ t. on_callmessage (λ parameters raises. test raises) (slice_get table t)) (own_type m)
 
     abbrev pub is_test : Expression → Bool
     is_test e = is_number (expression_type e) 0
 
     module _ (exceptions : ℕ) (processes : List Process) where
       abbrev pub is_typed_form : Form → Bool
-      is_typed_form (Assign x e) = with_some false (is_number (expression_type e)) (own_type x)
-      is_typed_form (Move y x) = with_some false (is_number (own_type x)) (own_type y) && are_apart y x
-      is_typed_form (New x) = with_some false (λ t. with_some false can_be_new (slice_get table t)) (own_type x)
+      is_typed_form (Assign x e) = map_or false (is_number (expression_type e)) (own_type x)
+      is_typed_form (Move y x) = map_or false (is_number (own_type x)) (own_type y) && are_apart y x
+      is_typed_form (New x) = map_or false (λ t. map_or false can_be_new (slice_get table t)) (own_type x)
       is_typed_form (Discard x) = is_some (own_type x)
-      is_typed_form (Unite v c y) = with_some false (λ t. at_component_type t c (is_number (own_type y))) (own_type v) && are_apart y v
-      is_typed_form (Dissolve v c y) = with_some false (λ t. at_component_type t c (is_number (own_type y))) (own_type v) && are_apart v y
-      is_typed_form (Reveal v c) = with_some false (λ t. at_component_type t c (λ u. true)) (seen_type v)
-      is_typed_form (Case v cs) = with_some false (λ t. on_cases (λ ts. are_different nat_eq cs && (every (λ c. nat_lt c (length ts)) cs && every (λ c. some_of (nat_eq c) cs) (range 0 (length ts)))) (slice_get table t)) (seen_type v)
-      is_typed_form (Wrap y p) = (is_some (own_type y) && with_some false (λ t. is_polymorph (slice_get table t)) (own_type p)) && are_apart y p
-      is_typed_form (Unwrap p t y) = (is_number (own_type y) t && with_some false (λ u. is_polymorph (slice_get table u)) (own_type p)) && are_apart p y
+      is_typed_form (Unite v c y) = map_or false (λ t. at_component_type t c (is_number (own_type y))) (own_type v) && are_apart y v
+      is_typed_form (Dissolve v c y) = map_or false (λ t. at_component_type t c (is_number (own_type y))) (own_type v) && are_apart v y
+      is_typed_form (Reveal v c) = map_or false (λ t. at_component_type t c (λ u. true)) (seen_type v)
+      is_typed_form (Case v cs) = map_or false (λ t. on_cases (λ ts. are_different nat_eq cs && (all_pass (λ c. nat_lt c (length ts)) cs && all_pass (λ c. any_pass (nat_eq c) cs) (range 0 (length ts)))) (slice_get table t)) (seen_type v)
+      is_typed_form (Wrap y p) = (is_some (own_type y) && map_or false (λ t. is_polymorph (slice_get table t)) (own_type p)) && are_apart y p
+      is_typed_form (Unwrap p t y) = (is_number (own_type y) t && map_or false (λ u. is_polymorph (slice_get table u)) (own_type p)) && are_apart p y
       is_typed_form (Insert r t) = at_table t (λ row key. is_number (own_type r) row)
       is_typed_form (Remove r t keys) = is_found r t keys (λ row. true)
       is_typed_form (Get r t keys) = is_found r t keys (is_copyable_within greatest_depth table)
       is_typed_form (For r t) = at_table t (λ row key. is_number (own_type r) row && is_copyable_within greatest_depth table row)
-      is_typed_form (Connect o i) = with_some false (λ t. on_outport (is_number (seen_type i)) (slice_get table t)) (own_type o)
+      is_typed_form (Connect o i) = map_or false (λ t. on_outport (is_number (seen_type i)) (slice_get table t)) (own_type o)
       is_typed_form (Send x o) = at_outport o (is_number (own_type x))
       is_typed_form (Receive x i) = is_received x i
-      is_typed_form (Select arms) = are_different same_path (map (λ (a : Arm). a.port) arms) && every (λ (a : Arm). is_received a.target a.port) arms
+      is_typed_form (Select arms) = are_different same_path (map (λ (a : Arm). a.port) arms) && all_pass (λ (a : Arm). is_received a.target a.port) arms
       is_typed_form (Call o arguments) = at_outport o (λ message. on_callmessage (λ parameters raises. are_arguments parameters arguments) (slice_get table message)) && are_all_apart (set_by_call table variables o arguments)
       is_typed_form (Return m) = at_returned m (λ raises. true)
-      is_typed_form (ReturnBy m e) = at_returned m (λ raises. some_of (nat_eq e) (map (λ (r : Raised). r.exception) raises))
-      is_typed_form (Create o n) = with_some false (λ t. on_outport (is_number (port_type processes n)) (slice_get table t)) (own_type o)
+      is_typed_form (ReturnBy m e) = at_returned m (λ raises. any_pass (nat_eq e) (map (λ (r : Raised). r.exception) raises))
+      is_typed_form (Create o n) = map_or false (λ t. on_outport (is_number (port_type processes n)) (slice_get table t)) (own_type o)
       is_typed_form (If e) = is_test e
       is_typed_form (While e) = is_test e
       is_typed_form (Raise e) = nat_lt e exceptions

@@ -5,7 +5,7 @@ use Rattle.herm_journal.specs.Actions.{make_port, make_process, put, take, close
 use Rattle.herm_journal.specs.Messages.{CellAction}
 use Rattle.herm_system.specs.Ledger.{held_by}
 use Rattle.herm_runs.specs.Joining.{BothOrNone, ShowTheSame, AreJoined}
-use Rattle.herm_runs.specs.Countdowns.{OwnPort, Down, begin_down, down_behind, counting_down, Up, begin_up, up_behind, counting_up, as_down, AtMostTwo, AtMostOne, CountTheSame}
+use Rattle.herm_runs.specs.examples.Countdowns.{OwnPort, Down, begin_down, down_behind, counting_down, Up, begin_up, up_behind, counting_up, as_down, AtMostTwo, AtMostOne, CountTheSame}
 
 module _ {N : Type 0} (name : Name → N) where
   abbrev up_with : (number made actions : ℕ) → List (Cell N) → List (OwnPort N) → List N → Up N
@@ -41,7 +41,7 @@ module _ {N : Type 0} (name : Name → N) where
   -- a state shows the same as the one that it stands for
   shows : (y : Up N) → AtMostTwo y.made → AtMostOne y.outbox → AtMostOne y.unclosed → ShowTheSame (counting_down name) (counting_up name) (as_down y) y
   shows y few one alone = record {
-    code = refl;
+    module_number = refl;
     number = refl;
     serial = refl;
     steps = refl;

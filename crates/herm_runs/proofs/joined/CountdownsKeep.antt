@@ -5,8 +5,8 @@ use Rattle.herm_model.specs.Values.{Name, a_scalar, a_record, a_variant, a_table
 use Rattle.herm_model.proofs.Options.{some-injective, none-not_some}
 use Rattle.herm_journal.specs.Actions.{put, close}
 use Rattle.herm_journal.specs.Messages.{CellAction}
-use Rattle.herm_runs.specs.OneProcess.{KeepsNumbers}
-use Rattle.herm_runs.specs.Countdowns.{OwnPort, Down, begin_down, down_steps, down_behind, counting_down, Up, begin_up, up_steps, up_behind, counting_up, as_named}
+use Rattle.herm_runs.specs.laws.ProcessLaws.{KeepsNumbers}
+use Rattle.herm_runs.specs.examples.Countdowns.{OwnPort, Down, begin_down, down_steps, down_behind, counting_down, Up, begin_up, up_steps, up_behind, counting_up, as_named}
 
 -- the number of a state that is there
 module _ {X : Type 0} (of : X → ℕ) (n : ℕ) where

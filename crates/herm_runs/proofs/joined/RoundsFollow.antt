@@ -3,13 +3,13 @@ use Rattle.std.proofs.Common.{◌≡◌, ℕ, zero, suc, List, [], ◌∷◌, Bo
 use Rattle.std.specs.Prelude.{is_some, find}
 use Rattle.herm_model.specs.Values.{Name}
 use Rattle.herm_model.proofs.Options.{some-injective, none-not_some, map-some}
-use Rattle.herm_journal.specs.Places.{Book}
+use Rattle.herm_journal.specs.PlaceStates.{Book}
 use Rattle.herm_journal.specs.Entries.{Place}
 use Rattle.herm_journal.specs.Messages.{CellWant}
 use Rattle.herm_system.specs.Machines.{Machine, is_local, is_acting}
 use Rattle.herm_system.specs.Systems.{System, Event, steps, acts, Run, run_on, start, done_in, done_at, places_for, numbered_from_one}
 use Rattle.herm_system.specs.Rounds.{Round, first_place, place_or_book, turn, after_turn, turns, one_round, rounds}
-use Rattle.herm_runs.specs.OneProcess.{KeepsNumbers}
+use Rattle.herm_runs.specs.laws.ProcessLaws.{KeepsNumbers}
 use Rattle.herm_runs.specs.Joining.{BothOrNone, AreJoined, Correspond, LookAlike, turned, RoundsFollow}
 use Rattle.herm_runs.proofs.RoundsEnd.{elim-some}
 use Rattle.herm_runs.proofs.joined.Turned.{joined-turned}

@@ -3,13 +3,13 @@ use Rattle.std.proofs.Common.{◌≡◌, List, [], ◌∷◌, Some, option_and_t
 use Rattle.herm_model.specs.Lists.{list_of}
 use Rattle.herm_model.specs.Values.{Name}
 use Rattle.herm_model.proofs.Options.{some-injective, chain-some, map-some}
-use Rattle.herm_journal.specs.Places.{Limits}
+use Rattle.herm_journal.specs.PlaceStates.{Limits}
 use Rattle.herm_journal.specs.Entries.{Text}
 use Rattle.herm_system.specs.Machines.{Machine}
 use Rattle.herm_system.specs.Systems.{Moved, Event, Run, run, run_on, step, start, opening, main_port, with_entry}
 use Rattle.herm_system.specs.Sound.{IsNumbered}
-use Rattle.herm_runs.specs.OneProcess.{KeepsNumbers}
-use Rattle.herm_runs.specs.DiaryLaws.{SuitsAlong}
+use Rattle.herm_runs.specs.laws.ProcessLaws.{KeepsNumbers}
+use Rattle.herm_runs.specs.laws.DiaryLaws.{SuitsAlong}
 use Rattle.herm_runs.specs.Joining.{AreJoined, EachOf, Correspond, RunTogether}
 use Rattle.herm_runs.proofs.Numbered.{step-numbered, opening-numbered}
 use Rattle.herm_runs.proofs.joined.SameOutside.{alike}

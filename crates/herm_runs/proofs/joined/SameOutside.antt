@@ -1,17 +1,21 @@
 -- Systems that correspond are the same from outside.
 use Rattle.std.proofs.Common.{◌≡◌, ℕ, zero, suc, ◌+◌, List, [], ◌∷◌, ◌++◌, map, flat_map, Bool, false, ◌||◌, Option, Some, None, option_map, option_and_then, slice_get, length, refl, sym, ap, ap₂, ◌∙◌, arith}
 use Rattle.std.specs.Prelude.{is_some}
-use Rattle.herm_model.specs.Lists.{some_of, list_of, numbered, total}
+use Rattle.herm_model.specs.Lists.{any_pass, list_of, numbered, total}
 use Rattle.herm_model.specs.Values.{Name, Cell}
 use Rattle.herm_model.specs.Texts.{text_of}
-use Rattle.herm_journal.specs.Places.{Port, left_in, first_of, Book, a_port, replies, a_book}
+use Rattle.herm_journal.specs.PlaceStates.{Port, left_in, first_of, Book, a_port, replies, a_book}
 use Rattle.herm_journal.specs.Entries.{Text, Place, port, reply_cell, book, Entry}
 use Rattle.herm_journal.specs.Messages.{CellWant}
 use Rattle.herm_journal.specs.Weights.{weigh_serials}
 use Rattle.herm_system.specs.Machines.{Machine, Standing, is_local, is_acting}
 use Rattle.herm_system.specs.Systems.{opening_name, System, can, can_be_done, seen_as, standing, stands, done_in, done_at, places_for, holding_at, numbered_from_one, can_step}
 use Rattle.herm_system.specs.Ledger.{queued_at, queued_for, made_by, held_by, finalised_by, made_in, held_in, finalised_in, queued_in}
-use Rattle.herm_system.specs.Statuses.{line, bytes_of, Fate, fate_as, fate_of, fates, Counts, counts, how_many, has_ended, is_waiting, is_stopped, cut, one, status_by, status_of, status_line_by, status_line, summary, console_text, Asked, plainly, with_summary, the_journal, text_of_run}
+use Rattle.herm_system.specs.Statuses.{status_by, status_of, status_line_by, status_line}
+use Rattle.herm_system.specs.RunTexts.{bytes_of, console_text, Asked, plainly, with_summary, the_journal, text_of_run}
+use Rattle.herm_system.specs.Summary.{Counts, counts, how_many, cut, one, summary}
+use Rattle.herm_system.specs.Lines.{line}
+use Rattle.herm_system.specs.ProcessFates.{Fate, fate_as, fate_of, fates, has_ended, is_waiting, is_stopped}
 use Rattle.herm_runs.specs.Joining.{BothOrNone, AreJoined, EachOf, Correspond, LookAlike}
 
 -- what is found among processes that correspond
@@ -52,7 +56,7 @@ holding-same R s t c (reply_cell p) = ap (λ rs. option_map replies (numbered_fr
 holding-same R s t c book = ap (λ (b : Book). Some (a_book b)) c.book
 
 module _ {P Q : Type 0} (a : Machine Name P) (b : Machine Name Q) (R : P → Q → Type 0) (j : AreJoined a b R) (s : System P) (t : System Q) (c : Correspond R s t) where
-  can-along : (w : CellWant Name) (places : List Place) → some_of (λ place. is_some (done_in w s place)) places ≡ some_of (λ place. is_some (done_in w t place)) places
+  can-along : (w : CellWant Name) (places : List Place) → any_pass (λ place. is_some (done_in w s place)) places ≡ any_pass (λ place. is_some (done_in w t place)) places
   can-along w [] = refl
   can-along w (place ∷ places) = ap₂ (λ (m n : Bool). m || n) (ap (λ o. is_some (option_and_then (done_at w) o)) (holding-same R s t c place)) (can-along w places)
 
@@ -68,7 +72,7 @@ module _ {P Q : Type 0} (a : Machine Name P) (b : Machine Name Q) (R : P → Q �
       ap₂ seen_as (ap (λ limit. a.ready limit x) limits ∙ shows.ready t.book.limits.steps) (ap (can_be_done (can s p)) shows.wanted ∙ can-same p (b.wanted y))
 
   stands-option : (test : Standing → Bool) (p : ℕ) (o : Option P) (q : Option Q) → BothOrNone R o q
-      → some_of test (list_of (λ x. x ∷ []) (option_map (standing a s.book.limits.steps (can s p)) o)) ≡ some_of test (list_of (λ x. x ∷ []) (option_map (standing b t.book.limits.steps (can t p)) q))
+      → any_pass test (list_of (λ x. x ∷ []) (option_map (standing a s.book.limits.steps (can s p)) o)) ≡ any_pass test (list_of (λ x. x ∷ []) (option_map (standing b t.book.limits.steps (can t p)) q))
   stands-option test p None None h = refl
   stands-option test p None (Some y) h = absurd h
   stands-option test p (Some x) None h = absurd h

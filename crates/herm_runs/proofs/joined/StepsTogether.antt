@@ -1,20 +1,21 @@
 -- What an event leads to in one of two joined machines, it leads to in the other.
 use Rattle.std.proofs.Common.{◌≡◌, ℕ, zero, suc, List, [], ◌∷◌, ◌++◌, true, cond, Option, Some, None, option_map, option_and_then, slice_set, refl, sym, ap, ap₂, subst, ◌∙◌}
 use Rattle.std.specs.Prelude.{IsTrue}
-use Rattle.herm_model.specs.Lists.{some_of}
+use Rattle.herm_model.specs.Lists.{any_pass}
 use Rattle.herm_model.specs.Values.{Name, Cell, cell, an_inport, no_parts}
 use Rattle.herm_model.proofs.Options.{some-injective, none-not_some, chain-some, map-some}
 use Rattle.herm_journal.specs.Actions.{make_port, make_process, put, take, close, answer, hear}
-use Rattle.herm_journal.specs.Places.{empty_port, Holding, a_port, replies, a_book, after}
+use Rattle.herm_journal.specs.PlaceStates.{empty_port, PlaceState, a_port, replies, a_book, after}
 use Rattle.herm_journal.specs.Entries.{Place, port, reply_cell, book, same_place}
 use Rattle.herm_journal.specs.Messages.{CellReply, CellAction}
 use Rattle.herm_system.specs.Machines.{Machine, is_local, is_acting, inport_of}
 use Rattle.herm_system.specs.Systems.{System, Moved, Event, steps, acts, step, can, can_be_done, stands, with_made, set_process, set_holding, holding_at, local_event, act_at, action_event, behind_action, numbered_from_one, set_from_one, places_for, done_at, number_of}
-use Rattle.herm_system.specs.Along.{Fulfils}
-use Rattle.herm_runs.specs.DiaryLaws.{EventSuits}
+use Rattle.herm_system.specs.Suiting.{Fulfils}
+use Rattle.herm_runs.specs.laws.DiaryLaws.{EventSuits}
 use Rattle.herm_runs.specs.Joining.{BothOrNone, AreJoined, EachOf, Correspond, turned}
 use Rattle.herm_runs.proofs.SystemLedger.{process-some}
-use Rattle.herm_runs.proofs.Stands.{cond-both, seen-local, stands-as}
+use Rattle.herm_runs.proofs.Stands.{seen-local, stands-as}
+use Rattle.herm_runs.proofs.ActionParts.{cond-both}
 use Rattle.herm_runs.proofs.DiariesTold.{done-fulfils}
 use Rattle.herm_runs.proofs.joined.Turned.{both-turned, suits-same}
 use Rattle.herm_runs.proofs.joined.SameOutside.{each-found, holding-same, stands-same}
@@ -46,7 +47,7 @@ module _ {P Q : Type 0} (R : P → Q → Type 0) where
   pub process-together : (p : ℕ) (x : P) (y : Q) (s : System P) (t : System Q) → R x y → Correspond R s t → Correspond R (set_process p x s) (set_process p y t)
   process-together p x y s t r c = record { processes = each-set_from_one p s.processes t.processes x y r c.processes; ports = c.ports; replies = c.replies; book = c.book }
 
-  place-together : (place : Place) (h : Holding (Cell Name) (CellReply Name)) (s : System P) (t : System Q) → Correspond R s t → Correspond R (set_holding place h s) (set_holding place h t)
+  place-together : (place : Place) (h : PlaceState (Cell Name) (CellReply Name)) (s : System P) (t : System Q) → Correspond R s t → Correspond R (set_holding place h s) (set_holding place h t)
   place-together (port n) (a_port q) s t c = record { processes = c.processes; ports = ap (λ ps. slice_set ps n q) c.ports; replies = c.replies; book = c.book }
   place-together (reply_cell p) (replies rs) s t c = record { processes = c.processes; ports = c.ports; replies = ap (set_from_one p rs) c.replies; book = c.book }
   place-together book (a_book b) s t c = record { processes = c.processes; ports = c.ports; replies = c.replies; book = refl }
@@ -117,7 +118,7 @@ module _ {P Q : Type 0} (a : Machine Name P) (b : Machine Name Q) (R : P → Q �
       let e' = cond-both (stands is_acting a s p) _ m e in
       let x = process-some s p _ m e'.1 in
       let want = chain-some (act_at a p place s x.state) (a.wanted x.state) m x.does in
-      let among = cond-both (some_of (same_place place) (places_for p want.0)) _ m want.2 in
+      let among = cond-both (any_pass (same_place place) (places_for p want.0)) _ m want.2 in
       let at = chain-some _ (holding_at place s) m among.1 in
       let did = chain-some (behind_action a p place s x.state at.0) (done_at want.0 at.0) m at.2 in
       let left = chain-some _ (a.answered x.state (number_of place) did.0) m did.2 in
@@ -125,7 +126,7 @@ module _ {P Q : Type 0} (a : Machine Name P) (b : Machine Name Q) (R : P → Q �
       let y = there R (numbered_from_one p s.processes) (numbered_from_one p t.processes) x.state (each-found R s.processes t.processes p c.processes) x.is in
       let shows = j.shows x.state y.0 y.2 in
       let suit = suits x.state m did.0 x.is e (sym (ap (λ (k : Moved P). k.done) makes.2)) in
-      let own : IsTrue (some_of (same_place place) (places_for (a.number x.state) want.0)) = subst (λ q. IsTrue (some_of (same_place place) (places_for q want.0))) (sym (numbers x.state x.is)) among.0 in
+      let own : IsTrue (any_pass (same_place place) (places_for (a.number x.state) want.0)) = subst (λ q. IsTrue (any_pass (same_place place) (places_for q want.0))) (sym (numbers x.state x.is)) among.0 in
       let fulfils : Fulfils a x.state place did.0 = (want.0, want.1, own, done-fulfils want.0 at.0 did.0 did.1) in
       let z = there R (a.answered x.state (number_of place) did.0) (b.answered y.0 (number_of place) did.0) left.0 (j.answers x.state y.0 place did.0 y.2 fulfils suit) left.1 in
       let moved = process-together R p left.0 z.0 (set_holding place (after did.0 at.0) s) (set_holding place (after did.0 at.0) t) z.2 (place-together R place (after did.0 at.0) s t c) in

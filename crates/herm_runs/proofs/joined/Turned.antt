@@ -1,13 +1,13 @@
 -- Two joined machines are joined the other way round.
 use Rattle.std.proofs.Common.{◌≡◌, ℕ, List, [], ◌∷◌, Option, Some, None, sym, ap, subst, ◌∙◌}
 use Rattle.std.specs.Prelude.{IsTrue}
-use Rattle.herm_model.specs.Lists.{some_of}
+use Rattle.herm_model.specs.Lists.{any_pass}
 use Rattle.herm_journal.specs.Actions.{make_port, make_process, put, take, close, answer, hear}
 use Rattle.herm_journal.specs.Entries.{Place, same_place}
 use Rattle.herm_journal.specs.Messages.{CellAction, IsMessage, IsReplyTo}
 use Rattle.herm_system.specs.Machines.{Machine, is_local}
 use Rattle.herm_system.specs.Systems.{places_for, number_of}
-use Rattle.herm_system.specs.Along.{Fulfils, Suits}
+use Rattle.herm_system.specs.Suiting.{Fulfils, Suits}
 use Rattle.herm_runs.specs.Joining.{BothOrNone, ShowTheSame, AreJoined, EachOf, turned}
 
 pub both-turned : {X Y : Type 0} (R : X → Y → Type 0) (o : Option X) (p : Option Y) → BothOrNone R o p → BothOrNone (turned R) p o
@@ -18,7 +18,7 @@ both-turned R (Some x) (Some y) h = h
 
 pub shows-turned : {N P Q : Type 0} (a : Machine N P) (b : Machine N Q) (x : P) (y : Q) → ShowTheSame a b x y → ShowTheSame b a y x
 shows-turned a b x y h = record {
-  code = sym h.code;
+  module_number = sym h.module_number;
   number = sym h.number;
   serial = sym h.serial;
   steps = sym h.steps;
@@ -45,7 +45,7 @@ module _ {N P Q : Type 0} (a : Machine N P) (b : Machine N Q) (types : a.types �
 
   pub fulfils-same : (place : Place) (action : CellAction N) → Fulfils a x place action → Fulfils b y place action
   fulfils-same place action h =
-      (h.0, sym shows.wanted ∙ h.1, subst (λ p. IsTrue (some_of (same_place place) (places_for p h.0))) shows.number h.2, h.3)
+      (h.0, sym shows.wanted ∙ h.1, subst (λ p. IsTrue (any_pass (same_place place) (places_for p h.0))) shows.number h.2, h.3)
 
 pub joined-turned : {N P Q : Type 0} (a : Machine N P) (b : Machine N Q) (R : P → Q → Type 0) → AreJoined a b R → AreJoined b a (turned R)
 joined-turned a b R j = record {

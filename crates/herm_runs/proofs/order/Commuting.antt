@@ -4,7 +4,7 @@ use Rattle.std.specs.Prelude.{nat_eq}
 use Rattle.std.proofs.lemmas.Bool.{eqb-true}
 use Rattle.herm_model.specs.Values.{Cell, Name}
 use Rattle.herm_model.proofs.Options.{none-not_some, map-some}
-use Rattle.herm_journal.specs.Places.{empty_port, Holding, a_port, replies, a_book}
+use Rattle.herm_journal.specs.PlaceStates.{empty_port, PlaceState, a_port, replies, a_book}
 use Rattle.herm_journal.specs.Entries.{Place, port, reply_cell, book, same_place}
 use Rattle.herm_journal.specs.Messages.{CellReply}
 use Rattle.herm_system.specs.Systems.{System, holding_at, set_holding, numbered_from_one, set_from_one, set_process}
@@ -79,11 +79,11 @@ grown one_port s = record s { ports = s.ports ++ empty_port ∷ [] }
 grown (one_process x) s = record s { processes = s.processes ++ x ∷ []; ports = s.ports ++ empty_port ∷ []; replies = s.replies ++ [] ∷ [] }
 
 -- a system with a process and a place changed, and with what was added
-abbrev pub changed : {P : Type 0} → (process : ℕ) → P → Place → Holding (Cell Name) (CellReply Name) → Growth P → System P → System P
+abbrev pub changed : {P : Type 0} → (process : ℕ) → P → Place → PlaceState (Cell Name) (CellReply Name) → Growth P → System P → System P
 changed p y place h g s = grown g (set_process p y (set_holding place h s))
 
 abbrev At : Type 0
-At = Holding (Cell Name) (CellReply Name)
+At = PlaceState (Cell Name) (CellReply Name)
 
 process-process : {P : Type 0} → (p q : ℕ) (y z : P) (s : System P) → (p ≡ q → ⊥) → set_process q z (set_process p y s) ≡ set_process p y (set_process q z s)
 process-process p q y z s d = ap (λ xs. record s { processes = xs }) (set-other_from_one s.processes p q y z d)

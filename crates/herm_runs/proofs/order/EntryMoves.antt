@@ -1,21 +1,21 @@
 -- An entry's move: local steps of its process, and then its action; and what of it depends on the system.
 use Rattle.std.proofs.Common.{◌≡◌, ℕ, zero, suc, List, [], ◌∷◌, Bool, true, false, ◌||◌, ◌⊎◌, inl, inr, Some, option_map, slice_get, refl, sym, ap, ◌∙◌, true≢false}
-use Rattle.herm_model.specs.Lists.{some_of}
+use Rattle.herm_model.specs.Lists.{any_pass}
 use Rattle.herm_model.specs.Values.{Cell, Name}
-use Rattle.herm_model.proofs.Options.{some-injective, none-not_some, chain-some, map-some}
+use Rattle.herm_model.proofs.Options.{some-injective, none-not_some, map-some}
 use Rattle.herm_journal.specs.Actions.{to_put, to_take, to_close, to_answer, to_hear, make_port, make_process}
-use Rattle.herm_journal.specs.Places.{Holding, a_port, replies, Port, Replies, first_of, after}
+use Rattle.herm_journal.specs.PlaceStates.{PlaceState, a_port, replies, Port, Replies, first_of, after}
 use Rattle.herm_journal.specs.Entries.{Place, port, reply_cell, book, same_place, Entry, recorded}
 use Rattle.herm_journal.specs.Messages.{CellReply, CellWant, CellAction}
 use Rattle.herm_system.specs.Machines.{Machine, acting, is_local, is_acting, inport_of}
-use Rattle.herm_system.specs.Systems.{can_be_done, System, Moved, acts, step, with_made, set_process, set_holding, holding_at, act_at, behind_action, numbered_from_one, places_for, done_at, can, number_of, stands}
-use Rattle.herm_runs.proofs.SystemLedger.{process-some}
+use Rattle.herm_system.specs.Systems.{can_be_done, System, Moved, acts, step, with_made, set_process, set_holding, holding_at, numbered_from_one, places_for, done_at, can, number_of}
 use Rattle.herm_runs.proofs.Histories.{place-same}
-use Rattle.herm_runs.proofs.Stands.{cond-both, stands-as, seen-acting}
+use Rattle.herm_runs.proofs.Stands.{stands-as, seen-acting}
+use Rattle.herm_runs.proofs.ActionParts.{action-parts}
 use Rattle.herm_runs.proofs.order.Commuting.{Growth, no_growth, one_port, one_process, grown, changed}
 
 -- a list has an element that passes where it has this one
-pub found-passes : (place : Place) (test : Place → Bool) (places : List Place) → some_of (same_place place) places ≡ true → test place ≡ true → some_of test places ≡ true
+pub found-passes : (place : Place) (test : Place → Bool) (places : List Place) → any_pass (same_place place) places ≡ true → test place ≡ true → any_pass test places ≡ true
 found-passes place test [] e is = absurd (true≢false (sym e))
 found-passes place test (q ∷ places) e is = by_test (same_place place q) refl e (found-passes place test places)
   where
@@ -23,8 +23,8 @@ found-passes place test (q ∷ places) e is = by_test (same_place place q) refl 
     either true = refl
     either false = refl
 
-    by_test : (t : Bool) → same_place place q ≡ t → (t || some_of (same_place place) places) ≡ true → (some_of (same_place place) places ≡ true → test place ≡ true → some_of test places ≡ true) → (test q || some_of test places) ≡ true
-    by_test true same e again = ap (λ r. test r || some_of test places) (sym (place-same place q same)) ∙ ap (λ t. t || some_of test places) is
+    by_test : (t : Bool) → same_place place q ≡ t → (t || any_pass (same_place place) places) ≡ true → (any_pass (same_place place) places ≡ true → test place ≡ true → any_pass test places ≡ true) → (test q || any_pass test places) ≡ true
+    by_test true same e again = ap (λ r. test r || any_pass test places) (sym (place-same place q same)) ∙ ap (λ t. t || any_pass test places) is
     by_test false same e again = ap (λ t. test q || t) (again e is) ∙ either (test q)
 
 -- the actions that make something
@@ -58,7 +58,7 @@ cell-makes (to_answer caller call r) rs a e = ap makes_more (sym (some-injective
 cell-makes to_hear rs a e = let m = map-some _ (first_of rs) a e in ap makes_more (sym m.2)
 cell-makes w rs a e = none-not_some e
 
-elsewhere-makes : {P : Type 0} → (place : Place) (s : System P) (h : Holding (Cell Name) (CellReply Name)) (w : CellWant Name) (a : CellAction Name) → holding_at place s ≡ Some h → done_at w h ≡ Some a →
+elsewhere-makes : {P : Type 0} → (place : Place) (s : System P) (h : PlaceState (Cell Name) (CellReply Name)) (w : CellWant Name) (a : CellAction Name) → holding_at place s ≡ Some h → done_at w h ≡ Some a →
     (place ≡ book) ⊎ (makes_more a ≡ false)
 elsewhere-makes (port n) s h w a at does = let m = map-some a_port (slice_get s.ports n) h at in inr (port-makes w m.0 a (ap (done_at w) m.2 ∙ does))
 elsewhere-makes (reply_cell p) s h w a at does = let m = map-some replies (numbered_from_one p s.replies) h at in inr (cell-makes w m.0 a (ap (done_at w) m.2 ∙ does))
@@ -78,14 +78,14 @@ module _ {P : Type 0} (machine : Machine Name P) (limit : ℕ) where
     pub ready : P
     pub behind : P
     pub want : CellWant Name
-    pub held : Holding (Cell Name) (CellReply Name)
+    pub held : PlaceState (Cell Name) (CellReply Name)
     pub done : CellAction Name
     pub growth : Growth P
     pub is : numbered_from_one e.process s.processes ≡ Some before
     pub walks : Walks count before ready
     pub acts : machine.ready limit ready ≡ acting
     pub wants : machine.wanted ready ≡ Some want
-    pub among : some_of (same_place e.place) (places_for e.process want) ≡ true
+    pub among : any_pass (same_place e.place) (places_for e.process want) ≡ true
     pub there : holding_at e.place s ≡ Some held
     pub does : done_at want held ≡ Some done
     pub leaves : machine.answered ready (number_of e.place) done ≡ Some behind
@@ -99,41 +99,34 @@ module _ {P : Type 0} (machine : Machine Name P) (limit : ℕ) where
   pub act-moves : (p : ℕ) (place : Place) (s : System P) (m : Moved P) → s.book.limits.steps ≡ limit → step machine (acts p place) s ≡ Some m →
       (a : CellAction Name) × (m.done ≡ Some a) × ((stamp : ℕ) → IsMove (record { stamp = stamp; process = p; place = place; action = recorded a }) s m.system)
   act-moves p place s m same e =
-      let b = cond-both (stands is_acting machine s p) _ m e in
-      let x = process-some s p _ m b.1 in
-      let want = chain-some (act_at machine p place s x.state) (machine.wanted x.state) m x.does in
-      let there = cond-both (some_of (same_place place) (places_for p want.0)) _ m want.2 in
-      let at = chain-some _ (holding_at place s) m there.1 in
-      let did = chain-some (behind_action machine p place s x.state at.0) (done_at want.0 at.0) m at.2 in
-      let left = chain-some _ (machine.answered x.state (number_of place) did.0) m did.2 in
-      let makes = map-some _ (with_made machine x.state did.0 (set_process p left.0 (set_holding place (after did.0 at.0) s))) m left.2 in
-      let acting_now = sym (stands-as is_acting machine s p x.state x.is) ∙ b.0 in
-      let free = (seen-acting (machine.ready s.book.limits.steps x.state) (can_be_done (can s p) (machine.wanted x.state)) acting_now).0 in
-      let grow = made-grows machine x.state did.0 (set_process p left.0 (set_holding place (after did.0 at.0) s)) makes.0 makes.1 in
-      let only : (place ≡ book) ⊎ (grow.growth ≡ no_growth) = elim (elsewhere-makes place s at.0 want.0 did.0 at.1 did.1) [ inl q ↦ inl q | inr f ↦ inr (grow.only f) ] in (
-        did.0,
-        sym (ap (λ (m : Moved P). m.done) makes.2),
+      let parts = action-parts machine p place s m e in
+      let acting_now = sym (stands-as is_acting machine s p parts.state parts.is) ∙ parts.stands in
+      let free = (seen-acting (machine.ready s.book.limits.steps parts.state) (can_be_done (can s p) (machine.wanted parts.state)) acting_now).0 in
+      let grow = made-grows machine parts.state parts.did.0 (set_process p parts.left.0 (set_holding place (after parts.did.0 parts.at.0) s)) parts.makes.0 parts.makes.1 in
+      let only : (place ≡ book) ⊎ (grow.growth ≡ no_growth) = elim (elsewhere-makes place s parts.at.0 parts.want.0 parts.did.0 parts.at.1 parts.did.1) [ inl q ↦ inl q | inr f ↦ inr (grow.only f) ] in (
+        parts.did.0,
+        sym (ap (λ (m : Moved P). m.done) parts.moved),
         λ stamp. record {
           count = 0;
-          before = x.state;
-          ready = x.state;
-          behind = left.0;
-          want = want.0;
-          held = at.0;
-          done = did.0;
+          before = parts.state;
+          ready = parts.state;
+          behind = parts.left.0;
+          want = parts.want.0;
+          held = parts.at.0;
+          done = parts.did.0;
           growth = grow.growth;
-          is = x.is;
+          is = parts.is;
           walks = refl;
-          acts = ap (λ l. machine.ready l x.state) (sym same) ∙ free;
-          wants = want.1;
-          among = there.0;
-          there = at.1;
-          does = did.1;
-          leaves = left.1;
+          acts = ap (λ l. machine.ready l parts.state) (sym same) ∙ free;
+          wants = parts.want.1;
+          among = parts.there;
+          there = parts.at.1;
+          does = parts.did.1;
+          leaves = parts.left.1;
           grows = grow.grows;
           only = only;
-          makes = elsewhere-makes place s at.0 want.0 did.0 at.1 did.1;
+          makes = elsewhere-makes place s parts.at.0 parts.want.0 parts.did.0 parts.at.1 parts.did.1;
           records = refl;
-          leads = sym (ap (λ (m : Moved P). m.system) makes.2) ∙ grow.is;
+          leads = sym (ap (λ (m : Moved P). m.system) parts.moved) ∙ grow.is;
         },
       )

@@ -3,13 +3,13 @@ use Rattle.std.proofs.Common.{◌≡◌, ℕ, zero, suc, List, [], ◌∷◌, �
 use Rattle.std.specs.Prelude.{nat_eq}
 use Rattle.std.proofs.lemmas.Bool.{eqb-true}
 use Rattle.herm_model.proofs.Options.{some-injective, chain-some, map-some}
-use Rattle.herm_journal.specs.Places.{after, Book, Limits}
+use Rattle.herm_journal.specs.PlaceStates.{after, Book, Limits}
 use Rattle.herm_journal.specs.Entries.{Entry, recorded}
-use Rattle.herm_journal.specs.Journals.{entry_behind, IsStampedFrom, next_stamp}
-use Rattle.herm_system.specs.Systems.{System, Moved, Event, steps, acts, Run, run, run_on, step, with_entry, set_process, set_holding, holding_at, numbered_from_one, can, stands, can_be_done}
+use Rattle.herm_journal.specs.Stamps.{entry_behind, IsStampedFrom, next_stamp}
+use Rattle.herm_system.specs.Systems.{System, Moved, Event, steps, acts, Run, run, run_on, step, with_entry, set_process, set_holding, holding_at, numbered_from_one, can, can_be_done}
 use Rattle.herm_system.specs.Machines.{Machine, is_local}
-use Rattle.herm_runs.proofs.SystemLedger.{process-some}
-use Rattle.herm_runs.proofs.Stands.{cond-both, stands-as, place-limits, seen-local}
+use Rattle.herm_runs.proofs.Stands.{stands-as, place-limits, seen-local}
+use Rattle.herm_runs.proofs.ActionParts.{step-parts}
 use Rattle.herm_runs.proofs.order.Commuting.{Growth, no_growth, one_port, one_process, grown, changed, change-lost, change-behind, process-still, unequal-numbers}
 use Rattle.herm_runs.proofs.Histories.{get-set_from_one, get-other_from_one, held-with_process}
 use Rattle.herm_runs.proofs.Numbered.{other-number}
@@ -136,17 +136,15 @@ module _ {P : Type 0} (machine : Machine Name P) (limit : ℕ) where
 
   local-of : (p : ℕ) (s : System P) (m : Moved P) → s.book.limits.steps ≡ limit → step machine (steps p) s ≡ Some m → IsLocal p s m.system
   local-of p s m same e =
-      let b = cond-both (stands is_local machine s p) _ m e in
-      let x = process-some s p _ m b.1 in
-      let n = map-some _ (machine.local_step x.state) m x.does in
-      let now = sym (stands-as is_local machine s p x.state x.is) ∙ b.0 in
+      let parts = step-parts machine p s m e in
+      let now = sym (stands-as is_local machine s p parts.state parts.is) ∙ parts.stands in
       record {
-        before = x.state;
-        behind = n.0;
-        is = x.is;
-        locals = ap (λ l. is_local (machine.ready l x.state)) (sym same) ∙ sym (seen-local (machine.ready s.book.limits.steps x.state) (can_be_done (can s p) (machine.wanted x.state))) ∙ now;
-        does = n.1;
-        leads = sym (ap (λ (m : Moved _). m.system) n.2);
+        before = parts.state;
+        behind = parts.left.0;
+        is = parts.is;
+        locals = ap (λ l. is_local (machine.ready l parts.state)) (sym same) ∙ sym (seen-local (machine.ready s.book.limits.steps parts.state) (can_be_done (can s p) (machine.wanted parts.state))) ∙ now;
+        does = parts.left.1;
+        leads = sym (ap (λ (m : Moved _). m.system) parts.moved);
       }
 
   -- the entries of a run, with the path of their moves

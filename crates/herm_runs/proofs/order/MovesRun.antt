@@ -1,11 +1,11 @@
 -- An entry's move is a run of local steps and an action.
 use Rattle.std.proofs.Common.{◌≡◌, ℕ, zero, suc, List, [], ◌∷◌, ◌++◌, true, cond, Some, None, is_some, option_map, option_and_then, slice_get, slice_set, refl, sym, ap, subst, ◌∙◌}
-use Rattle.herm_model.specs.Lists.{some_of}
+use Rattle.herm_model.specs.Lists.{any_pass}
 use Rattle.herm_model.specs.Values.{Cell, Name}
 use Rattle.herm_model.proofs.Options.{some-injective}
-use Rattle.herm_journal.specs.Places.{Holding, after}
+use Rattle.herm_journal.specs.PlaceStates.{PlaceState, after}
 use Rattle.herm_journal.specs.Entries.{Place, same_place, Entry, recorded}
-use Rattle.herm_journal.specs.Journals.{entry_behind}
+use Rattle.herm_journal.specs.Stamps.{entry_behind}
 use Rattle.herm_journal.specs.Messages.{CellReply, CellWant, CellAction}
 use Rattle.herm_system.specs.Systems.{System, Moved, Event, steps, acts, run_on, step, with_entry, with_made, set_process, set_holding, holding_at, act_at, behind_action, numbered_from_one, set_from_one, places_for, done_at, done_in, can, number_of, stands, standing, can_be_done, seen_as}
 use Rattle.herm_system.specs.Machines.{Machine, acting, is_local, is_acting}
@@ -42,9 +42,9 @@ module _ {P : Type 0} (machine : Machine Name P) (limit : ℕ) where
       ∙ ap (option_and_then (λ x. option_map (λ y. record { system = set_process p y s; done = None }) (machine.local_step x))) is
       ∙ ap (option_map (λ y. record { system = set_process p y s; done = None })) does
 
-  pub action-happens : (p : ℕ) (place : Place) (s : System P) (x y : P) (w : CellWant Name) (h : Holding (Cell Name) (CellReply Name)) (a : CellAction Name) (g : Growth P) → s.book.limits.steps ≡ limit →
+  pub action-happens : (p : ℕ) (place : Place) (s : System P) (x y : P) (w : CellWant Name) (h : PlaceState (Cell Name) (CellReply Name)) (a : CellAction Name) (g : Growth P) → s.book.limits.steps ≡ limit →
       numbered_from_one p s.processes ≡ Some x → machine.ready limit x ≡ acting → machine.wanted x ≡ Some w →
-      some_of (same_place place) (places_for p w) ≡ true → holding_at place s ≡ Some h → done_at w h ≡ Some a → machine.answered x (number_of place) a ≡ Some y →
+      any_pass (same_place place) (places_for p w) ≡ true → holding_at place s ≡ Some h → done_at w h ≡ Some a → machine.answered x (number_of place) a ≡ Some y →
       ((u : System P) → with_made machine x a u ≡ Some (grown g u)) → step machine (acts p place) s ≡ Some (record { system = changed p y place (after a h) g s; done = Some a })
   action-happens p place s x y w h a g same is ready wants among there does leaves grows =
       let possible : can s p w ≡ true = found-passes place (λ q. is_some (done_in w s q)) (places_for p w) among (ap is_some (ap (option_and_then (done_at w)) there ∙ does)) in

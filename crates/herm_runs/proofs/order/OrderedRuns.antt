@@ -1,12 +1,13 @@
 -- The entries of a run in order are the journal of a run.
 use Rattle.std.proofs.Common.{◌≡◌, ℕ, zero, suc, ◌<◌, ◌≤◌, List, [], ◌∷◌, map, Bool, true, false, ◌||◌, Some, option_map, slice_get, length, refl, sym, ap, subst, ◌∙◌, arith, true≢false}
-use Rattle.herm_model.specs.Lists.{some_of, list_of}
+use Rattle.herm_model.specs.Lists.{any_pass, list_of}
 use Rattle.herm_model.specs.Values.{Cell, Name}
 use Rattle.herm_model.proofs.Options.{some-injective, none-not_some}
 use Rattle.herm_journal.specs.Actions.{new_port, new_process, to_put, to_take, to_close, to_answer, to_hear}
-use Rattle.herm_journal.specs.Places.{Limits, first_book, Holding, a_port, replies, a_book, Book}
+use Rattle.herm_journal.specs.PlaceStates.{Limits, first_book, PlaceState, a_port, replies, a_book, Book}
 use Rattle.herm_journal.specs.Entries.{Text, Place, port, reply_cell, book, same_place, Entry}
-use Rattle.herm_journal.specs.Journals.{entry_behind, ordered}
+use Rattle.herm_journal.specs.Journals.{ordered}
+use Rattle.herm_journal.specs.Stamps.{entry_behind}
 use Rattle.herm_journal.specs.Messages.{CellReply, CellWant}
 use Rattle.herm_system.specs.Sound.{IsNumbered}
 use Rattle.herm_system.specs.Systems.{System, Run, opening, main_port, holding_at, numbered_from_one, places_for}
@@ -14,14 +15,14 @@ use Rattle.herm_runs.proofs.Histories.{place-same}
 use Rattle.herm_runs.proofs.Numbered.{run-numbered, opening-numbered}
 use Rattle.herm_journal.specs.Kinds.{AllPorts, WantKinds}
 use Rattle.herm_runs.proofs.KnownPlaces.{HoldingKinds, HasOnly, run-knows}
-use Rattle.herm_runs.specs.OneProcess.{IsKnown, Knows}
+use Rattle.herm_runs.specs.laws.ProcessLaws.{IsKnown, Knows}
 use Rattle.herm_runs.proofs.order.EntryMoves.{Walks, IsMove}
 use Rattle.herm_runs.proofs.order.MovesRun.{move-run}
 use Rattle.herm_runs.proofs.order.EntryPaths.{move-limits, run-path, path-run}
 use Rattle.herm_runs.proofs.order.SortedPaths.{path-ordered}
 use Rattle.herm_system.specs.Machines.{Machine}
-use Rattle.herm_runs.specs.OrderLaws.{OrderedJournalsAreRuns}
-use Rattle.herm_runs.specs.OneProcess.{KnowsPlaces, KeepsNumbers}
+use Rattle.herm_runs.specs.laws.OrderLaws.{OrderedJournalsAreRuns}
+use Rattle.herm_runs.specs.laws.ProcessLaws.{KnowsPlaces, KeepsNumbers}
 
 -- what is counted is there
 within-there : {X : Type 0} (xs : List X) (i : ℕ) → i < length xs → (x : X) × (slice_get xs i ≡ Some x)
@@ -42,7 +43,7 @@ one-place place q e = place-same place q (by_test (same_place place q) e)
 
 module _ {P : Type 0} (machine : Machine Name P) (s : System P) (numbered : IsNumbered machine s) where
   abbrev IsThereAt : Place → Type 0
-  IsThereAt place = (h : Holding (Cell Name) (CellReply Name)) × (holding_at place s ≡ Some h)
+  IsThereAt place = (h : PlaceState (Cell Name) (CellReply Name)) × (holding_at place s ≡ Some h)
 
   port-there : (n : ℕ) → n ≤ s.book.ports → IsThereAt (port n)
   port-there n le = let f = within-there s.ports n (omega (arith, le, numbered.book.1)) in (a_port f.0, ap (option_map a_port) f.1)
@@ -50,15 +51,15 @@ module _ {P : Type 0} (machine : Machine Name P) (s : System P) (numbered : IsNu
   cell-there : (p : ℕ) → 1 ≤ p → p ≤ s.book.processes → IsThereAt (reply_cell p)
   cell-there p one le = let f = within-there_from_one s.replies p one (omega (arith, le, numbered.reply_cells, numbered.book.0)) in (replies f.0, ap (option_map replies) f.1)
 
-  ports-there : (ports : List ℕ) (place : Place) → AllPorts (IsKnown s.book) ports → some_of (same_place place) (map port ports) ≡ true → IsThereAt place
+  ports-there : (ports : List ℕ) (place : Place) → AllPorts (IsKnown s.book) ports → any_pass (same_place place) (map port ports) ≡ true → IsThereAt place
   ports-there [] place h e = absurd (true≢false (sym e))
   ports-there (n ∷ ports) place h e = by_test (same_place place (port n)) refl e (ports-there ports place h.1)
     where
-      by_test : (t : Bool) → same_place place (port n) ≡ t → (t || some_of (same_place place) (map port ports)) ≡ true → (some_of (same_place place) (map port ports) ≡ true → IsThereAt place) → IsThereAt place
+      by_test : (t : Bool) → same_place place (port n) ≡ t → (t || any_pass (same_place place) (map port ports)) ≡ true → (any_pass (same_place place) (map port ports) ≡ true → IsThereAt place) → IsThereAt place
       by_test true is e again = subst IsThereAt (sym (place-same place (port n) is)) (port-there n h.0)
       by_test false is e again = again e
 
-  pub places-there : (w : CellWant Name) (p : ℕ) (place : Place) → WantKinds (IsKnown s.book) w → 1 ≤ p → p ≤ s.book.processes → some_of (same_place place) (places_for p w) ≡ true → IsThereAt place
+  pub places-there : (w : CellWant Name) (p : ℕ) (place : Place) → WantKinds (IsKnown s.book) w → 1 ≤ p → p ≤ s.book.processes → any_pass (same_place place) (places_for p w) ≡ true → IsThereAt place
   places-there new_port p place k one le e = subst IsThereAt (sym (one-place place book e)) (a_book s.book, refl)
   places-there (new_process code) p place k one le e = subst IsThereAt (sym (one-place place book e)) (a_book s.book, refl)
   places-there (to_put n m) p place k one le e = subst IsThereAt (sym (one-place place (port n) e)) (port-there n k.0)
@@ -74,7 +75,7 @@ first-knows machine known limits main is (suc zero) x e =
     subst (Knows machine (first_book limits)) (some-injective e) (known.begins (first_book limits) machine.main 1 main_port main (omega arith, tt) (omega arith) (omega arith) is)
 first-knows machine known limits main is (suc (suc p)) x e = none-not_some e
 
-first-holds : {P : Type 0} (machine : Machine Name P) (limits : Limits) (argument : Text) (q : Place) (h : Holding (Cell Name) (CellReply Name)) → holding_at q (opening machine limits argument) ≡ Some h → HoldingKinds (IsKnown (first_book limits)) h
+first-holds : {P : Type 0} (machine : Machine Name P) (limits : Limits) (argument : Text) (q : Place) (h : PlaceState (Cell Name) (CellReply Name)) → holding_at q (opening machine limits argument) ≡ Some h → HoldingKinds (IsKnown (first_book limits)) h
 first-holds machine limits argument (port zero) h e = subst (HoldingKinds (IsKnown (first_book limits))) (some-injective e) tt
 first-holds machine limits argument (port (suc zero)) h e = subst (HoldingKinds (IsKnown (first_book limits))) (some-injective e) ((tt, ((tt, tt), ((omega arith, tt), tt))), tt)
 first-holds machine limits argument (port (suc (suc n))) h e = none-not_some e
@@ -114,7 +115,7 @@ module _ {P : Type 0} (machine : Machine Name P) (keeps : KeepsNumbers machine) 
   walk-knows b (suc n) x y w k = walk-knows b n w.0 y w.3 (known.local_steps b x w.0 k w.2)
 
   regular-there : (f : Entry) (s u v : System P) → IsRegular s → (n : IsMove machine limit f u v) → numbered_from_one f.process s.processes ≡ Some n.before →
-      (j : Holding (Cell Name) (CellReply Name)) × (holding_at f.place s ≡ Some j)
+      (j : PlaceState (Cell Name) (CellReply Name)) × (holding_at f.place s ≡ Some j)
   regular-there f s u v k n is =
       let knows = k.knows.processes f.process n.before is in
       let ready = walk-knows s.book n.count n.before n.ready n.walks knows in

@@ -1,9 +1,10 @@
 -- A path's moves can be done in the order of their entries.
 use Rattle.std.proofs.Common.{◌≡◌, ℕ, List, [], ◌∷◌, ◌++◌, Bool, true, false, cond, Some, refl}
 use Rattle.herm_model.specs.Values.{Cell, Name}
-use Rattle.herm_journal.specs.Places.{Holding}
+use Rattle.herm_journal.specs.PlaceStates.{PlaceState}
 use Rattle.herm_journal.specs.Entries.{Entry}
-use Rattle.herm_journal.specs.Journals.{IsStampedFrom, is_before, with_next, ordered}
+use Rattle.herm_journal.specs.Journals.{is_before, with_next, ordered}
+use Rattle.herm_journal.specs.Stamps.{IsStampedFrom}
 use Rattle.herm_journal.specs.Messages.{CellReply}
 use Rattle.herm_system.specs.Sound.{IsNumbered}
 use Rattle.herm_system.specs.Systems.{System, holding_at, numbered_from_one}
@@ -15,7 +16,7 @@ use Rattle.herm_system.specs.Machines.{Machine}
 -- where a fact of states says that numbers agree, stays along moves, and gives each move its place
 module _ {P : Type 0} (machine : Machine Name P) (limit : ℕ) (Holds : System P → Type 0) (numbers : (s : System P) → Holds s → IsNumbered machine s)
     (stays : (e : Entry) (s u : System P) → Holds s → IsMove machine limit e s u → Holds u)
-    (there : (f : Entry) (s u v : System P) → Holds s → (n : IsMove machine limit f u v) → numbered_from_one f.process s.processes ≡ Some n.before → (j : Holding (Cell Name) (CellReply Name)) × (holding_at f.place s ≡ Some j)) where
+    (there : (f : Entry) (s u v : System P) → Holds s → (n : IsMove machine limit f u v) → numbered_from_one f.process s.processes ≡ Some n.before → (j : PlaceState (Cell Name) (CellReply Name)) × (holding_at f.place s ≡ Some j)) where
   -- the entries are a path with their stamps behind a journal
   abbrev pub IsStampedPath : List Entry → List Entry → System P → System P → Type 0
   IsStampedPath journal es s t = IsPath machine limit es s t × IsStampedFrom journal es

@@ -5,9 +5,10 @@ use Rattle.std.specs.Prelude.{nat_eq, nat_lt, ◌&&◌}
 use Rattle.herm_model.specs.Values.{Cell, Name}
 use Rattle.herm_model.proofs.Options.{some-injective, none-not_some, map-some}
 use Rattle.herm_journal.specs.Actions.{make_port, make_process, put, take, close, answer, hear}
-use Rattle.herm_journal.specs.Places.{Book, Holding, after}
+use Rattle.herm_journal.specs.PlaceStates.{Book, PlaceState, after}
 use Rattle.herm_journal.specs.Entries.{Place, book, same_place, Entry, recorded}
-use Rattle.herm_journal.specs.Journals.{IsStampedFrom, clock_of_process, clock_of_place, is_maker_of, next_stamp, is_before}
+use Rattle.herm_journal.specs.Journals.{is_before}
+use Rattle.herm_journal.specs.Stamps.{IsStampedFrom, clock_of_process, clock_of_place, is_maker_of, next_stamp}
 use Rattle.herm_journal.proofs.Rising.{same-true}
 use Rattle.herm_journal.specs.Messages.{CellReply, CellAction}
 use Rattle.herm_system.specs.Sound.{IsNumbered}
@@ -172,7 +173,7 @@ module _ {P : Type 0} (machine : Machine Name P) (limit : ℕ) where
       by_places o (inr b) = true≢false (sym (maker-makes p n.done (ap (is_maker_of p) n.records ∙ too)) ∙ b)
 
   -- the two moves in the other order
-  pub swap-moves : (e f : Entry) (s u v : System P) (x : P) (j : Holding (Cell Name) (CellReply Name)) → (e.process ≡ f.process → ⊥) → (e.place ≡ f.place → ⊥) → IsMove machine limit e s u → IsMove machine limit f u v →
+  pub swap-moves : (e f : Entry) (s u v : System P) (x : P) (j : PlaceState (Cell Name) (CellReply Name)) → (e.process ≡ f.process → ⊥) → (e.place ≡ f.place → ⊥) → IsMove machine limit e s u → IsMove machine limit f u v →
       numbered_from_one f.process s.processes ≡ Some x → holding_at f.place s ≡ Some j → (w : System P) × IsMove machine limit f s w × IsMove machine limit e w v
   swap-moves e f s u v x j d g m n is at =
       let h = after m.done m.held in

@@ -7,19 +7,19 @@ use Rattle.herm_model.specs.Finalising.{waits}
 use Rattle.herm_model.proofs.Lists.{total-append}
 use Rattle.herm_journal.specs.Actions.{values, raised, gone, new_port, new_process, to_put, to_take, to_close, to_answer, to_hear, make_port, make_process, put, take, close, answer, hear}
 use Rattle.herm_journal.specs.Messages.{CellReply, CellWant, CellAction, cells_in}
-use Rattle.herm_forms.specs.Bodies.{Loop}
-use Rattle.herm_forms.specs.Weights.{made}
-use Rattle.herm_forms.specs.Edges.{Code}
+use Rattle.herm_forms.specs.Frames.{Loop}
+use Rattle.herm_forms.specs.Weights.{weight_made}
+use Rattle.herm_forms.specs.Modules.{Module}
 use Rattle.herm_forms.proofs.Loads.{load, load_in, load_all, load_reply, load_coming, load_going, load_loops, load_kept}
 use Rattle.herm_forms.proofs.Weights.{SparesPlain}
 use Rattle.herm_journal.specs.Weights.{weigh_serials}
 use Rattle.herm_system.specs.Machines.{Held, inport_of}
-use Rattle.herm_system.specs.Statuses.{how_many}
+use Rattle.herm_system.specs.Summary.{how_many}
 use Rattle.herm_system.specs.Kinds.{kinds_of, kinds_in, kinds_by}
 use Rattle.herm_runs.specs.Counting.{kinds_coming, kinds_going, IsOfWaiting}
 use Rattle.herm_source.specs.Modules.{Modules}
 use Rattle.herm_source.specs.States.{State, own_name}
-use Rattle.herm_source.specs.Looking.{values_held}
+use Rattle.herm_source.specs.SeenBySystem.{values_held}
 use Rattle.herm_source.specs.Instance.{source, code_at}
 use Rattle.herm_source.proofs.instance.HeldValues.{kinds-values}
 
@@ -83,16 +83,16 @@ module _ (test : Kind → Bool) where
   of-coming (take k m) = of-cell m
   of-coming (close count left) = of-cells left
   of-coming (hear call r) = of-reply r
-  of-coming (make_port made) = refl
-  of-coming (make_process code made) = refl
+  of-coming (make_port weight_made) = refl
+  of-coming (make_process code weight_made) = refl
   of-coming (answer call r) = refl
 
-  pub of-going : (modules : Modules) (x : State Name) (want : CellWant Name) (a : CellAction Name) → how_many test (kinds_going (source modules) x want a) ≡ load_going nameless one_of own_name x.body want a
+  pub of-going : (modules : Modules) (x : State Name) (want : CellWant Name) (a : CellAction Name) → how_many test (kinds_going (source modules) x want a) ≡ load_going nameless one_of own_name x.frame want a
   of-going modules x (to_put port m) a = of-cell m
   of-going modules x (to_answer caller call r) a = of-reply r
-  of-going modules x (new_process code) (make_process code' (Some made)) = of-cell (inport_of (source modules) made.1 x)
+  of-going modules x (new_process code) (make_process code' (Some weight_made)) = of-cell (inport_of (source modules) weight_made.1 x)
   of-going modules x (new_process code) (make_process code' None) = refl
-  of-going modules x (new_process code) (make_port made) = refl
+  of-going modules x (new_process code) (make_port weight_made) = refl
   of-going modules x (new_process code) (put number m) = refl
   of-going modules x (new_process code) (take number m) = refl
   of-going modules x (new_process code) (close count left) = refl
@@ -112,11 +112,11 @@ module _ (test : Kind → Bool) where
   nothing-made names s (suc n) = omega (arith, nothing-made names (suc s) n)
 
   -- of all that a process holds
-  pub of-held : (modules : Modules) (x : State Name) (c : Code) → code_at modules x ≡ Some c → how_many test (kinds_by (source modules) x) ≡ load_kept nameless one_of x.body
+  pub of-held : (modules : Modules) (x : State Name) (c : Module) → code_at modules x ≡ Some c → how_many test (kinds_by (source modules) x) ≡ load_kept nameless one_of x.frame
   of-held modules x c is =
-      let variables = kinds_in x.body.variables in
-      let loops = flat_map (λ (l : Loop Name). kinds_in l.rows) x.body.loops in
-      let items = flat_map kinds_of x.body.work in
+      let variables = kinds_in x.frame.variables in
+      let loops = flat_map (λ (l : Loop Name). kinds_in l.rows) x.frame.loops in
+      let items = flat_map kinds_of x.frame.work in
       ap (λ o. how_many test (flat_map (λ (h : Held Name). kinds_of h.value) (list_of (λ c. values_held c x) o))) is
       ∙ ap (how_many test) (kinds-values c x)
       ∙ many (variables ++ loops ++ items)
@@ -124,8 +124,8 @@ module _ (test : Kind → Bool) where
         arith,
         total-append one_of (variables ++ loops) items,
         total-append one_of variables loops,
-        kinds-load_in x.body.variables,
-        kinds-load_loops x.body.loops,
-        kinds-load_all x.body.work,
-        nothing-finalised x.body.finalised,
+        kinds-load_in x.frame.variables,
+        kinds-load_loops x.frame.loops,
+        kinds-load_all x.frame.work,
+        nothing-finalised x.frame.finalised,
       )

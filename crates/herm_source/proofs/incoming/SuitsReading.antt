@@ -1,7 +1,7 @@
 -- What is read at a path, also through components, has the path's type, and stands there among the typed cells.
 use Rattle.std.proofs.Common.{◌≡◌, inl, inr, ℕ, zero, suc, ◌+◌, List, [], ◌∷◌, map, Option, Some, None, refl, sym, ap, ◌∙◌, subst, arith}
 use Rattle.std.specs.Prelude.{slice_get}
-use Rattle.herm_model.specs.Lists.{IsIn, with_some}
+use Rattle.herm_model.specs.Lists.{IsIn, map_or}
 use Rattle.herm_model.specs.Paths.{Path}
 use Rattle.herm_model.specs.Types.{Parameter, TypeTable, Shape, fields, cases, callmessage, part_type, part_of, type_below, type_at}
 use Rattle.herm_model.specs.Values.{Kind, a_scalar, a_record, a_variant, a_table, a_polymorph, a_callmessage, an_inport, an_outport, Cell, cell, kind_of, Parts, no_parts, gap, part, part_at, behind_gaps, readable, readable_of, read_at}
@@ -34,7 +34,7 @@ module _ (N : Type 0) (table : TypeTable) where
     reads : readable k qs ≡ behind_gaps first qs
 
   at_shape : (t j : ℕ) (s : Shape) → slice_get table t ≡ Some s → part_of table (Some t) j ≡ part_type s j
-  at_shape t j s e = ap (λ (o : Option Shape). with_some None (λ s. part_type s j) o) e
+  at_shape t j s e = ap (λ (o : Option Shape). map_or None (λ s. part_type s j) o) e
 
   readable-record : (t : ℕ) (s : Shape) (qs : Parts N) → slice_get table t ≡ Some s → Fits table (layout partly s a_record) qs → Readable t a_record qs
   readable-record t (fields ts) qs e h = record {
@@ -67,27 +67,27 @@ module _ (N : Type 0) (table : TypeTable) where
   first-alone v u x zero ts at h = ap (slice_get ts) (omega arith) ∙ at ∙ h
   first-alone v u x (suc j) ts at h = none-not_some h
 
-  readable-variant : (t v : ℕ) (us : List ℕ) (qs : Parts N) (o : Option ℕ) → slice_get table t ≡ Some (cases us) → slice_get us v ≡ o → Fits table (with_some unfit (λ u. exactly (a_value whole u ∷ [])) o) qs → Readable t (a_variant v) qs
+  readable-variant : (t v : ℕ) (us : List ℕ) (qs : Parts N) (o : Option ℕ) → slice_get table t ≡ Some (cases us) → slice_get us v ≡ o → Fits table (map_or unfit (λ u. exactly (a_value whole u ∷ [])) o) qs → Readable t (a_variant v) qs
   readable-variant t v us qs None e at h = absurd h
   readable-variant t v us qs (Some u) e at h = record {
     first = v;
     types = u ∷ [];
     fits = component-typed u qs h;
     parts = λ j x there. at_shape t (v + j) (cases us) e ∙ first-alone v u x j us at there;
-    typed = ap (λ o. part_types_at o (a_variant v)) e ∙ ap (λ o. each (with_some [] (λ t. t ∷ []) o)) at;
+    typed = ap (λ o. part_types_at o (a_variant v)) e ∙ ap (λ o. each (map_or [] (λ t. t ∷ []) o)) at;
     reads = refl;
   }
 
   readable-cases : (t v : ℕ) (s : Shape) (qs : Parts N) → slice_get table t ≡ Some s → Fits table (layout partly s (a_variant v)) qs → Readable t (a_variant v) qs
   readable-cases t v (cases us) qs e h = readable-variant t v us qs (slice_get us v) e refl (subst (λ l. Fits table l qs) (one-part (slice_get us v)) h)
     where
-      one-part : (o : Option ℕ) → one_whole o ≡ with_some unfit (λ u. exactly (a_value whole u ∷ [])) o
+      one-part : (o : Option ℕ) → one_whole o ≡ map_or unfit (λ u. exactly (a_value whole u ∷ [])) o
       one-part None = refl
       one-part (Some u) = refl
   readable-cases t v s qs e h = absurd h
 
   by_shape : (t : ℕ) (k : Kind) (qs : Parts N) → ((s : Shape) → slice_get table t ≡ Some s → Fits table (layout partly s k) qs → Readable t k qs) → (o : Option Shape) → slice_get table t ≡ o
-      → Fits table (with_some unfit (λ s. layout partly s k) o) qs → Readable t k qs
+      → Fits table (map_or unfit (λ s. layout partly s k) o) qs → Readable t k qs
   by_shape t k qs by None e h = absurd h
   by_shape t k qs by (Some s) e h = by s e h
 

@@ -6,16 +6,16 @@ use Rattle.herm_model.specs.Values.{Kind, Cell, Parts, no_parts, gap, part}
 use Rattle.herm_model.proofs.Lists.{total-append}
 use Rattle.herm_journal.specs.Weights.{weigh, weigh_in, weigh_all}
 use Rattle.herm_journal.specs.Kinds.{HaveKinds, AllKinds}
-use Rattle.herm_forms.specs.Bodies.{Loop}
-use Rattle.herm_forms.specs.Weights.{held, weigh_loops}
-use Rattle.herm_forms.specs.Edges.{Code}
+use Rattle.herm_forms.specs.Frames.{Loop}
+use Rattle.herm_forms.specs.Weights.{weight_held, weigh_loops}
+use Rattle.herm_forms.specs.Modules.{Module}
 use Rattle.herm_forms.proofs.known.KindsKept.{LoopKinds}
 use Rattle.herm_system.specs.Machines.{Held}
 use Rattle.herm_system.specs.Kinds.{kinds_of, kinds_in, each, all_of, typed_of, typed_in, typed_held}
-use Rattle.herm_runs.specs.OneProcess.{HeldKinds}
+use Rattle.herm_runs.specs.laws.ProcessLaws.{HeldKinds}
 use Rattle.herm_source.specs.States.{State}
 use Rattle.herm_source.specs.Local.{row_type}
-use Rattle.herm_source.specs.Looking.{untyped, in_variables, in_rows, values_held}
+use Rattle.herm_source.specs.SeenBySystem.{untyped, in_variables, in_rows, values_held}
 
 module _ {N : Type 0} (w : N → ℕ) where
   abbrev weigh_held : List (Held N) → ℕ
@@ -42,18 +42,18 @@ module _ {N : Type 0} (w : N → ℕ) where
   weigh-items [] = refl
   weigh-items (c ∷ cs) = ap (weigh w c +◌) (weigh-items cs)
 
-  pub weigh-values : (c : Code) (s : State N) → weigh_held (values_held c s) ≡ held w s.body
+  pub weigh-values : (c : Module) (s : State N) → weigh_held (values_held c s) ≡ weight_held w s.frame
   weigh-values c s =
-      let variables = in_variables c.variables s.body.variables in
-      let loops = flat_map (λ (l : Loop N). in_rows (row_type c l.statement) l.rows) s.body.loops in
-      let items : List (Held N) = map untyped s.body.work in
+      let variables = in_variables c.variables s.frame.variables in
+      let loops = flat_map (λ (l : Loop N). in_rows (row_type c l.statement) l.rows) s.frame.loops in
+      let items : List (Held N) = map untyped s.frame.work in
       omega (
         arith,
         total-append (λ (h : Held N). weigh w h.value) (variables ++ loops) items,
         total-append (λ (h : Held N). weigh w h.value) variables loops,
-        weigh-variables c.variables s.body.variables,
-        weigh-loops (row_type c) s.body.loops,
-        weigh-items s.body.work,
+        weigh-variables c.variables s.frame.variables,
+        weigh-loops (row_type c) s.frame.loops,
+        weigh-items s.frame.work,
       )
 
 module _ {N : Type 0} (of : Kind → Type 0) where
@@ -106,20 +106,20 @@ module _ {N : Type 0} (of : Kind → Type 0) where
   held-items [] h = tt
   held-items (c ∷ cs) h = (h.0, held-items cs h.1)
 
-  pub values-are : (c : Code) (s : State N) → HaveKinds of s.body.variables → LoopKinds of s.body.loops → AllKinds of s.body.work → HeldKinds of (values_held c s)
+  pub values-are : (c : Module) (s : State N) → HaveKinds of s.frame.variables → LoopKinds of s.frame.loops → AllKinds of s.frame.work → HeldKinds of (values_held c s)
   values-are c s v l i =
-      let variables = in_variables c.variables s.body.variables in
-      let loops = flat_map (λ (l : Loop N). in_rows (row_type c l.statement) l.rows) s.body.loops in
-      kinds-append (variables ++ loops) (map untyped s.body.work)
-      (kinds-append variables loops (variables-held c.variables s.body.variables v) (loops-held (row_type c) s.body.loops l)) (items-held s.body.work i)
+      let variables = in_variables c.variables s.frame.variables in
+      let loops = flat_map (λ (l : Loop N). in_rows (row_type c l.statement) l.rows) s.frame.loops in
+      kinds-append (variables ++ loops) (map untyped s.frame.work)
+      (kinds-append variables loops (variables-held c.variables s.frame.variables v) (loops-held (row_type c) s.frame.loops l)) (items-held s.frame.work i)
 
-  pub are-values : (c : Code) (s : State N) → HeldKinds of (values_held c s) → HaveKinds of s.body.variables × LoopKinds of s.body.loops × AllKinds of s.body.work
+  pub are-values : (c : Module) (s : State N) → HeldKinds of (values_held c s) → HaveKinds of s.frame.variables × LoopKinds of s.frame.loops × AllKinds of s.frame.work
   are-values c s h =
-      let variables = in_variables c.variables s.body.variables in
-      let loops = flat_map (λ (l : Loop N). in_rows (row_type c l.statement) l.rows) s.body.loops in
-      let k = kinds-left (variables ++ loops) (map untyped s.body.work) h in
+      let variables = in_variables c.variables s.frame.variables in
+      let loops = flat_map (λ (l : Loop N). in_rows (row_type c l.statement) l.rows) s.frame.loops in
+      let k = kinds-left (variables ++ loops) (map untyped s.frame.work) h in
       let j = kinds-left variables loops k.0 in
-      (held-variables c.variables s.body.variables j.0, held-loops (row_type c) s.body.loops j.1, held-items s.body.work k.1)
+      (held-variables c.variables s.frame.variables j.0, held-loops (row_type c) s.frame.loops j.1, held-items s.frame.work k.1)
 
 -- the typed cells of variables
 pub typed-variables : {N : Type 0} (types : TypeTable) (ts : List ℕ) (ps : Parts N) → flat_map (typed_held types) (in_variables ts ps) ≡ typed_in types (each ts) ps
@@ -158,16 +158,16 @@ module _ {N : Type 0} where
   kinds-items [] = refl
   kinds-items (c ∷ cs) = ap (kinds_of c ++◌) (kinds-items cs)
 
-  pub kinds-values : (c : Code) (s : State N) → flat_map (λ (h : Held N). kinds_of h.value) (values_held c s)
-      ≡ kinds_in s.body.variables ++ flat_map (λ (l : Loop N). kinds_in l.rows) s.body.loops ++ flat_map kinds_of s.body.work
+  pub kinds-values : (c : Module) (s : State N) → flat_map (λ (h : Held N). kinds_of h.value) (values_held c s)
+      ≡ kinds_in s.frame.variables ++ flat_map (λ (l : Loop N). kinds_in l.rows) s.frame.loops ++ flat_map kinds_of s.frame.work
   kinds-values c s =
-      let variables = in_variables c.variables s.body.variables in
-      let loops = flat_map (λ (l : Loop N). in_rows (row_type c l.statement) l.rows) s.body.loops in
-      let items : List (Held N) = map untyped s.body.work in
+      let variables = in_variables c.variables s.frame.variables in
+      let loops = flat_map (λ (l : Loop N). in_rows (row_type c l.statement) l.rows) s.frame.loops in
+      let items : List (Held N) = map untyped s.frame.work in
       flat-append (λ (h : Held N). kinds_of h.value) (variables ++ loops) items
       ∙ ap₂ (λ (xs ys : List Kind). xs ++ ys)
-      (flat-append (λ (h : Held N). kinds_of h.value) variables loops ∙ ap₂ (λ (xs ys : List Kind). xs ++ ys) (kinds-variables c.variables s.body.variables) (kinds-loops (row_type c) s.body.loops))
-      (kinds-items s.body.work)
+      (flat-append (λ (h : Held N). kinds_of h.value) variables loops ∙ ap₂ (λ (xs ys : List Kind). xs ++ ys) (kinds-variables c.variables s.frame.variables) (kinds-loops (row_type c) s.frame.loops))
+      (kinds-items s.frame.work)
 
 -- and those at places with types are those of its variables and its loops' rows, by their types
 module _ {N : Type 0} (types : TypeTable) where
@@ -196,16 +196,16 @@ module _ {N : Type 0} (types : TypeTable) where
   items-untyped [] = refl
   items-untyped (c ∷ cs) = items-untyped cs
 
-  pub typed-values : (c : Code) (s : State N) → flat_map (typed_held types) (values_held c s)
-      ≡ typed_in types (each c.variables) s.body.variables ++ flat_map (λ (l : Loop N). list_of (λ t. typed_in types (all_of t) l.rows) (row_type c l.statement)) s.body.loops
+  pub typed-values : (c : Module) (s : State N) → flat_map (typed_held types) (values_held c s)
+      ≡ typed_in types (each c.variables) s.frame.variables ++ flat_map (λ (l : Loop N). list_of (λ t. typed_in types (all_of t) l.rows) (row_type c l.statement)) s.frame.loops
   typed-values c s =
-      let variables = in_variables c.variables s.body.variables in
-      let loops = flat_map (λ (l : Loop N). in_rows (row_type c l.statement) l.rows) s.body.loops in
-      let items : List (Held N) = map untyped s.body.work in
-      let own = typed_in types (each c.variables) s.body.variables in
-      let rows = flat_map (λ (l : Loop N). list_of (λ t. typed_in types (all_of t) l.rows) (row_type c l.statement)) s.body.loops in
+      let variables = in_variables c.variables s.frame.variables in
+      let loops = flat_map (λ (l : Loop N). in_rows (row_type c l.statement) l.rows) s.frame.loops in
+      let items : List (Held N) = map untyped s.frame.work in
+      let own = typed_in types (each c.variables) s.frame.variables in
+      let rows = flat_map (λ (l : Loop N). list_of (λ t. typed_in types (all_of t) l.rows) (row_type c l.statement)) s.frame.loops in
       flat-append (typed_held types) (variables ++ loops) items
       ∙ ap₂ (λ (xs ys : List (ℕ × Kind)). xs ++ ys)
-      (flat-append (typed_held types) variables loops ∙ ap₂ (λ (xs ys : List (ℕ × Kind)). xs ++ ys) (typed-variables types c.variables s.body.variables) (loops-typed (row_type c) s.body.loops))
-      (items-untyped s.body.work)
+      (flat-append (typed_held types) variables loops ∙ ap₂ (λ (xs ys : List (ℕ × Kind)). xs ++ ys) (typed-variables types c.variables s.frame.variables) (loops-typed (row_type c) s.frame.loops))
+      (items-untyped s.frame.work)
       ∙ append-nil (own ++ rows)

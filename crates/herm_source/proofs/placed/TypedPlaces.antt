@@ -1,13 +1,15 @@
 -- Typed values of which each cell at a place with a type has a property, listed and as parts.
 use Rattle.std.proofs.Common.{◌≡◌, inl, inr, ℕ, List, [], ◌∷◌, ◌++◌, map, Bool, true, false, Option, Some, None, refl, sym, subst}
 use Rattle.std.specs.Prelude.{slice_get, IsTrue, ⊤}
-use Rattle.herm_model.specs.Lists.{IsIn, with_some, list_of}
+use Rattle.herm_model.specs.Lists.{IsIn, map_or, list_of}
 use Rattle.herm_model.specs.Types.{TypeTable, Shape, boolean, integer, text, polymorph, names, fields, cases, rows, inport, outport, callmessage, Mode, by_in, by_inout, by_out, Parameter}
 use Rattle.herm_model.specs.Values.{a_boolean, an_integer, a_text, a_tag, Kind, a_scalar, a_record, a_variant, a_table, a_polymorph, a_callmessage, an_inport, an_outport, Cell, cell, Parts, no_parts, gap, part}
 use Rattle.herm_model.specs.Typed.{Degree, whole, partly, Content, a_value, nothing, Layout, exactly, many, unfit, leaf_if, one_whole, parameter_content, layout, layout_at, IsOf, Fits}
 use Rattle.herm_model.proofs.Lists.{in-append_left, in-append_right}
 use Rattle.herm_journal.specs.PartTypes.{PartTypes, each, all_of, part_types, part_types_at, is_kind_of, is_kind_at, IsPlaced, ArePlaced}
-use Rattle.herm_system.specs.Kinds.{typed_of, typed_in}
+use Rattle.herm_journal.specs.Messages.{AreFull}
+use Rattle.herm_forms.proofs.placed.PlacedWants.{AreListed}
+use Rattle.herm_system.specs.Kinds.{typed_of, typed_in, typed_list}
 
 module _ (types : TypeTable) (P : ℕ → Kind → Type 0) where
   -- with a kind of the type
@@ -85,7 +87,7 @@ module _ (types : TypeTable) (P : ℕ → Kind → Type 0) where
   at-match : {N : Type 0} (d : Degree) (t : ℕ) (k : Kind) (ps : Parts N) → Fits types (layout_at d types t k) ps → IsTrue (is_kind_at (slice_get types t) k) × Matches (layout_at d types t k) (part_types_at (slice_get types t) k)
   at-match d t k ps h = by (slice_get types t) h
     where
-      by : (o : Option Shape) → Fits types (with_some unfit (λ s. layout d s k) o) ps → IsTrue (is_kind_at o k) × Matches (with_some unfit (λ s. layout d s k) o) (part_types_at o k)
+      by : (o : Option Shape) → Fits types (map_or unfit (λ s. layout d s k) o) ps → IsTrue (is_kind_at o k) × Matches (map_or unfit (λ s. layout d s k) o) (part_types_at o k)
       by None h = absurd h
       by (Some s) h = (kind-match d s k ps h, layout-match d s k)
 
@@ -145,3 +147,17 @@ module _ (types : TypeTable) (P : ℕ → Kind → Type 0) where
 
   pub rows-placed : {N : Type 0} (t : ℕ) (ps : Parts N) → Fits types (many t) ps → AllAre (typed_in types (all_of t) ps) → ArePlaced types With (all_of t) ps
   rows-placed t ps h all = fits-placed (many t) (all_of t) ps refl h all
+
+  -- values by a list of types
+  pub list-placed : {N : Type 0} (ts : List ℕ) (cs : List (Cell N)) → AreFull types ts cs → AllAre (typed_list types ts cs) → AreListed types With ts cs
+  list-placed [] cs h all = tt
+  list-placed (t ∷ ts) [] h all = tt
+  list-placed (t ∷ ts) (c ∷ cs) h all = (
+    typed-placed whole t c h.0 (λ u j i. all u j (in-append_left (u, j) (typed_of types t c) (typed_list types ts cs) i)),
+    list-placed ts cs h.1 (λ u j i. all u j (in-append_right (u, j) (typed_of types t c) (typed_list types ts cs) i)),
+  )
+
+  pub list-typed : {N : Type 0} (ts : List ℕ) (cs : List (Cell N)) → AreListed types With ts cs → AllAre (typed_list types ts cs)
+  list-typed [] cs h u j i = absurd i
+  list-typed (t ∷ ts) [] h u j i = absurd i
+  list-typed (t ∷ ts) (c ∷ cs) h u j i = either (u, j) (typed_of types t c) (typed_list types ts cs) i (P u j) (λ m. placed-typed t c h.0 u j m) (λ m. list-typed ts cs h.1 u j m)

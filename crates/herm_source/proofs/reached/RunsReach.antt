@@ -2,18 +2,18 @@
 -- has what its statements need.
 use Rattle.std.proofs.Common.{◌≡◌, ℕ, Some, slice_get, sym, ap, ◌∙◌, subst}
 use Rattle.herm_model.specs.Statements.{Process}
-use Rattle.herm_model.specs.Control.{flow_of, IsReached}
+use Rattle.herm_model.specs.ControlPaths.{flow_of, IsReached}
 use Rattle.herm_model.specs.Values.{Cell, Name}
 use Rattle.herm_model.proofs.FactTests.{got-IsIn}
 use Rattle.herm_model.proofs.Options.{some-injective, chain-some, map-some}
-use Rattle.herm_forms.specs.Edges.{Code, code_of}
+use Rattle.herm_forms.specs.Modules.{Module, module_of}
 use Rattle.herm_runs.specs.Throughout.{StaysSo}
 use Rattle.herm_runs.proofs.StayingSo.{so-throughout}
 use Rattle.herm_source.specs.Modules.{Program, Modules}
 use Rattle.herm_source.specs.States.{State, own_name, begin, local_step, answered}
 use Rattle.herm_source.specs.Instance.{source}
-use Rattle.herm_source.specs.Headline.{AreAccepted}
-use Rattle.herm_source.specs.NeedsLaws.{HasWellFormedBodies, RunsReach, SoundStatesAlongFindNeeds}
+use Rattle.herm_source.specs.AcceptedRuns.{AreAccepted}
+use Rattle.herm_source.specs.laws.NeedsLaws.{HasWellFormedBodies, RunsReach, SoundStatesAlongFindNeeds}
 use Rattle.herm_source.proofs.Numbers.{local-stays, answer-stays}
 use Rattle.herm_source.proofs.reached.FoundNeeds.{module-of, sound-finds}
 use Rattle.herm_source.proofs.reached.LeadsOn.{LeadsOn, local-leads, answer-leads, leads-reached, entry-reached}
@@ -21,22 +21,22 @@ use Rattle.herm_source.proofs.reached.LeadsOn.{LeadsOn, local-leads, answer-lead
 module _ (program : Program) (modules : Modules) (accepted : AreAccepted program modules) (formed : HasWellFormedBodies program) where
   -- a state of the process of its number stands where a control path leads
   abbrev pub IsAtReached : State Name → Type 0
-  IsAtReached x = (process : Process) → slice_get program.processes x.code ≡ Some process → IsReached (flow_of program.types process) x.point
+  IsAtReached x = (process : Process) → slice_get program.processes x.module_number ≡ Some process → IsReached (flow_of program.types process) x.point
 
-  led-reached : (c : Code) (x y : State Name) → slice_get modules.codes x.code ≡ Some c → y.code ≡ x.code → LeadsOn c x.point y.point → IsAtReached x → IsAtReached y
+  led-reached : (c : Module) (x y : State Name) → slice_get modules.codes x.module_number ≡ Some c → y.module_number ≡ x.module_number → LeadsOn c x.point y.point → IsAtReached x → IsAtReached y
   led-reached c x y coded same leads well process is =
-      let m = module-of program program.processes modules.codes accepted.codes x.code c coded in
-      let before : slice_get program.processes x.code ≡ Some process = ap (slice_get program.processes) (sym same) ∙ is in
+      let m = module-of program program.processes modules.codes accepted.codes x.module_number c coded in
+      let before : slice_get program.processes x.module_number ≡ Some process = ap (slice_get program.processes) (sym same) ∙ is in
       let one : m.0 ≡ process = some-injective (sym m.1 ∙ before) in
-      let code : c ≡ code_of program.types process m.2.0 = subst (λ (q : Process). c ≡ code_of program.types q m.2.0) one m.2.1 in
-      leads-reached program.types process m.2.0 (formed process (got-IsIn program.processes x.code process before)) x.point y.point
-      (subst (λ (d : Code). LeadsOn d x.point y.point) code leads) (well process before)
+      let code : c ≡ module_of program.types process m.2.0 = subst (λ (q : Process). c ≡ module_of program.types q m.2.0) one m.2.1 in
+      leads-reached program.types process m.2.0 (formed process (got-IsIn program.processes x.module_number process before)) x.point y.point
+      (subst (λ (d : Module). LeadsOn d x.point y.point) code leads) (well process before)
 
-  begin-reached : (c : Code) (code number : ℕ) (port : Cell Name) → slice_get modules.codes code ≡ Some c → IsAtReached (begin c code number port)
+  begin-reached : (c : Module) (code number : ℕ) (port : Cell Name) → slice_get modules.codes code ≡ Some c → IsAtReached (begin c code number port)
   begin-reached c code number port coded process is =
       let m = module-of program program.processes modules.codes accepted.codes code c coded in
       let one : m.0 ≡ process = some-injective (sym m.1 ∙ is) in
-      let entry : c.entry ≡ (code_of program.types process m.2.0).entry = ap (λ (d : Code). d.entry) (subst (λ (q : Process). c ≡ code_of program.types q m.2.0) one m.2.1) in
+      let entry : c.entry ≡ (module_of program.types process m.2.0).entry = ap (λ (d : Module). d.entry) (subst (λ (q : Process). c ≡ module_of program.types q m.2.0) one m.2.1) in
       subst (IsReached (flow_of program.types process)) (sym entry) (entry-reached program.types process)
 
   pub stays-reached : StaysSo (source modules) IsAtReached
@@ -44,10 +44,10 @@ module _ (program : Program) (modules : Modules) (accepted : AreAccepted program
     begins = λ code number port x e.
         let m = map-some (λ c. begin c code number port) (slice_get modules.codes code) x e in subst IsAtReached m.2 (begin-reached m.0 code number port m.1);
     local_steps = λ x y e well.
-        let c = chain-some (λ c. local_step own_name c x) (slice_get modules.codes x.code) y e in
+        let c = chain-some (λ c. local_step own_name c x) (slice_get modules.codes x.module_number) y e in
         led-reached c.0 x y c.1 (local-stays own_name c.0 x y c.2).1 (local-leads c.0 x y c.2) well;
     answers = λ x y at a e well.
-        let c = chain-some (λ c. answered own_name c x at a) (slice_get modules.codes x.code) y e in
+        let c = chain-some (λ c. answered own_name c x at a) (slice_get modules.codes x.module_number) y e in
         led-reached c.0 x y c.1 (answer-stays own_name c.0 x y at a c.2).1 (answer-leads c.0 x y at a c.2) well;
   }
 

@@ -1,15 +1,18 @@
 -- Changing the names of cells commutes with what a process wants, its local step and what an answer leaves.
 use Rattle.std.proofs.Common.{◌≡◌, ℕ, List, [], ◌∷◌, map, Bool, true, false, cond, Option, Some, None, option_map, refl, sym, ap, ◌∙◌, length}
 use Rattle.std.specs.Prelude.{pred, option_and_then}
-use Rattle.herm_model.specs.Nodes.{Target, Node}
-use Rattle.herm_model.specs.Values.{Cell, gaps, part, rename}
+use Rattle.herm_model.specs.Nodes.{Node}
+use Rattle.herm_model.specs.Targets.{Target}
+use Rattle.herm_model.specs.Values.{Cell, gaps, part}
+use Rattle.herm_model.specs.CellNames.{rename}
 use Rattle.herm_model.proofs.Renaming.{gaps-rename}
-use Rattle.herm_forms.specs.Bodies.{Name, Body, Result, goes, stays, stuck, counted_step, counted_action}
+use Rattle.herm_forms.specs.Frames.{Name, Frame, Completion, goes, stays, stuck, counted_step, counted_action}
 use Rattle.herm_forms.specs.Exchanges
 use Rattle.herm_journal.specs.Messages.{CellWant, CellAction}
-use Rattle.herm_forms.specs.Exchanges.{Composed, compose}
-use Rattle.herm_forms.specs.Edges.{Code, arrive}
-use Rattle.herm_source.specs.States.{State, begin, Next, an_item, a_reply, a_statement, nothing, node_at, call_or_statement, item_or, next_of, behind, wanted_next, wanted, step_next, local_step, settle_next, answered}
+use Rattle.herm_forms.specs.Callmessages.{Composed, compose}
+use Rattle.herm_forms.specs.EdgeFinalising.{arrive}
+use Rattle.herm_forms.specs.Modules.{Module}
+use Rattle.herm_source.specs.States.{State, begin, Next, an_item, a_reply, a_statement, nothing, node_at, call_or_statement, item_or, next_of, state_after, wanted_next, wanted, step_next, local_step, settle_next, answered}
 use Rattle.herm_forms.specs.Acts.{is_action, act, wants, settle, settle_reply, leads_to}
 use Rattle.herm_forms.specs.Renaming.{rename_body}
 use Rattle.herm_source.specs.Renaming.{rename_state}
@@ -21,12 +24,12 @@ use Rattle.herm_forms.proofs.renamed.RenamedActs.{again, act-renamed, wants-rena
 
 module _ {N M : Type 0} (f : N → M) (name : Name → N) where
   -- states
-  arrived-renamed : (c : Code) (s : State N) (b : Body N) (o : Option Target)
-      → option_map (λ t. record { code = s.code; point = t; body = arrive c t (rename_body f b) }) o ≡ option_map (rename_state f) (option_map (λ t. record { code = s.code; point = t; body = arrive c t b }) o)
+  arrived-renamed : (c : Module) (s : State N) (b : Frame N) (o : Option Target)
+      → option_map (λ t. record { module_number = s.module_number; point = t; frame = arrive c t (rename_body f b) }) o ≡ option_map (rename_state f) (option_map (λ t. record { module_number = s.module_number; point = t; frame = arrive c t b }) o)
   arrived-renamed c s b None = refl
-  arrived-renamed c s b (Some t) = ap (λ (b : Body M). Some (record { code = s.code; point = t; body = b })) (arrive-renamed f c t b)
+  arrived-renamed c s b (Some t) = ap (λ (b : Frame M). Some (record { module_number = s.module_number; point = t; frame = b })) (arrive-renamed f c t b)
 
-  behind-renamed : (c : Code) (s : State N) (n : Option Node) (r : Result N) → behind c (rename_state f s) n (rename_result f r) ≡ option_map (rename_state f) (behind c s n r)
+  behind-renamed : (c : Module) (s : State N) (n : Option Node) (r : Completion N) → state_after c (rename_state f s) n (rename_result f r) ≡ option_map (rename_state f) (state_after c s n r)
   behind-renamed c s n (goes o b) = arrived-renamed c s b (option_and_then (λ n. leads_to c n o) n)
   behind-renamed c s n (stays b) = refl
   behind-renamed c s n stuck = refl
@@ -46,54 +49,54 @@ module _ {N M : Type 0} (f : N → M) (name : Name → N) where
   item_or-renamed [] call n = call_or_statement-renamed call n
   item_or-renamed (item ∷ list) call n = refl
 
-  pub next_of-renamed : (c : Code) (s : State N) → next_of c (rename_state f s) ≡ rename_next (next_of c s)
-  next_of-renamed c s = item_or-renamed s.body.work s.body.call (node_at c s.point)
+  pub next_of-renamed : (c : Module) (s : State N) → next_of c (rename_state f s) ≡ rename_next (next_of c s)
+  next_of-renamed c s = item_or-renamed s.frame.work s.frame.call (node_at c s.point)
 
   wanted_if : (b : Bool) (o : Option (CellWant N)) (o' : Option (CellWant M)) → o' ≡ option_map (rename_want f) o → cond b o' None ≡ option_map (rename_want f) (cond b o None)
   wanted_if true o o' e = e
   wanted_if false o o' e = refl
 
-  wanted_next-renamed : (c : Code) (b : Body N) (next : Next N) → wanted_next (again f name) c (rename_body f b) (rename_next next) ≡ option_map (rename_want f) (wanted_next name c b next)
+  wanted_next-renamed : (c : Module) (b : Frame N) (next : Next N) → wanted_next (again f name) c (rename_body f b) (rename_next next) ≡ option_map (rename_want f) (wanted_next name c b next)
   wanted_next-renamed c b (an_item item work) = work_wants-renamed f item
   wanted_next-renamed c b (a_reply call n) = refl
   wanted_next-renamed c b (a_statement n) = wanted_if (is_action c n.form) (wants name c n.form b) (wants (again f name) c n.form (rename_body f b)) (wants-renamed f name c n.form b)
   wanted_next-renamed c b nothing = refl
 
-  pub wanted-renamed : (c : Code) (s : State N) → wanted (again f name) c (rename_state f s) ≡ option_map (rename_want f) (wanted name c s)
-  wanted-renamed c s = ap (wanted_next (again f name) c (rename_body f s.body)) (next_of-renamed c s) ∙ wanted_next-renamed c s.body (next_of c s)
+  pub wanted-renamed : (c : Module) (s : State N) → wanted (again f name) c (rename_state f s) ≡ option_map (rename_want f) (wanted name c s)
+  wanted-renamed c s = ap (wanted_next (again f name) c (rename_body f s.frame)) (next_of-renamed c s) ∙ wanted_next-renamed c s.frame (next_of c s)
 
   stepped_if : (b : Bool) (o : Option (State N)) (o' : Option (State M)) → o' ≡ option_map (rename_state f) o → cond b None o' ≡ option_map (rename_state f) (cond b None o)
   stepped_if true o o' e = refl
   stepped_if false o o' e = e
 
-  step_next-renamed : (c : Code) (s : State N) (next : Next N) → step_next (again f name) c (rename_state f s) (rename_next next) ≡ option_map (rename_state f) (step_next name c s next)
+  step_next-renamed : (c : Module) (s : State N) (next : Next N) → step_next (again f name) c (rename_state f s) (rename_next next) ≡ option_map (rename_state f) (step_next name c s next)
   step_next-renamed c s (a_statement n) =
-      stepped_if (is_action c n.form) (behind c s (Some n) (act name c n.number n.form (counted_step s.body))) (behind c (rename_state f s) (Some n) (act (again f name) c n.number n.form (counted_step (rename_body f s.body))))
-      (ap (behind c (rename_state f s) (Some n)) (act-renamed f name c n.number n.form (counted_step s.body)) ∙ behind-renamed c s (Some n) (act name c n.number n.form (counted_step s.body)))
+      stepped_if (is_action c n.form) (state_after c s (Some n) (act name c n.number n.form (counted_step s.frame))) (state_after c (rename_state f s) (Some n) (act (again f name) c n.number n.form (counted_step (rename_body f s.frame))))
+      (ap (state_after c (rename_state f s) (Some n)) (act-renamed f name c n.number n.form (counted_step s.frame)) ∙ behind-renamed c s (Some n) (act name c n.number n.form (counted_step s.frame)))
   step_next-renamed c s (an_item item work) = refl
   step_next-renamed c s (a_reply call n) = refl
   step_next-renamed c s nothing = refl
 
-  pub local_step-renamed : (c : Code) (s : State N) → local_step (again f name) c (rename_state f s) ≡ option_map (rename_state f) (local_step name c s)
+  pub local_step-renamed : (c : Module) (s : State N) → local_step (again f name) c (rename_state f s) ≡ option_map (rename_state f) (local_step name c s)
   local_step-renamed c s = ap (step_next (again f name) c (rename_state f s)) (next_of-renamed c s) ∙ step_next-renamed c s (next_of c s)
 
-  settle_next-renamed : (c : Code) (s : State N) (at : ℕ) (action : CellAction N) (next : Next N)
+  settle_next-renamed : (c : Module) (s : State N) (at : ℕ) (action : CellAction N) (next : Next N)
       → settle_next (again f name) c (rename_state f s) at (rename_action f action) (rename_next next) ≡ option_map (rename_state f) (settle_next name c s at action next)
   settle_next-renamed c s at action (an_item item work) =
-      let b : Body N = counted_action (record (s.body) { work = work }) in
-      ap (behind c (rename_state f s) None) (work_done-renamed f item action b) ∙ behind-renamed c s None (Exchanges.work_done item action b)
+      let b : Frame N = counted_action (record (s.frame) { work = work }) in
+      ap (state_after c (rename_state f s) None) (work_done-renamed f item action b) ∙ behind-renamed c s None (Exchanges.work_done item action b)
   settle_next-renamed c s at action (a_reply call n) =
-      ap (behind c (rename_state f s) (Some n)) (settle_reply-renamed f name c n.form call action (counted_action s.body)) ∙ behind-renamed c s (Some n) (settle_reply c n.form call action (counted_action s.body))
+      ap (state_after c (rename_state f s) (Some n)) (settle_reply-renamed f name c n.form call action (counted_action s.frame)) ∙ behind-renamed c s (Some n) (settle_reply c n.form call action (counted_action s.frame))
   settle_next-renamed c s at action (a_statement n) =
-      let b = counted_action (counted_step s.body) in
-      ap (behind c (rename_state f s) (Some n)) (settle-renamed f name c n.form at action b) ∙ behind-renamed c s (Some n) (settle name c n.form at action b)
+      let b = counted_action (counted_step s.frame) in
+      ap (state_after c (rename_state f s) (Some n)) (settle-renamed f name c n.form at action b) ∙ behind-renamed c s (Some n) (settle name c n.form at action b)
   settle_next-renamed c s at action nothing = refl
 
-  pub answered-renamed : (c : Code) (s : State N) (at : ℕ) (action : CellAction N) → answered (again f name) c (rename_state f s) at (rename_action f action) ≡ option_map (rename_state f) (answered name c s at action)
+  pub answered-renamed : (c : Module) (s : State N) (at : ℕ) (action : CellAction N) → answered (again f name) c (rename_state f s) at (rename_action f action) ≡ option_map (rename_state f) (answered name c s at action)
   answered-renamed c s at action = ap (settle_next (again f name) c (rename_state f s) at (rename_action f action)) (next_of-renamed c s) ∙ settle_next-renamed c s at action (next_of c s)
 
-  pub begin-renamed : (c : Code) (code number : ℕ) (port : Cell N) → begin c code number (rename f port) ≡ rename_state f (begin c code number port)
+  pub begin-renamed : (c : Module) (code number : ℕ) (port : Cell N) → begin c code number (rename f port) ≡ rename_state f (begin c code number port)
   begin-renamed c code number port =
-      let first : Body N = record { number = number; variables = part port (gaps (pred (length c.variables))); loops = []; work = []; call = None; calls = 0; steps = 0; actions = 0; serial = 0; finalised = [] } in
-      ap (λ ps. record { code = code; point = c.entry; body = arrive c c.entry (record (rename_body f first) { variables = part (rename f port) ps }) }) (sym (gaps-rename f (pred (length c.variables))))
-      ∙ ap (λ (b : Body M). record { code = code; point = c.entry; body = b }) (arrive-renamed f c c.entry first)
+      let first : Frame N = record { number = number; variables = part port (gaps (pred (length c.variables))); loops = []; work = []; call = None; calls = 0; steps = 0; actions = 0; serial = 0; finalised = [] } in
+      ap (λ ps. record { module_number = code; point = c.entry; frame = arrive c c.entry (record (rename_body f first) { variables = part (rename f port) ps }) }) (sym (gaps-rename f (pred (length c.variables))))
+      ∙ ap (λ (b : Frame M). record { module_number = code; point = c.entry; frame = b }) (arrive-renamed f c c.entry first)

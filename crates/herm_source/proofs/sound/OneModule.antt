@@ -1,68 +1,75 @@
 -- A process of a typed and accepted module stays sound within itself, and where control paths lead.
-use Rattle.std.proofs.Common.{◌≡◌, ◌↔◌, inl, inr, ℕ, arith, List, [], ◌∷◌, map, find, Bool, true, false, cond, nat_eq, Option, Some, None, option_map, refl, sym, ap, ◌∙◌, subst, true≢false}
+use Rattle.std.proofs.Common.{◌≡◌, ◌↔◌, inr, ℕ, List, [], ◌∷◌, Bool, true, false, cond, Option, Some, None, option_map, refl, sym, ap, ◌∙◌, subst, true≢false}
 use Rattle.std.specs.Prelude.{pred, length, slice_get, option_and_then, IsTrue, IsFalse}
-use Rattle.std.proofs.lemmas.Bool.{eqb-true}
-use Rattle.herm_model.specs.Lists.{IsIn, list_of, some_of}
+use Rattle.herm_model.specs.Lists.{IsIn, list_of, any_pass}
 use Rattle.herm_model.specs.Paths.{Fact, init, case, path_of, is_at_or_below}
 use Rattle.herm_model.specs.Types.{TypeTable, inport}
 use Rattle.herm_model.specs.WellFormedTables.{IsWellFormedTable}
 use Rattle.herm_model.specs.TypedPrograms.{IsTypedProcess}
-use Rattle.herm_model.specs.Statements.{Process}
+use Rattle.herm_model.specs.Statements.{Process, Form, Call}
 use Rattle.herm_model.specs.Outcomes.{Outcome, same_outcome, outcomes}
-use Rattle.herm_model.specs.Nodes.{Target, node, end, end_by, Node, Exit, exits, process_nodes, entry_of}
-use Rattle.herm_model.specs.Control.{flow_of, IsReached}
-use Rattle.herm_model.specs.FlowLaws.{Rise}
+use Rattle.herm_model.specs.Nodes.{Node, Exit, exits, process_nodes, entry_of}
+use Rattle.herm_model.specs.Targets.{Target, node, end, end_by}
+use Rattle.herm_model.specs.ControlPaths.{flow_of, IsReached}
 use Rattle.herm_model.specs.Refusals.{Labels, label_at, AreExact, IsAccepted}
 use Rattle.herm_model.specs.Values.{Cell, cell, an_inport, no_parts, part, gaps}
-use Rattle.herm_model.proofs.Lists.{not_true, in-map, in-map_from}
+use Rattle.herm_model.proofs.Lists.{not_true, in-map_from}
 use Rattle.herm_model.proofs.NodeExits.{exits-outcomes}
 use Rattle.herm_model.proofs.Reached.{same_outcome_self}
 use Rattle.herm_model.proofs.FactTests.{got-IsIn}
 use Rattle.herm_model.proofs.NodeNumbers.{process_numbers-Rise}
 use Rattle.herm_model.proofs.Options.{none-not_some, some-injective, map-some}
-use Rattle.herm_journal.proofs.Rising.{same-true}
-use Rattle.herm_journal.specs.Actions.{hear}
-use Rattle.herm_journal.specs.Messages.{CellAction, CellReply}
-use Rattle.herm_forms.specs.Bodies.{Name, Body, Result, goes, stays, stuck, counted_step, counted_action}
+use Rattle.herm_journal.specs.Actions.{hear, to_put, to_answer, put, take}
+use Rattle.herm_journal.specs.Messages.{CellAction, CellReply, CellWant}
+use Rattle.herm_forms.specs.Frames.{Name, Loop, Frame, Completion, goes, stays, stuck, counted_step, counted_action}
 use Rattle.herm_forms.specs.Exchanges
-use Rattle.herm_forms.specs.Edges.{Code, code_of, arrive}
-use Rattle.herm_forms.specs.Acts.{is_action, leads_to, act, settle, settle_reply}
-use Rattle.herm_forms.specs.Arrival.{AreSound, AreDeep, held_after}
-use Rattle.herm_forms.specs.Callings.{Calling, calling_form, lent_by, IsReply}
-use Rattle.herm_forms.specs.CallLaws.{without_lent}
-use Rattle.herm_forms.specs.Incoming.{ComesIn}
-use Rattle.herm_forms.specs.TypedForms.{IsTypedIn}
+use Rattle.herm_forms.specs.EdgeFinalising.{arrive}
+use Rattle.herm_forms.specs.Modules.{Module, module_of}
+use Rattle.herm_forms.specs.Acts.{is_action, leads_to, act, settle, settle_reply, wants}
+use Rattle.herm_forms.specs.laws.EdgeLaws.{AreSound, AreDeep, held_after}
+use Rattle.herm_forms.specs.OpenCalls.{Calling, calling_form, call_type, lent_paths, IsReply}
+use Rattle.herm_forms.specs.laws.CallLaws.{without_lent}
+use Rattle.herm_forms.specs.Incoming.{ComesIn, looked_at}
+use Rattle.herm_forms.specs.laws.TypedForms.{IsTypedIn}
 use Rattle.herm_forms.proofs.KeptBodies.{All, went, stayed, never, is-arrive, all-work}
 use Rattle.herm_forms.proofs.typed.EachGoes.{each-goes}
 use Rattle.herm_source.proofs.incoming.SuitsPorts.{find-some}
 use Rattle.herm_forms.proofs.forms.NewValues.{typed-by}
 use Rattle.herm_forms.proofs.forms.PlainForms.{same_facts}
-use Rattle.herm_source.specs.States.{State, own_name, begin, node_at, behind}
-use Rattle.herm_source.specs.Local.{IsLabelled, lent, calling, HasFact, row_of, row_type, IsLocallySound}
+use Rattle.herm_forms.proofs.typed.WantsThere.{want-there}
+use Rattle.herm_forms.proofs.typed.AnswersTaken.{answer-taken, reply-taken}
+use Rattle.herm_forms.specs.laws.FormsTakeAnswers.{IsTaken, IsTakenAt, Meets}
+use Rattle.herm_source.proofs.sound.WantsHeld.{SendsBy, sends-by, RepliesFrom, replies-from}
+use Rattle.herm_model.specs.Calls.{message_type}
+use Rattle.herm_model.proofs.TypedCalls.{inport-is}
+use Rattle.herm_source.specs.States.{State, own_name, begin, node_at, state_after}
+use Rattle.herm_source.specs.Local.{IsLabelled, open_loans, calling, HasFact, row_of, row_type, IsListAt, IsLocallySound}
 use Rattle.herm_source.proofs.BeginningsSound.{beginnings-sound}
 use Rattle.herm_source.proofs.OutcomesArrive.{outcomes-arrive}
 use Rattle.herm_source.proofs.reached.FoundNeeds.{labelled}
 use Rattle.herm_source.proofs.reached.LeadsOn.{entry-reached}
-use Rattle.herm_source.proofs.sound.Shapes.{LoopsFit, AreItems, IsShaped, shape-kept, fewer-shape, OnlyWorks, only-lets}
+use Rattle.herm_source.proofs.placed.PlacedSteps.{find-own}
+use Rattle.herm_source.proofs.sound.Shapes.{AreLists, AreItems, IsShaped, shape-kept, fewer-shape, OnlyWorks, only-lets}
+use Rattle.herm_source.proofs.sound.LoopLists.{only-differ, arrived-kept, lists-at}
 use Rattle.herm_source.proofs.sound.OneForm.{rows-fit, Found, GoesWell, AnswersWell, acts-well, settles-well, replies-well}
 
 -- the facts that a process has, as a test
-abbrev pub has_of : Code → State Name → Fact → Bool
-has_of c s f = cond (some_of (λ p. is_at_or_below p (path_of f)) (lent c s)) false (label_at c.label s.point f)
+abbrev pub has_of : Module → State Name → Fact → Bool
+has_of c s f = cond (any_pass (λ p. is_at_or_below p (path_of f)) (open_loans c s)) false (label_at c.label s.point f)
 
-labelled-iff : (c : Code) (t : Target) (f : Fact) → IsLabelled c t f ↔ IsTrue (label_at c.label t f)
+labelled-iff : (c : Module) (t : Target) (f : Fact) → IsLabelled c t f ↔ IsTrue (label_at c.label t f)
 labelled-iff c (node i) f = ((λ h. h), (λ h. h))
 labelled-iff c end f = ((λ h. absurd h), (λ h. not_true h))
 labelled-iff c (end_by e) f = ((λ h. absurd h), (λ h. not_true h))
 
-fact-iff : (c : Code) (s : State Name) (f : Fact) → HasFact c s f ↔ IsTrue (has_of c s f)
-fact-iff c s f = by (some_of (λ p. is_at_or_below p (path_of f)) (lent c s))
+fact-iff : (c : Module) (s : State Name) (f : Fact) → HasFact c s f ↔ IsTrue (has_of c s f)
+fact-iff c s f = by (any_pass (λ p. is_at_or_below p (path_of f)) (open_loans c s))
   where
     by : (b : Bool) → (IsLabelled c s.point f × IsFalse b) ↔ IsTrue (cond b false (label_at c.label s.point f))
     by true = ((λ h. absurd (true≢false h.1)), (λ h. not_true h))
     by false = ((λ h. (labelled-iff c s.point f).0 h.0), (λ h. ((labelled-iff c s.point f).1 h, refl)))
 
-pub values-of : (c : Code) (s : State Name) → IsLocallySound c s → AreSound c (has_of c s) s.body.variables
+pub values-of : (c : Module) (s : State Name) → IsLocallySound c s → AreSound c (has_of c s) s.frame.variables
 values-of c s sound = record {
   types = sound.types;
   facts = record {
@@ -71,7 +78,7 @@ values-of c s sound = record {
   };
 }
 
-pub sound-of : (c : Code) (s : State Name) → AreSound c (has_of c s) s.body.variables → LoopsFit c s.body.loops → AreItems s.body.work → ((k : ℕ) → s.body.call ≡ Some k → (call : Calling) × (calling c s ≡ Some call)) → IsLocallySound c s
+pub sound-of : (c : Module) (s : State Name) → AreSound c (has_of c s) s.frame.variables → ((l : Loop Name) → IsIn l s.frame.loops → IsListAt c s.point s.frame.loops l) → AreItems s.frame.work → ((k : ℕ) → s.frame.call ≡ Some k → (call : Calling) × (calling c s ≡ Some call)) → IsLocallySound c s
 sound-of c s sound loops work call = record {
   values = record {
     values = λ p. ((λ h. (fact-iff c s (init p)).1 ((sound.facts.values p).0 h)), (λ h. (sound.facts.values p).1 ((fact-iff c s (init p)).0 h)));
@@ -83,25 +90,21 @@ sound-of c s sound loops work call = record {
   work = work;
 }
 
+-- the lists of its loops
+pub lists-of : (c : Module) (s : State Name) → IsLocallySound c s → AreLists c s.frame.loops
+lists-of c s sound = ((λ l h. let x = sound.loops l h in (x.0, x.1, x.2)), only-differ s.frame.loops (λ l h. (sound.loops l h).4))
+
+arrived-lists : (c : Module) (t : Target) (b : Frame Name) → AreLists c (arrive c t b).loops → (l : Loop Name) → IsIn l (arrive c t b).loops → IsListAt c t (arrive c t b).loops l
+arrived-lists c t b lists = lists-at c t (arrive c t b).loops lists.0 lists.1 (arrived-kept c t b)
+
 -- where no call is open they are those of the point; in an open call, those without what is lent
-idle-has : (c : Code) (s : State Name) (f : Fact) → s.body.call ≡ None → has_of c s f ≡ label_at c.label s.point f
-idle-has c s f idle = ap (λ (o : Option ℕ). cond (some_of (λ p. is_at_or_below p (path_of f)) (list_of (λ k. list_of (lent_by c) (calling c s)) o)) false (label_at c.label s.point f)) idle
+idle-has : (c : Module) (s : State Name) (f : Fact) → s.frame.call ≡ None → has_of c s f ≡ label_at c.label s.point f
+idle-has c s f idle = ap (λ (o : Option ℕ). cond (any_pass (λ p. is_at_or_below p (path_of f)) (list_of (λ k. list_of (lent_paths c) (calling c s)) o)) false (label_at c.label s.point f)) idle
 
-called-has : (c : Code) (s : State Name) (n : ℕ) (k : Calling) (f : Fact) → s.body.call ≡ Some n → calling c s ≡ Some k → has_of c s f ≡ without_lent c k (label_at c.label s.point) f
+called-has : (c : Module) (s : State Name) (n : ℕ) (k : Calling) (f : Fact) → s.frame.call ≡ Some n → calling c s ≡ Some k → has_of c s f ≡ without_lent c k (label_at c.label s.point) f
 called-has c s n k f open' is =
-    ap (λ (o : Option ℕ). cond (some_of (λ p. is_at_or_below p (path_of f)) (list_of (λ k. list_of (lent_by c) (calling c s)) o)) false (label_at c.label s.point f)) open'
-    ∙ ap (λ (o : Option Calling). cond (some_of (λ p. is_at_or_below p (path_of f)) (list_of (lent_by c) o)) false (label_at c.label s.point f)) is
-
--- a node is found by its number
-find-numbered : (ns : List Node) (n : Node) → Rise (map (λ (n : Node). n.number) ns) → IsIn n ns → find (λ (m : Node). nat_eq m.number n.number) ns ≡ Some n
-find-numbered [] n rise h = absurd h
-find-numbered (m ∷ ns) n rise (inl is) =
-    ap (λ b. cond b (Some m) (find (λ (m : Node). nat_eq m.number n.number) ns)) (ap (λ (k : Node). nat_eq m.number k.number) is ∙ same-true m.number) ∙ ap (λ (m : Node). Some m) (sym is)
-find-numbered (m ∷ ns) n rise (inr h) = by (nat_eq m.number n.number) refl (find-numbered ns n rise.1 h)
-  where
-    by : (b : Bool) → nat_eq m.number n.number ≡ b → find (λ (m : Node). nat_eq m.number n.number) ns ≡ Some n → cond b (Some m) (find (λ (m : Node). nat_eq m.number n.number) ns) ≡ Some n
-    by true e found = let below = rise.0 n.number (in-map (λ (n : Node). n.number) n ns h) in let z : ⊥ = omega (arith, below, eqb-true m.number n.number e) in absurd z
-    by false e found = found
+    ap (λ (o : Option ℕ). cond (any_pass (λ p. is_at_or_below p (path_of f)) (list_of (λ k. list_of (lent_paths c) (calling c s)) o)) false (label_at c.label s.point f)) open'
+    ∙ ap (λ (o : Option Calling). cond (any_pass (λ p. is_at_or_below p (path_of f)) (list_of (lent_paths c) o)) false (label_at c.label s.point f)) is
 
 -- a module whose process is typed, in a well-formed table, and accepted with exact labels
 pub record IsGoodModule (exceptions : ℕ) (types : TypeTable) (processes : List Process) (p : Process) (labels : Labels) : Type 0 where
@@ -111,11 +114,11 @@ pub record IsGoodModule (exceptions : ℕ) (types : TypeTable) (processes : List
   pub accepted : IsAccepted types p
 
 module _ (exceptions : ℕ) (types : TypeTable) (processes : List Process) (p : Process) (labels : Labels) (good : IsGoodModule exceptions types processes p labels) where
-  abbrev c : Code
-  c = code_of types p labels
+  abbrev c : Module
+  c = module_of types p labels
 
   abbrev pub StandsWell : State Name → Type 0
-  StandsWell s = IsLocallySound (code_of types p labels) s × IsReached (flow_of types p) s.point
+  StandsWell s = IsLocallySound (module_of types p labels) s × IsReached (flow_of types p) s.point
 
   deep : AreDeep c
   deep t h = good.well.shallow t (good.typed.variables_known t h)
@@ -124,7 +127,7 @@ module _ (exceptions : ℕ) (types : TypeTable) (processes : List Process) (p : 
   typed-at i n at = record { table = good.well; variables = good.typed.variables_known; typed = good.typed.typed n (got-IsIn (process_nodes p) i n at) }
 
   row-at : (i : ℕ) (n : Node) → slice_get (process_nodes p) i ≡ Some n → (t : ℕ) → row_of c n.form ≡ Some t → row_type c n.number ≡ Some t
-  row-at i n at t e = ap (option_and_then (λ (n : Node). row_of c n.form)) (find-numbered (process_nodes p) n (process_numbers-Rise p) (got-IsIn (process_nodes p) i n at)) ∙ e
+  row-at i n at t e = ap (option_and_then (λ (n : Node). row_of c n.form)) (find-own n (process_nodes p) (process_numbers-Rise p) (got-IsIn (process_nodes p) i n at)) ∙ e
 
   -- a point with a node is the node's
   record At (t : Target) (n : Node) : Type 0 where
@@ -145,20 +148,25 @@ module _ (exceptions : ℕ) (types : TypeTable) (processes : List Process) (p : 
       ((found.0).target, ap (option_map (λ (e : Exit). e.target)) found.1)
 
   -- behind an outcome
-  leads-well : (i : ℕ) (n : Node) → IsReached (flow_of types p) (node i) → slice_get (process_nodes p) i ≡ Some n → (o : Outcome) (b : Body Name) → AreSound c (held_after types p.variables n.form o (labels i)) b.variables
-      → IsShaped c None b → (s t : State Name) → behind c s (Some n) (goes o b) ≡ Some t → StandsWell t
+  leads-well : (i : ℕ) (n : Node) → IsReached (flow_of types p) (node i) → slice_get (process_nodes p) i ≡ Some n → (o : Outcome) (b : Frame Name) → AreSound c (held_after types p.variables n.form o (labels i)) b.variables
+      → IsShaped c None b → (s t : State Name) → state_after c s (Some n) (goes o b) ≡ Some t → StandsWell t
   leads-well i n reached at o b sound shaped s t is =
       let arrives = outcomes-arrive types p labels good.typed.blocks good.exact deep i n reached at o b sound s t is in
-      let m = map-some (λ (t : Target). record { code = s.code; point = t; body = arrive c t b }) (option_and_then (λ (n : Node). leads_to c n o) (Some n)) t is in
-      let shape : IsShaped c None t.body = subst (λ (x : State Name). IsShaped c None x.body) m.2 (is-arrive own_name (IsShaped c None) (IsShaped c None) (shape-kept c None) (fewer-shape c None) c m.0 b shaped) in
-      (sound-of c t (same_facts c (label_at labels t.point) (has_of c t) t.body.variables (λ f. sym (idle-has c t f shape.2)) arrives.1) shape.0 shape.1 (λ k e. none-not_some (sym shape.2 ∙ e)), arrives.0)
+      let m = map-some (λ (t : Target). record { module_number = s.module_number; point = t; frame = arrive c t b }) (option_and_then (λ (n : Node). leads_to c n o) (Some n)) t is in
+      let arrived : IsShaped c None (arrive c m.0 b) = is-arrive own_name (IsShaped c None) (IsShaped c None) (shape-kept c None) (fewer-shape c None) c m.0 b shaped in
+      let shape : IsShaped c None t.frame = subst (λ (x : State Name). IsShaped c None x.frame) m.2 arrived in
+      let lists = subst (λ (x : State Name). (l : Loop Name) → IsIn l x.frame.loops → IsListAt c x.point x.frame.loops l) m.2 (arrived-lists c m.0 b arrived.0) in
+      (sound-of c t (same_facts c (label_at labels t.point) (has_of c t) t.frame.variables (λ f. sym (idle-has c t f shape.2)) arrives.1) lists shape.1 (λ k e. none-not_some (sym shape.2 ∙ e)), arrives.0)
 
   module _ (s t : State Name) (stands : StandsWell s) where
     abbrev sound : IsLocallySound c s
     sound = stands.0
 
-    shaped-if : (call : Option ℕ) → s.body.call ≡ call → IsShaped c call s.body
-    shaped-if call e = (sound.loops, sound.work, e)
+    same-lists : (b : Frame Name) → b.loops ≡ s.frame.loops → (l : Loop Name) → IsIn l b.loops → IsListAt c s.point b.loops l
+    same-lists b same = subst (λ loops. (l : Loop Name) → IsIn l loops → IsListAt c s.point loops l) (sym same) sound.loops
+
+    shaped-if : (call : Option ℕ) → s.frame.call ≡ call → IsShaped c call s.frame
+    shaped-if call e = (lists-of c s sound, sound.work, e)
 
     module _ (n : Node) (at : node_at c s.point ≡ Some n) where
       here : At s.point n
@@ -170,90 +178,160 @@ module _ (exceptions : ℕ) (types : TypeTable) (processes : List Process) (p : 
       label-here : (f : Fact) → label_at labels s.point f ≡ labels here.place f
       label-here f = ap (λ t. label_at labels t f) here.is
 
-      module _ (idle : s.body.call ≡ None) where
-        idle-values : AreSound c (labels here.place) s.body.variables
-        idle-values = same_facts c (has_of c s) (labels here.place) s.body.variables (λ f. idle-has c s f idle ∙ label-here f) (values-of c s sound)
+      -- the statement finds what it needs
+      found-here : Found c n.form (labels here.place)
+      found-here f need = subst IsTrue (label-here f) ((labelled-iff c s.point f).0 (labelled types p labels good.exact good.accepted s.point n f at stands.1 need))
+
+      -- where a result is taken, it leads on
+      taken-behind : (r : Completion Name) → IsTaken (outcomes types p.variables n.form) r → (y : State Name) × (state_after c s (Some n) r ≡ Some y)
+      taken-behind (goes o b) h =
+          let leads = leads-there n (got-IsIn (process_nodes p) here.place n here.there) o h in
+          let next : Target → State Name = λ t. record { module_number = s.module_number; point = t; frame = arrive c t b } in
+          (next leads.0, ap (option_map next) leads.1)
+      taken-behind (stays b) h = absurd h
+      taken-behind stuck h = absurd h
+
+      -- and an open call stays
+      answered-behind : (form : Form) (a : CellAction Name) (r : Completion Name) → IsTakenAt (outcomes types p.variables n.form) form a r → (y : State Name) × (state_after c s (Some n) r ≡ Some y)
+      answered-behind (Call o arguments) (put (Some k) m) (goes x b) h = absurd h
+      answered-behind (Call o arguments) (put (Some k) m) (stays b) h = (record s { frame = b }, refl)
+      answered-behind (Call o arguments) (put (Some k) m) stuck h = absurd h
+      answered-behind form a r h = taken-behind r h
+
+      -- what is known of the form there, and of a call there
+      pub typed-here : IsTypedIn exceptions processes c n.form
+      typed-here = typed-at here.place n here.there
+
+      pub call-here : (k : Calling) → calling c s ≡ Some k → (t : ℕ) × (call_type c k ≡ Some t)
+      call-here k is_calling = by n.form (sym (ap (option_and_then (λ (n : Node). calling_form n.form)) at) ∙ is_calling) typed-here
+        where
+          by : (form : Form) → calling_form form ≡ Some k → IsTypedIn exceptions processes c form → (t : ℕ) × (call_type c k ≡ Some t)
+          by (Call o arguments) form typed =
+              let h = typed.typed in (
+                h.0,
+                ap (call_type c) (sym (some-injective form)) ∙ ap (λ p. option_and_then message_type (option_and_then (slice_get types) p)) (inport-is types p.variables o h.0 h.3) ∙ ap (option_and_then message_type) h.3.5,
+              )
+          by form' form typed = none-not_some form
+
+      module _ (idle : s.frame.call ≡ None) where
+        idle-values : AreSound c (labels here.place) s.frame.variables
+        idle-values = same_facts c (has_of c s) (labels here.place) s.frame.variables (λ f. idle-has c s f idle ∙ label-here f) (values-of c s sound)
 
         idle-found : Found c n.form (labels here.place)
-        idle-found f need = subst IsTrue (label-here f) ((labelled-iff c s.point f).0 (labelled types p labels good.exact good.accepted s.point n f at stands.1 need))
+        idle-found = found-here
+
+        -- what an action wants is there, and suits where it goes
+        pub want-here : IsTrue (is_action c n.form) → (w : CellWant Name) × (wants own_name c n.form s.frame ≡ Some w)
+        want-here acts = want-there exceptions processes c own_name (labels here.place) s.frame idle-values n.form (typed-at here.place n here.there) acts found-here
+
+        pub sent-here : (to : ℕ) (m : Cell Name) → wants own_name c n.form s.frame ≡ Some (to_put to m) → SendsBy c n.form s.frame.variables to m
+        sent-here to m want = sends-by exceptions processes c n.form (typed-at here.place n here.there) (labels here.place) s.frame idle-values found-here to m want
+
+        pub replied-here : (caller call : ℕ) (r : CellReply Name) → wants own_name c n.form s.frame ≡ Some (to_answer caller call r) → RepliesFrom c s.frame.variables caller call r
+        replied-here caller call r want = replies-from exceptions processes c n.form (typed-at here.place n here.there) (labels here.place) s.frame idle-values found-here caller call r want
+
+        -- an answer to it is taken
+        pub answer-here : IsTrue (is_action c n.form) → (from : ℕ) (a : CellAction Name) → Meets a n.form → ((k : ℕ) (m : Cell Name) → a ≡ take k m → (t : ℕ) × (looked_at c n.form s.frame from ≡ Some t))
+            → (y : State Name) × (state_after c s (Some n) (settle own_name c n.form from a (counted_action (counted_step s.frame))) ≡ Some y)
+        answer-here acts from a meets looks =
+            answered-behind n.form a (settle own_name c n.form from a (counted_action (counted_step s.frame)))
+            (answer-taken exceptions processes c own_name (labels here.place) (counted_action (counted_step s.frame)) idle-values n.form (typed-at here.place n here.there) acts found-here from a meets looks)
 
         -- a local step
-        pub steps-well : behind c s (Some n) (act own_name c n.number n.form (counted_step s.body)) ≡ Some t → StandsWell t
+        pub steps-well : state_after c s (Some n) (act own_name c n.number n.form (counted_step s.frame)) ≡ Some t → StandsWell t
         steps-well is =
-            by (act own_name c n.number n.form (counted_step s.body))
-            (acts-well exceptions processes c n.form n.number (typed-at here.place n here.there) (row-at here.place n here.there) (labels here.place) (counted_step s.body) idle-values idle-found (shaped-if None idle)) is
+            by (act own_name c n.number n.form (counted_step s.frame))
+            (acts-well exceptions processes c n.form n.number (typed-at here.place n here.there) (row-at here.place n here.there) (labels here.place) (counted_step s.frame) idle-values idle-found (shaped-if None idle)) is
           where
-            by : (r : Result Name) → GoesWell c n.form (labels here.place) r → behind c s (Some n) r ≡ Some t → StandsWell t
+            by : (r : Completion Name) → GoesWell c n.form (labels here.place) r → state_after c s (Some n) r ≡ Some t → StandsWell t
             by (goes o b) well is = leads-well here.place n reached-here here.there o b well.0 well.1 s t is
             by (stays b) well is = absurd well
             by stuck well is = none-not_some is
 
         -- where a local step is next, it is there
-        pub step-there : IsFalse (is_action c n.form) → (y : State Name) × (behind c s (Some n) (act own_name c n.number n.form (counted_step s.body)) ≡ Some y)
+        pub step-there : IsFalse (is_action c n.form) → (y : State Name) × (state_after c s (Some n) (act own_name c n.number n.form (counted_step s.frame)) ≡ Some y)
         step-there local =
             let x =
-            each-goes exceptions processes c n.form (typed-at here.place n here.there) local own_name n.number (labels here.place) (counted_step s.body) idle-values idle-found
-            (λ r t row form type rs e. rows-fit c n.number row (row-at here.place n here.there row (ap (row_of c) form ∙ type)) s.body.loops sound.loops rs e) in
+            each-goes exceptions processes c n.form (typed-at here.place n here.there) local own_name n.number (labels here.place) (counted_step s.frame) idle-values idle-found
+            (λ r t row form type rs e. rows-fit c n.number row (row-at here.place n here.there row (ap (row_of c) form ∙ type)) s.frame.loops (lists-of c s sound).0 rs e) in
             let leads = leads-there n (got-IsIn (process_nodes p) here.place n here.there) x.0 x.3 in
-            let next : Target → State Name = λ t. record { code = s.code; point = t; body = arrive c t x.1 } in
-            (next leads.0, ap (behind c s (Some n)) x.2 ∙ ap (option_map next) leads.1)
+            let next : Target → State Name = λ t. record { module_number = s.module_number; point = t; frame = arrive c t x.1 } in
+            (next leads.0, ap (state_after c s (Some n)) x.2 ∙ ap (option_map next) leads.1)
 
         -- an answer
-        pub answers-well : IsTrue (is_action c n.form) → (place : ℕ) (action : CellAction Name) → ComesIn own_name c n.form (counted_action (counted_step s.body)) place action
-            → behind c s (Some n) (settle own_name c n.form place action (counted_action (counted_step s.body))) ≡ Some t → StandsWell t
+        pub answers-well : IsTrue (is_action c n.form) → (place : ℕ) (action : CellAction Name) → ComesIn own_name c n.form (counted_action (counted_step s.frame)) place action
+            → state_after c s (Some n) (settle own_name c n.form place action (counted_action (counted_step s.frame))) ≡ Some t → StandsWell t
         answers-well acts place action comes is =
-            by (settle own_name c n.form place action (counted_action (counted_step s.body)))
-            (settles-well exceptions processes c n.form (typed-at here.place n here.there) acts place action (labels here.place) (counted_action (counted_step s.body)) idle-values idle-found comes (shaped-if None idle)) is
+            by (settle own_name c n.form place action (counted_action (counted_step s.frame)))
+            (settles-well exceptions processes c n.form (typed-at here.place n here.there) acts place action (labels here.place) (counted_action (counted_step s.frame)) idle-values idle-found comes (shaped-if None idle)) is
           where
-            opened : (b : Body Name) → (k : Calling) → calling_form n.form ≡ Some k → AreSound c (without_lent c k (labels here.place)) b.variables → LoopsFit c b.loops → AreItems b.work → (m : ℕ) → b.call ≡ Some m → StandsWell (record s { body = b })
+            opened : (b : Frame Name) → (k : Calling) → calling_form n.form ≡ Some k → AreSound c (without_lent c k (labels here.place)) b.variables → b.loops ≡ s.frame.loops → AreItems b.work → (m : ℕ) → b.call ≡ Some m → StandsWell (record s { frame = b })
             opened b k form values loops work m called =
                 let is_calling : calling c s ≡ Some k = ap (option_and_then (λ (n : Node). calling_form n.form)) at ∙ form in
-                let y : State Name = record s { body = b } in (
+                let y : State Name = record s { frame = b } in (
                   sound-of c y
                       (same_facts c (without_lent c k (labels here.place)) (has_of c y) b.variables
-                      (λ f. ap (λ h. cond (some_of (λ p. is_at_or_below p (path_of f)) (lent_by c k)) false h) (sym (label-here f)) ∙ sym (called-has c y m k f called is_calling)) values)
-                      loops work (λ _ _. (k, is_calling)),
+                      (λ f. ap (λ h. cond (any_pass (λ p. is_at_or_below p (path_of f)) (lent_paths c k)) false h) (sym (label-here f)) ∙ sym (called-has c y m k f called is_calling)) values)
+                      (same-lists b loops) work (λ _ _. (k, is_calling)),
                   stands.1,
                 )
 
-            by : (r : Result Name) → AnswersWell c n.form (labels here.place) r → behind c s (Some n) r ≡ Some t → StandsWell t
+            by : (r : Completion Name) → AnswersWell c n.form (labels here.place) s.frame.loops r → state_after c s (Some n) r ≡ Some t → StandsWell t
             by (goes o b) well is = leads-well here.place n reached-here here.there o b well.0 well.1 s t is
             by (stays b) well is = subst StandsWell (some-injective is) (opened b well.0 well.1 well.2 well.3 well.4 well.5 well.6)
             by stuck well is = none-not_some is
 
-      -- the reply to an open call
-      pub replied-well : (m : ℕ) (k : Calling) → s.body.call ≡ Some m → calling c s ≡ Some k → (call : ℕ) (action : CellAction Name) → ((i : ℕ) (r : CellReply Name) → action ≡ hear i r → IsReply c k r)
-          → behind c s (Some n) (settle_reply c n.form call action (counted_action s.body)) ≡ Some t → StandsWell t
-      replied-well m k called is_calling call action reply is =
-          by (settle_reply c n.form call action (counted_action s.body))
-          (replies-well exceptions processes c n.form k (sym (ap (option_and_then (λ (n : Node). calling_form n.form)) at) ∙ is_calling) (typed-at here.place n here.there) call action (labels here.place) (counted_action s.body) reply
-          (same_facts c (has_of c s) (without_lent c k (labels here.place)) s.body.variables
-          (λ f. called-has c s m k f called is_calling ∙ ap (λ h. cond (some_of (λ p. is_at_or_below p (path_of f)) (lent_by c k)) false h) (label-here f)) (values-of c s sound))
-          (sound.loops, sound.work, refl)) is
+      -- a reply that an open call waits for is taken
+      pub reply-here : (m : ℕ) (k : Calling) → s.frame.call ≡ Some m → calling c s ≡ Some k → (i : ℕ) (r : CellReply Name) → i ≡ m → IsReply c k r → (y : State Name) × (state_after c s (Some n) (settle_reply c n.form m (hear i r) (counted_action s.frame)) ≡ Some y)
+      reply-here m k called is_calling i r same reply =
+          let form : calling_form n.form ≡ Some k = sym (ap (option_and_then (λ (n : Node). calling_form n.form)) at) ∙ is_calling in
+          taken-behind (settle_reply c n.form m (hear i r) (counted_action s.frame))
+          (by n.form form (typed-at here.place n here.there) found-here)
         where
-          by : (r : Result Name) → GoesWell c n.form (labels here.place) r → behind c s (Some n) r ≡ Some t → StandsWell t
+          values : AreSound c (without_lent c k (labels here.place)) s.frame.variables
+          values =
+              same_facts c (has_of c s) (without_lent c k (labels here.place)) s.frame.variables
+              (λ f. called-has c s m k f called is_calling ∙ ap (λ h. cond (any_pass (λ p. is_at_or_below p (path_of f)) (lent_paths c k)) false h) (label-here f)) (values-of c s sound)
+
+          by : (form : Form) → calling_form form ≡ Some k → IsTypedIn exceptions processes c form → Found c form (labels here.place) → IsTaken (outcomes types p.variables form) (settle_reply c form m (hear i r) (counted_action s.frame))
+          by (Call o arguments) form typed found =
+              let e : record { port = o; arguments = arguments } ≡ k = some-injective form in
+              reply-taken exceptions processes c o arguments typed (labels here.place) found m i r (counted_action s.frame) same (subst (λ k. IsReply c k r) (sym e) reply) (subst (λ k. AreSound c (without_lent c k (labels here.place)) s.frame.variables) (sym e) values)
+          by form' form typed found = none-not_some form
+
+      -- the reply to an open call
+      pub replied-well : (m : ℕ) (k : Calling) → s.frame.call ≡ Some m → calling c s ≡ Some k → (call : ℕ) (action : CellAction Name) → ((i : ℕ) (r : CellReply Name) → action ≡ hear i r → IsReply c k r)
+          → state_after c s (Some n) (settle_reply c n.form call action (counted_action s.frame)) ≡ Some t → StandsWell t
+      replied-well m k called is_calling call action reply is =
+          by (settle_reply c n.form call action (counted_action s.frame))
+          (replies-well exceptions processes c n.form k (sym (ap (option_and_then (λ (n : Node). calling_form n.form)) at) ∙ is_calling) (typed-at here.place n here.there) call action (labels here.place) (counted_action s.frame) reply
+          (same_facts c (has_of c s) (without_lent c k (labels here.place)) s.frame.variables
+          (λ f. called-has c s m k f called is_calling ∙ ap (λ h. cond (any_pass (λ p. is_at_or_below p (path_of f)) (lent_paths c k)) false h) (label-here f)) (values-of c s sound))
+          (lists-of c s sound, sound.work, refl)) is
+        where
+          by : (r : Completion Name) → GoesWell c n.form (labels here.place) r → state_after c s (Some n) r ≡ Some t → StandsWell t
           by (goes o b) well is = leads-well here.place n reached-here here.there o b well.0 well.1 s t is
           by (stays b) well is = absurd well
           by stuck well is = none-not_some is
 
     -- what was done with the front of the work list
-    pub worked-well : (item : Cell Name) (work : List (Cell Name)) → s.body.work ≡ item ∷ work → (action : CellAction Name)
-        → behind c s None (Exchanges.work_done item action (counted_action (record (s.body) { work = work }))) ≡ Some t → StandsWell t
+    pub worked-well : (item : Cell Name) (work : List (Cell Name)) → s.frame.work ≡ item ∷ work → (action : CellAction Name)
+        → state_after c s None (Exchanges.work_done item action (counted_action (record (s.frame) { work = work }))) ≡ Some t → StandsWell t
     worked-well item work front action is =
-        by (Exchanges.work_done item action (counted_action (record (s.body) { work = work })))
-        (all-work (OnlyWorks c s.body.variables s.body.loops s.body.call) (only-lets c s.body.variables s.body.loops s.body.call) item action (counted_action (record (s.body) { work = work }))
+        by (Exchanges.work_done item action (counted_action (record (s.frame) { work = work })))
+        (all-work (OnlyWorks c s.frame.variables s.frame.loops s.frame.call) (only-lets c s.frame.variables s.frame.loops s.frame.call) item action (counted_action (record (s.frame) { work = work }))
         ((λ x h. sound.work x (subst (IsIn x) (sym front) (inr h))), refl, refl, refl)) is
       where
-        same : (b : Body Name) → OnlyWorks c s.body.variables s.body.loops s.body.call b → StandsWell (record s { body = b })
+        same : (b : Frame Name) → OnlyWorks c s.frame.variables s.frame.loops s.frame.call b → StandsWell (record s { frame = b })
         same b h =
-            let y : State Name = record s { body = b } in
-            let has : (f : Fact) → has_of c s f ≡ has_of c y f = λ f. ap (λ (o : Option ℕ). cond (some_of (λ p. is_at_or_below p (path_of f)) (list_of (λ k. list_of (lent_by c) (calling c s)) o)) false (label_at labels s.point f)) (sym h.3) in (
-              sound-of c y (subst (λ ps. AreSound c (has_of c y) ps) (sym h.1) (same_facts c (has_of c s) (has_of c y) s.body.variables has (values-of c s sound)))
-                  (subst (LoopsFit c) (sym h.2) sound.loops) h.0 (λ k e. sound.call k (sym h.3 ∙ e)),
+            let y : State Name = record s { frame = b } in
+            let has : (f : Fact) → has_of c s f ≡ has_of c y f = λ f. ap (λ (o : Option ℕ). cond (any_pass (λ p. is_at_or_below p (path_of f)) (list_of (λ k. list_of (lent_paths c) (calling c s)) o)) false (label_at labels s.point f)) (sym h.3) in (
+              sound-of c y (subst (λ ps. AreSound c (has_of c y) ps) (sym h.1) (same_facts c (has_of c s) (has_of c y) s.frame.variables has (values-of c s sound)))
+                  (same-lists b h.2) h.0 (λ k e. sound.call k (sym h.3 ∙ e)),
               stands.1,
             )
 
-        by : (r : Result Name) → All (OnlyWorks c s.body.variables s.body.loops s.body.call) (OnlyWorks c s.body.variables s.body.loops s.body.call) r → behind c s None r ≡ Some t → StandsWell t
+        by : (r : Completion Name) → All (OnlyWorks c s.frame.variables s.frame.loops s.frame.call) (OnlyWorks c s.frame.variables s.frame.loops s.frame.call) r → state_after c s None r ≡ Some t → StandsWell t
         by (goes o b) (went o' b' h) is = none-not_some is
         by (stays b) (stayed b' h) is = subst StandsWell (some-injective is) (same b h)
         by stuck never is = none-not_some is
@@ -271,9 +349,7 @@ module _ (exceptions : ℕ) (types : TypeTable) (processes : List Process) (p : 
           let values =
           beginnings-sound types p labels good.exact deep t more e code number (cell m (an_inport port) no_parts)
           (typed-by types t (inport h.1 h.2) m (an_inport port) no_parts (subst (λ t. slice_get types t ≡ Some (inport h.1 h.2)) (sym type) h.4) tt refl) refl in
-          let shape : IsShaped c None x.body =
-          is-arrive own_name (IsShaped c None) (IsShaped c None) (shape-kept c None) (fewer-shape c None) c c.entry
-          (record {
+          let first : Frame Name = record {
             number = number;
             variables = part (cell m (an_inport port) no_parts) (gaps (pred (length c.variables)));
             loops = [];
@@ -284,8 +360,9 @@ module _ (exceptions : ℕ) (types : TypeTable) (processes : List Process) (p : 
             actions = 0;
             serial = 0;
             finalised = [];
-          })
-          ((λ l h. absurd h), (λ item h. absurd h), refl) in (
-            sound-of c x (same_facts c (label_at labels (entry_of p)) (has_of c x) x.body.variables (λ f. sym (idle-has c x f shape.2)) values) shape.0 shape.1 (λ k e. none-not_some (sym shape.2 ∙ e)),
+          } in
+          let shape : IsShaped c None x.frame =
+          is-arrive own_name (IsShaped c None) (IsShaped c None) (shape-kept c None) (fewer-shape c None) c c.entry first (((λ l h. absurd h), tt), (λ item h. absurd h), refl) in (
+            sound-of c x (same_facts c (label_at labels (entry_of p)) (has_of c x) x.frame.variables (λ f. sym (idle-has c x f shape.2)) values) (arrived-lists c c.entry first shape.0) shape.1 (λ k e. none-not_some (sym shape.2 ∙ e)),
             entry-reached types p,
           )

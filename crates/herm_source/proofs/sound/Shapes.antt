@@ -5,10 +5,12 @@ use Rattle.herm_model.specs.Values.{Kind, Cell, cell, Parts, no_parts, gap, part
 use Rattle.herm_model.specs.Typed.{Fits, many}
 use Rattle.herm_model.specs.Finalising.{waits, pending, pending_in}
 use Rattle.herm_model.proofs.Lists.{in-append_cases, in-filter_from}
-use Rattle.herm_forms.specs.Bodies.{Name, Loop, Body}
-use Rattle.herm_forms.specs.Edges.{Code}
+use Rattle.herm_forms.specs.Frames.{Name, Loop, Frame}
+use Rattle.herm_forms.specs.Modules.{Module}
 use Rattle.herm_forms.proofs.KeptBodies.{LetsGo, IsKept, AnyLoops, FewerLoops}
 use Rattle.herm_source.specs.Local.{row_type, IsItem}
+use Rattle.herm_model.specs.Statements.{Differ}
+use Rattle.herm_source.proofs.sound.LoopLists.{numbers, fewer-differ}
 
 abbrev pub AreItems : List (Cell Name) → Type 0
 AreItems cs = (item : Cell Name) → IsIn item cs → IsItem item
@@ -34,18 +36,22 @@ mutual
   pending-items-in (gap ps) = pending-items-in ps
   pending-items-in (part c ps) = both-items (pending c) (pending_in ps) (pending-items c) (pending-items-in ps)
 
-module _ (c : Code) where
+module _ (c : Module) where
   -- the rows that the loops have yet to visit are full
   abbrev pub LoopsFit : List (Loop Name) → Type 0
   LoopsFit loops = (l : Loop Name) → IsIn l loops → (t : ℕ) × (row_type c l.statement ≡ Some t) × Fits c.types (many t) l.rows
 
+  -- and no two are of one loop
+  abbrev pub AreLists : List (Loop Name) → Type 0
+  AreLists loops = LoopsFit loops × Differ (numbers loops)
+
   module _ (call : Option ℕ) where
     -- what is so but of the loops, and with them
-    abbrev pub IsAtWork : Body Name → Type 0
+    abbrev pub IsAtWork : Frame Name → Type 0
     IsAtWork b = AreItems b.work × (b.call ≡ call)
 
-    abbrev pub IsShaped : Body Name → Type 0
-    IsShaped b = LoopsFit b.loops × AreItems b.work × (b.call ≡ call)
+    abbrev pub IsShaped : Frame Name → Type 0
+    IsShaped b = AreLists b.loops × AreItems b.work × (b.call ≡ call)
 
     pub work-kept : IsKept IsAtWork
     work-kept = record {
@@ -75,11 +81,28 @@ module _ (c : Code) where
     }
 
     pub fewer-shape : FewerLoops IsShaped
-    fewer-shape stay b h = (λ l m. h.0 l (in-filter_from (λ (l : Loop Name). stay l.statement) l b.loops m).0, h.1, h.2)
+    fewer-shape stay b h = (((λ l m. h.0.0 l (in-filter_from (λ (l : Loop Name). stay l.statement) l b.loops m).0), fewer-differ stay b.loops h.0.1), h.1, h.2)
+
+    -- with these loops
+    module _ (loops : List (Loop Name)) where
+      abbrev pub HasLoops : Frame Name → Type 0
+      HasLoops b = IsAtWork b × (b.loops ≡ loops)
+
+      pub loops-kept : IsKept HasLoops
+      loops-kept = record {
+        letting = record {
+          value = λ d b h. (work-kept.letting.value d b h.0, h.1);
+          parts = λ ps b h. (work-kept.letting.parts ps b h.0, h.1);
+          name = λ m b h. h;
+        };
+        variables = λ ps b h. h;
+        serial = λ s b h. h;
+        calls = λ k b h. h;
+      }
 
   -- a body whose variables, loops and call are these, and what is let go of it
   module _ (variables : Parts Name) (loops : List (Loop Name)) (call : Option ℕ) where
-    abbrev pub OnlyWorks : Body Name → Type 0
+    abbrev pub OnlyWorks : Frame Name → Type 0
     OnlyWorks b = AreItems b.work × (b.variables ≡ variables) × (b.loops ≡ loops) × (b.call ≡ call)
 
     pub only-lets : LetsGo OnlyWorks

@@ -1,5 +1,5 @@
 use Rattle.std.proofs.Common.{◌≤◌, ◌-◌}
-use Rattle.herm_compile.specs.Refused.{IsPlace}
+use Rattle.herm_compile.specs.Places.{IsPlace}
 use Rattle.herm_compile.proofs.places.place_from.Given as goal
 
 abbrev pub invariant-bytes : goal.invariant-bytes

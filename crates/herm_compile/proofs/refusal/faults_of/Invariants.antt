@@ -1,6 +1,8 @@
 use Rattle.std.proofs.Common.{◌≡◌, take}
 use Rattle.std.specs.Prelude.{map}
-use Rattle.herm_compile.specs.Refused.{IsPlace, seen, reported}
+use Rattle.herm_compile.specs.Seen.{seen}
+use Rattle.herm_compile.specs.Places.{IsPlace}
+use Rattle.herm_compile.specs.Refused.{reported}
 use Rattle.herm_compile.proofs.refusal.faults_of.Given as goal
 
 abbrev pub invariant-gaps : goal.invariant-gaps

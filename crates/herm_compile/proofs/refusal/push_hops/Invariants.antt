@@ -1,7 +1,7 @@
 use Rattle.std.proofs.Common.{◌≡◌, ◌++◌}
 use Rattle.std.specs.List.{flat_map}
 use Rattle.herm_compile.specs.Straight.{ok_hops}
-use Rattle.herm_compile.specs.Refused.{hop_text}
+use Rattle.herm_compile.specs.RefusalWords.{hop_text}
 use Rattle.herm_compile.proofs.refusal.push_hops.Given as goal
 
 abbrev pub invariant-hops : goal.invariant-hops

@@ -1,5 +1,5 @@
 use Rattle.std.proofs.Common.{◌≡◌, ◌++◌, drop}
-use Rattle.herm_driver.specs.Texts.{refusals_text}
+use Rattle.herm_driver.specs.RefusalLines.{refusals_text}
 use Rattle.herm_driver.proofs.text.refusals.Given as goal
 
 -- what is written so far, joined with the lines of the rest, is the whole

@@ -1,7 +1,7 @@
 use Rattle.std.proofs.Common.{refl, []}
 use Rattle.herm_model.specs.Statements.{handler, no_handlers}
 use Rattle.herm_model.specs.Outcomes.{disconnected}
-use Rattle.herm_model.specs.Examples.{calls, discards_its_call, missing_after_call, send_q, send_w, with_ask}
+use Rattle.herm_model.specs.examples.RefusedProcesses.{calls, discards_its_call, missing_after_call, send_q, send_w, with_ask}
 use Rattle.herm_model.proofs.ExampleRefusals.{computed}
 use Rattle.herm_model.proofs.examples.discarded_calls_take_arguments.Goals as goal
 

@@ -1,5 +1,5 @@
 use Rattle.std.proofs.Common.{refl, []}
-use Rattle.herm_model.specs.Examples.{inserted_twice, missing_after_insert, used_after_insert, with_rows}
+use Rattle.herm_model.specs.examples.RefusedProcesses.{inserted_twice, missing_after_insert, used_after_insert, with_rows}
 use Rattle.herm_model.proofs.ExampleRefusals.{computed}
 use Rattle.herm_model.proofs.examples.inserts_take_rows.Goals as goal
 

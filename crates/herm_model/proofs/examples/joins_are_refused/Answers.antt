@@ -1,6 +1,6 @@
 use Rattle.std.proofs.Common.{refl}
 use Rattle.herm_model.specs.Types.{predefined}
-use Rattle.herm_model.specs.Examples.{missing_after_one_branch, missing_in_a_loop, sent_twice, set_in_one_branch}
+use Rattle.herm_model.specs.examples.RefusedProcesses.{missing_after_one_branch, missing_in_a_loop, sent_twice, set_in_one_branch}
 use Rattle.herm_model.proofs.ExampleRefusals.{computed}
 use Rattle.herm_model.proofs.examples.joins_are_refused.Goals as goal
 

@@ -1,5 +1,5 @@
 use Rattle.std.proofs.Common.{refl, [], ◌∷◌}
-use Rattle.herm_model.specs.Examples.{busy, calls, denies, discard_w, keeps_nothing, keeps_w, missing_after_call, missing_at_return, on_busy, with_ask}
+use Rattle.herm_model.specs.examples.RefusedProcesses.{busy, calls, denies, discard_w, keeps_nothing, keeps_w, missing_after_call, missing_at_return, on_busy, with_ask}
 use Rattle.herm_model.proofs.ExampleRefusals.{computed}
 use Rattle.herm_model.proofs.examples.kept_parameters_come_back.Goals as goal
 

@@ -1,4 +1,4 @@
-use Rattle.herm_model.specs.Control.{flow_of}
+use Rattle.herm_model.specs.ControlPaths.{flow_of}
 use Rattle.herm_model.specs.Refusals.{demands}
 use Rattle.herm_model.proofs.HeldDecided.{refusals-exist}
 use Rattle.herm_model.proofs.refusals.refusals_exist.Goals as goal

@@ -1,6 +1,6 @@
 use Rattle.std.proofs.Common.{[], ◌∷◌, refl, sym, true≢false}
-use Rattle.herm_model.specs.Examples.{calls, denies, on_busy}
-use Rattle.herm_model.specs.judged.TypedExamples.{ring_types, ring_node, ring_main, sender_types, sender, two_senders, keeping_types, item_types, items_in_a_table}
+use Rattle.herm_model.specs.examples.RefusedProcesses.{calls, denies, on_busy}
+use Rattle.herm_model.specs.examples.TypedExamples.{ring_types, ring_node, ring_main, sender_types, sender, two_senders, keeping_types, item_types, items_in_a_table}
 use Rattle.herm_model.proofs.DecidedPrograms.{test-programs}
 use Rattle.herm_model.proofs.typed_examples.programs_are_typed.Goals as goal
 

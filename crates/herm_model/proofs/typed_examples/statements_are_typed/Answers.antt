@@ -1,5 +1,5 @@
 use Rattle.std.proofs.Common.{refl}
-use Rattle.herm_model.specs.judged.TypedStatementExamples.{typed_statements}
+use Rattle.herm_model.specs.examples.TypedStatementExamples.{typed_statements}
 use Rattle.herm_model.proofs.JudgedExamples.{judge-typed}
 use Rattle.herm_model.proofs.typed_examples.statements_are_typed.Goals as goal
 

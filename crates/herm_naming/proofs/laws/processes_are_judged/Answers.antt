@@ -1,5 +1,5 @@
 use Rattle.std.proofs.Common.{refl}
-use Rattle.herm_alphabet.specs.Letters.{keyword_of}
+use Rattle.herm_alphabet.specs.KeywordLetters.{keyword_of}
 use Rattle.herm_naming.proofs.laws.processes_are_judged.Goals as goal
 
 pub returns : goal.returns

@@ -1,4 +1,4 @@
-use Rattle.herm_runs.specs.Countdowns.{as_named}
+use Rattle.herm_runs.specs.examples.Countdowns.{as_named}
 use Rattle.herm_journal.specs.Renaming.{forget_name}
 use Rattle.herm_runs.proofs.joined.CountdownsJoined.{counts-joined}
 use Rattle.herm_runs.proofs.joining.countdowns_are_joined.Goals as goal

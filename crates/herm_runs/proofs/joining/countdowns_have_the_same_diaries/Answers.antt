@@ -1,4 +1,4 @@
-use Rattle.herm_runs.specs.Countdowns.{counting_down, counting_up, CountTheSame}
+use Rattle.herm_runs.specs.examples.Countdowns.{counting_down, counting_up, CountTheSame}
 use Rattle.herm_journal.specs.Renaming.{forget_name}
 use Rattle.herm_runs.specs.Joining.{turned}
 use Rattle.herm_runs.proofs.joined.CountdownsJoined.{counts-joined}

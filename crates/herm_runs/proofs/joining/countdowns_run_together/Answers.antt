@@ -1,4 +1,4 @@
-use Rattle.herm_runs.specs.Countdowns.{as_named, counting_down, counting_up, CountTheSame}
+use Rattle.herm_runs.specs.examples.Countdowns.{as_named, counting_down, counting_up, CountTheSame}
 use Rattle.herm_runs.specs.Joining.{turned}
 use Rattle.herm_runs.proofs.joined.CountdownsJoined.{counts-joined}
 use Rattle.herm_runs.proofs.joined.CountdownsKeep.{down-keeps, up-keeps}

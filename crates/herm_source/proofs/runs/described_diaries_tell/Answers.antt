@@ -1,5 +1,5 @@
 use Rattle.herm_source.specs.Instance.{source, nameless, IsSoundIn}
-use Rattle.herm_source.specs.Headline.{FindsNeedsIn}
+use Rattle.herm_source.specs.AcceptedRuns.{FindsNeedsIn}
 use Rattle.herm_source.specs.Renaming.{forget_state}
 use Rattle.herm_runs.proofs.SuitsRuns.{described-diaries-tell}
 use Rattle.herm_source.proofs.instance.SourceForgets.{source-forgets-names}

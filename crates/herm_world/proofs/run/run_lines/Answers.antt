@@ -1,4 +1,4 @@
-use Rattle.herm_system.specs.Statuses.{line}
+use Rattle.herm_system.specs.Lines.{line}
 use Rattle.std.proofs.Common.{flat_map, ◌≡◌, ℕ, ◌+◌, List, [], ◌∷◌, map, length, drop, ap, subst, sym, ◌∙◌, arith}
 use Rattle.std.proofs.Math.ListN.{drop_of_length-le}
 use Rattle.herm_world.specs.Lines.{sent}

@@ -1,0 +1,34 @@
+-- The words behind the codes of refusals. Language reference, "Refusals".
+use Rattle.std.specs.Prelude.{ℕ, List, codes, ◌∷◌, ◌++◌, decimal}
+use Rattle.herm_lexer.specs.declared.fault.LexFault.TheVariants as lexical
+use Rattle.herm_compile.specs.declared.phase.FileFault.{FileFault}
+use Rattle.herm_compile.specs.declared.phase.FileFault.TheVariants.{Byte, Token as NoToken, TooLong, Syntax, Nesting}
+use Rattle.herm_meaning.specs.Faults.{Code, unknown, twice, cycle, deep, bad_key, bad_state}
+use Rattle.std.specs.List.{flat_map}
+use Rattle.herm_model.specs.ControlPaths as control
+use Rattle.herm_compile.specs.Form.{name_of}
+use Rattle.herm_compile.specs.Straight.{refusal_of}
+use Rattle.herm_compile.specs.declared.check.Gap.{Gap}
+
+abbrev pub fault_words : FileFault → List ℕ
+fault_words (Byte offset) = codes "byte"
+fault_words (NoToken offset) = codes "token"
+fault_words (TooLong offset) = codes "too long"
+fault_words (Syntax offset) = codes "syntax"
+fault_words (Nesting offset) = codes "nesting"
+
+abbrev pub definition_words : Code → List ℕ
+definition_words unknown = codes "unknown"
+definition_words twice = codes "twice"
+definition_words cycle = codes "cycle"
+definition_words deep = codes "deep"
+definition_words bad_key = codes "bad key"
+definition_words bad_state = codes "bad state"
+
+-- a space, a statement's number and that it went on
+abbrev pub hop_text : control.Hop → List ℕ
+hop_text hop = 32 ∷ (decimal hop.number ++ codes ":ok")
+
+-- that there is no value at a string, and the path on which it is missing (Language reference, "Refusals")
+abbrev pub gap_words : List (List ℕ) → Gap → List ℕ
+gap_words names gap = codes "needs init(" ++ (name_of names gap.string ++ (codes ") by start" ++ flat_map hop_text (refusal_of gap).path))

@@ -1,0 +1,11 @@
+pub mod Finding
+pub mod Places
+pub mod Keeping
+pub mod Gathering
+pub mod Stepping
+pub mod Sizes
+pub mod Roles
+pub mod Shapes
+pub mod FactLaws
+pub mod KeepLaws
+pub mod Judging

@@ -1,0 +1,7 @@
+use Rattle.std.proofs.Common.{[], take}
+use Rattle.herm_meaning.specs.Marks.{in_turn, field_marks}
+use Rattle.herm_defs.specs.Judged.{Judges}
+use Rattle.herm_defs.proofs.marks.judge_fields.Given as goal
+
+abbrev pub invariant-loop-place : goal.invariant-loop-place
+invariant-loop-place l = Judges l.context l.module_number (in_turn (λ f. f.name.text) field_marks [] (take l.place l.fields)) l.fn.faults.items l.faults.items

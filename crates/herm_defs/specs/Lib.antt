@@ -1,0 +1,11 @@
+-- What the code of definitions computes, in plain definitions.
+pub mod Seen
+pub mod Few
+pub mod Found
+pub mod Kept
+pub mod Steps
+pub mod Known
+pub mod Judged
+pub mod Plain
+pub mod PlainFacts
+pub mod Refused

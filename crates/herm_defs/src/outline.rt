@@ -1,0 +1,185 @@
+//! Shapes with numbers in place of names.
+ghost use Rattle.std.specs.Prelude.{◌≡◌, ◌<◌, ◌^◌, ◌++◌, [], ◌∷◌, cond, IfOk, OnOk, map, length};
+ghost use Rattle.std.specs.List.{list_any};
+ghost use Rattle.std.specs.Str.{bytes_eq};
+ghost use Rattle.herm_syntax.specs.Views.{letters, field_of, param_of, raising_of, shape_of};
+ghost use Rattle.herm_types.specs.View.{mode_view, param_view, raise_view, shape_view, parts_view};
+ghost use Rattle.herm_meaning.specs.Walks.{place_of};
+ghost use Rattle.herm_meaning.specs.Meaning.{mode_meant, parameter_meant, raising_meant, kept_places, numbered_shape, part_names};
+ghost use Rattle.herm_syntax.specs.Views as views;
+ghost use Rattle.herm_defs.specs.Few.{part_total};
+
+use crate::names::Names;
+use herm_base::{ExcNo, Name, TypeNo, Word};
+use herm_syntax::{Field, ModeForm, ParamForm, RaiseForm, ShapeForm};
+use herm_types::{Mode, Param, Part, RaiseDecl, Shape};
+use std::alloc::{AllocError, Global};
+
+fn number_of(names: &Names, name: &Name) -> TypeNo
+    requires { length names.now < 2 ^ 32 }
+    ensures { result.0 ≡ place_of names.now (letters name.now) }
+{
+    TypeNo(names.number(name.text.bytes()))
+}
+
+fn words_of(alloc: Global, names: &[Name]) -> Result<Vec<Word>, AllocError>
+    ensures { IfOk result (λ v. v.items ≡ map letters names.now) }
+{
+    let mut words = Vec::new(alloc);
+    for name in names {
+        let word = name.text.clone()?;
+        words.push(word)?;
+    }
+    Ok(words)
+}
+
+fn parts_of(alloc: Global, types: &Names, fields: &[Field]) -> Result<Vec<Part>, AllocError>
+    requires { length types.now < 2 ^ 32 }
+    ensures types { IfOk result (λ v. map (λ p. p.of.0) v.items ≡ map (λ f. place_of types.now f.1) (map field_of fields.now)) }
+    ensures names { IfOk result (λ v. map (λ p. p.name) v.items ≡ map (λ f. f.0) (map field_of fields.now)) }
+{
+    let mut parts = Vec::new(alloc);
+    for field in fields {
+        let name = field.name.text.clone()?;
+        let of = number_of(types, &field.of);
+        parts.push(Part { name, of })?;
+    }
+    Ok(parts)
+}
+
+fn mode_of(mode: ModeForm) -> Mode
+    ensures { mode_view result ≡ mode_meant (views.mode_of mode) }
+{
+    match mode {
+        ModeForm::In => Mode::In,
+        ModeForm::Inout => Mode::Inout,
+        ModeForm::Out => Mode::Out,
+    }
+}
+
+fn params_of(alloc: Global, types: &Names, params: &[ParamForm]) -> Result<Vec<Param>, AllocError>
+    requires { length types.now < 2 ^ 32 }
+    ensures types { IfOk result (λ v. map param_view v.items ≡ map (parameter_meant types.now) (map param_of params.now)) }
+    ensures names { IfOk result (λ v. map (λ p. p.name) v.items ≡ map (λ p. p.1.0) (map param_of params.now)) }
+{
+    let mut numbered = Vec::new(alloc);
+    for param in params {
+        let name = param.field.name.text.clone()?;
+        let mode = mode_of(param.mode);
+        let of = number_of(types, &param.field.of);
+        numbered.push(Param { mode, name, of })?;
+    }
+    Ok(numbered)
+}
+
+fn any_is(names: &[Name], name: &[u8]) -> bool
+    ensures { result ≡ list_any (λ n. bytes_eq name.now (letters n)) names.now }
+{
+    names.iter().any(|other| name == other.text.bytes())
+}
+
+fn is_among(names: &[Name], name: &[u8]) -> bool
+    ensures { result ≡ list_any (bytes_eq name.now) (map letters names.now) }
+{
+    any_is(names, name)
+}
+
+fn push_if(numbers: &mut Vec<u32>, test: bool, number: u32) -> Result<(), AllocError>
+    ensures { OnOk result (numbers.new.items ≡ numbers.old.items ++ cond test (number ∷ []) []) }
+{
+    if test {
+        numbers.push(number)?;
+        return Ok(());
+    }
+    Ok(())
+}
+
+/// The places of the parameters that are kept, rising.
+fn kept_places(alloc: Global, params: &[ParamForm], keeps: &[Name]) -> Result<Vec<u32>, AllocError>
+    requires { length params.now < 2 ^ 31 }
+    ensures { IfOk result (λ v. v.items ≡ kept_places 0 (map (λ p. p.1.0) (map param_of params.now)) (map letters keeps.now)) }
+{
+    let mut kept = Vec::new(alloc);
+    if keeps.is_empty() {
+        return Ok(kept);
+    }
+    for (place, param) in params.iter().enumerate() {
+        let test = is_among(keeps, param.field.name.text.bytes());
+        push_if(&mut kept, test, place as u32)?;
+    }
+    Ok(kept)
+}
+
+fn raises_of(
+    alloc: Global,
+    types: &Names,
+    exceptions: &Names,
+    params: &[ParamForm],
+    raises: &[RaiseForm],
+) -> Result<Vec<RaiseDecl>, AllocError>
+    requires few { length params.now < 2 ^ 31 }
+    requires exceptions { length exceptions.now < 2 ^ 32 }
+    ensures { IfOk result (λ v. map raise_view v.items ≡ map (raising_meant types.now exceptions.now (map param_of params.now)) (map raising_of raises.now)) }
+{
+    let mut numbered = Vec::new(alloc);
+    for raise in raises {
+        let exc = ExcNo(exceptions.number(raise.name.text.bytes()));
+        let keeps = kept_places(alloc, params, raise.keeps.as_slice())?;
+        numbered.push(RaiseDecl { exc, keeps })?;
+    }
+    Ok(numbered)
+}
+
+/// A shape with numbers in place of names, without keys and facts.
+pub fn numbered_shape(
+    alloc: Global,
+    types: &Names,
+    exceptions: &Names,
+    shape: &ShapeForm,
+) -> Result<Shape, AllocError>
+    requires few { part_total shape.now < 2 ^ 31 }
+    requires types { length types.now < 2 ^ 32 }
+    requires exceptions { length exceptions.now < 2 ^ 32 }
+    ensures shape { IfOk result (λ s. shape_view s ≡ numbered_shape types.now exceptions.now (shape_of shape.now)) }
+    ensures parts { IfOk result (λ s. parts_view s ≡ part_names (shape_of shape.now)) }
+{
+    match shape {
+        ShapeForm::Names(values) => {
+            let words = words_of(alloc, values.as_slice())?;
+            Ok(Shape::Names(words))
+        }
+        ShapeForm::Fields(fields) => {
+            let parts = parts_of(alloc, types, fields.as_slice())?;
+            Ok(Shape::Fields(parts))
+        }
+        ShapeForm::Cases(fields) => {
+            let parts = parts_of(alloc, types, fields.as_slice())?;
+            Ok(Shape::Cases(parts))
+        }
+        ShapeForm::Rows { row, keys: _ } => Ok(Shape::Rows {
+            row: number_of(types, row),
+            keys: Vec::new(alloc),
+        }),
+        ShapeForm::Inport { message, facts: _ } => Ok(Shape::Inport {
+            message: number_of(types, message),
+            facts: Vec::new(alloc),
+        }),
+        ShapeForm::Outport { port } => Ok(Shape::Outport {
+            port: number_of(types, port),
+        }),
+        ShapeForm::CallMessage { params, raises } => {
+            let numbered = params_of(alloc, types, params.as_slice())?;
+            let raised = raises_of(
+                alloc,
+                types,
+                exceptions,
+                params.as_slice(),
+                raises.as_slice(),
+            )?;
+            Ok(Shape::CallMessage {
+                params: numbered,
+                raises: raised,
+            })
+        }
+    }
+}

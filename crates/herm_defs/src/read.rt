@@ -1,0 +1,220 @@
+//! Keys and declared facts are looked up in the outline of definitions.
+ghost use Rattle.std.specs.Prelude.{◌≡◌, ◌<◌, ◌^◌, ◌++◌, [], ◌∷◌, IfOk, OnOk, map, flat_map, length};
+ghost use Rattle.herm_syntax.specs.Views.{letters, fact_of, shape_of};
+ghost use Rattle.herm_types.specs.View.{fact_view, shape_view, parts_view};
+ghost use Rattle.herm_meaning.specs.Walks.{place_of, parts_of};
+ghost use Rattle.herm_meaning.specs.Meaning.{fact_meant, meant_shape, part_names};
+ghost use Rattle.herm_model.specs.Facts.{full_facts};
+ghost use Rattle.herm_defs.specs.Few.{part_total};
+ghost use Rattle.herm_defs.specs.Steps.{init_meant, full_meant, case_meant};
+
+use crate::fields::{place_in, walk_fields};
+use crate::names::Names;
+use crate::outline::numbered_shape;
+use herm_base::{Name, TypeNo, VarNo};
+use herm_syntax::{DFact, ShapeForm};
+use herm_types::{Fact, Path, Shape, TypeTable};
+use std::alloc::{AllocError, Global};
+
+/// The place of a part with a name, or the number of parts, none for a type that is not there.
+fn part_place(table: &TypeTable, t: TypeNo, name: &[u8]) -> u32
+    ensures { result ≡ place_of (parts_of table.now t.0) name.now }
+{
+    table.keeps();
+    if t.0 as usize >= table.len() {
+        return 0;
+    }
+    let place = place_in(table.shape(t), name);
+    place as u32
+}
+
+/// The places of the fields of a table's key.
+fn keys_of(
+    alloc: Global,
+    table: &TypeTable,
+    row: TypeNo,
+    keys: &[Name],
+) -> Result<Vec<u32>, AllocError>
+    ensures { IfOk result (λ v. v.items ≡ map (place_of (parts_of table.now row.0)) (map letters keys.now)) }
+{
+    let mut places = Vec::with_capacity(alloc, keys.len())?;
+    for key in keys {
+        places.push(part_place(table, row, key.text.bytes()))?;
+    }
+    Ok(places)
+}
+
+/// Appends the facts that `init` of a path lists.
+fn push_init(
+    alloc: Global,
+    table: &TypeTable,
+    message: TypeNo,
+    path: &[Name],
+    facts: &mut Vec<Fact>,
+) -> Result<(), AllocError>
+    ensures { OnOk result (map fact_view facts.new.items ≡ map fact_view facts.old.items ++ init_meant table.now message.0 (map letters path.now)) }
+{
+    match walk_fields(alloc, table, message, path)? {
+        Some((parts, _)) => {
+            facts.push(Fact::Init(Path {
+                var: VarNo(0),
+                parts,
+            }))?;
+            Ok(())
+        }
+        None => Ok(()),
+    }
+}
+
+/// The facts of a full value of a type, none for a type that is not there.
+fn full_of(
+    alloc: Global,
+    table: &TypeTable,
+    parts: Vec<u32>,
+    t: TypeNo,
+) -> Result<Vec<Fact>, AllocError>
+    ensures { IfOk result (λ v. map fact_view v.items ≡ full_facts table.now.shapes t.0 (0 ∷ parts.items)) }
+{
+    if t.0 as usize >= table.len() {
+        return Ok(Vec::new(alloc));
+    }
+    let path = Path {
+        var: VarNo(0),
+        parts,
+    };
+    let facts = table.full_facts(alloc, &path, t)?;
+    Ok(facts)
+}
+
+fn append(facts: &mut Vec<Fact>, more: Vec<Fact>) -> Result<(), AllocError>
+    ensures { OnOk result (facts.new.items ≡ facts.old.items ++ more.items) }
+{
+    for fact in more {
+        facts.push(fact)?;
+    }
+    Ok(())
+}
+
+/// Appends the facts that `full` of a path lists.
+fn push_full(
+    alloc: Global,
+    table: &TypeTable,
+    message: TypeNo,
+    path: &[Name],
+    facts: &mut Vec<Fact>,
+) -> Result<(), AllocError>
+    ensures { OnOk result (map fact_view facts.new.items ≡ map fact_view facts.old.items ++ full_meant table.now message.0 (map letters path.now)) }
+{
+    match walk_fields(alloc, table, message, path)? {
+        Some((parts, t)) => {
+            let full = full_of(alloc, table, parts, t)?;
+            append(facts, full)?;
+            Ok(())
+        }
+        None => Ok(()),
+    }
+}
+
+/// Appends the fact that `case` of a path lists.
+fn push_case(
+    alloc: Global,
+    table: &TypeTable,
+    message: TypeNo,
+    path: &[Name],
+    component: &Name,
+    facts: &mut Vec<Fact>,
+) -> Result<(), AllocError>
+    ensures { OnOk result (map fact_view facts.new.items ≡ map fact_view facts.old.items ++ case_meant table.now message.0 (map letters path.now) (letters component.now)) }
+{
+    match walk_fields(alloc, table, message, path)? {
+        Some((parts, t)) => {
+            let place = part_place(table, t, component.text.bytes());
+            let var = VarNo(0);
+            facts.push(Fact::Case(Path { var, parts }, place))?;
+            Ok(())
+        }
+        None => Ok(()),
+    }
+}
+
+/// Appends the facts that a declared fact lists, for a message of a type.
+fn push_fact(
+    alloc: Global,
+    table: &TypeTable,
+    message: TypeNo,
+    fact: &DFact,
+    facts: &mut Vec<Fact>,
+) -> Result<(), AllocError>
+    ensures { OnOk result (map fact_view facts.new.items ≡ map fact_view facts.old.items ++ fact_meant table.now message.0 (fact_of fact.now)) }
+{
+    match fact {
+        DFact::Init(path) => {
+            push_init(alloc, table, message, path.as_slice(), facts)?;
+            Ok(())
+        }
+        DFact::Full(path) => {
+            push_full(alloc, table, message, path.as_slice(), facts)?;
+            Ok(())
+        }
+        DFact::Case(path, component) => {
+            push_case(alloc, table, message, path.as_slice(), component, facts)?;
+            Ok(())
+        }
+    }
+}
+
+/// The facts that are declared of a message.
+fn facts_of(
+    alloc: Global,
+    table: &TypeTable,
+    message: TypeNo,
+    list: &[DFact],
+) -> Result<Vec<Fact>, AllocError>
+    ensures { IfOk result (λ v. map fact_view v.items ≡ flat_map (fact_meant table.now message.0) (map fact_of list.now)) }
+{
+    let mut facts = Vec::new(alloc);
+    for fact in list {
+        push_fact(alloc, table, message, fact, &mut facts)?;
+    }
+    Ok(facts)
+}
+
+/// A shape with its key and its declared facts, which are looked up in the outline.
+pub fn read_shape(
+    alloc: Global,
+    types: &Names,
+    exceptions: &Names,
+    table: &TypeTable,
+    form: &ShapeForm,
+) -> Result<Shape, AllocError>
+    requires few { part_total form.now < 2 ^ 31 }
+    requires few_types { length types.now < 2 ^ 32 }
+    requires few_exceptions { length exceptions.now < 2 ^ 32 }
+    requires types { types.now ≡ table.now.names }
+    requires exceptions { exceptions.now ≡ table.now.exceptions }
+    ensures shape { IfOk result (λ s. shape_view s ≡ meant_shape table.now (shape_of form.now)) }
+    ensures parts { IfOk result (λ s. parts_view s ≡ part_names (shape_of form.now)) }
+{
+    match form {
+        ShapeForm::Rows { row, keys } => {
+            let t = TypeNo(types.number(row.text.bytes()));
+            let places = keys_of(alloc, table, t, keys.as_slice())?;
+            Ok(Shape::Rows {
+                row: t,
+                keys: places,
+            })
+        }
+        ShapeForm::Inport { message, facts } => {
+            let t = TypeNo(types.number(message.text.bytes()));
+            let declared = facts_of(alloc, table, t, facts.as_slice())?;
+            Ok(Shape::Inport {
+                message: t,
+                facts: declared,
+            })
+        }
+        _ => {
+            let shape = numbered_shape(alloc, types, exceptions, form)?;
+            Ok(shape)
+        }
+    }
+}

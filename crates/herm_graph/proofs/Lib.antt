@@ -1,0 +1,11 @@
+pub mod Telling
+pub mod Reaching
+pub mod Counting
+pub mod Relations
+pub mod Meeting
+pub mod Nexts
+pub mod Orders
+pub mod Rings
+pub mod Limits
+pub mod UnknownNames
+pub mod Copying

@@ -1,0 +1,11 @@
+use Rattle.std.proofs.Common.{◌≡◌, length, map, take}
+use Rattle.herm_model.specs.Types.{named_types}
+use Rattle.herm_types.specs.View.{shape_view}
+use Rattle.herm_types.specs.Chosen.{lists}
+use Rattle.herm_graph.proofs.links.all_named.Given as goal
+
+abbrev pub invariant-loop-shape : goal.invariant-loop-shape
+invariant-loop-shape l = record {
+  said : lists l.all.items ≡ map named_types (map shape_view (take l.shape-index l.shapes));
+  each : length l.all.items ≡ l.shape-index;
+}

@@ -1,0 +1,10 @@
+pub mod ControlExamples
+pub mod RefusedProcesses
+pub mod ExampleTypes
+pub mod TableExamples
+pub mod BodyExamples
+pub mod StatementTypes
+pub mod TableRuleExamples
+pub mod TypedExamples
+pub mod TypedStatementExamples
+pub mod UntypedStatementExamples

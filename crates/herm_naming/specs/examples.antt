@@ -1,0 +1,3 @@
+pub mod StatementExamples
+pub mod ExampleScope
+pub mod ProcessExamples

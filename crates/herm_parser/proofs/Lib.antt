@@ -1,0 +1,11 @@
+pub mod Loops
+pub mod Depths
+pub mod Seen
+pub mod Going
+pub mod Choosing
+pub mod SeenForms
+pub mod Bodies
+pub mod Turns
+pub mod Numbered
+pub mod Whole
+pub mod OneAnswer

@@ -1,0 +1,6 @@
+pub mod CheckedExamples
+pub mod CountExamples
+pub mod RunExamples
+pub mod Programs
+pub mod ComponentPrograms
+pub mod MiddleExamples

@@ -1,0 +1,9 @@
+pub mod CountLaws
+pub mod NumberLaws
+pub mod NeedsLaws
+pub mod PlaceLaws
+pub mod RunLaws
+pub mod LedgerLaws
+pub mod SoundProcesses
+pub mod Standing
+pub mod Wants

@@ -1,2 +1,0 @@
--- What is claimed of processes of checked programs.
-pub mod SoundProcesses
