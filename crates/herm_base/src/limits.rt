@@ -1,7 +1,7 @@
 //! The limits of a run: how many processes, ports, steps and workers there may be.
 ghost use Rattle.std.specs.Prelude.{◌≡◌, ◌≤◌, IfErr, IfOk, OnOk};
 ghost use Rattle.std.specs.List.{AllByRecursion};
-ghost use Rattle.herm_base.specs.Limits.{given, greatest, IsInRange, IsFaultOf, IsFirstFault};
+ghost use Rattle.herm_base.specs.RunLimits.{given, greatest, IsInRange, IsFaultOf, IsFirstFault};
 
 /// One of the four limits, in the order in which they are judged.
 #[derive(Clone, Copy, Debug, PartialEq, Eq)]

@@ -21,7 +21,7 @@ use Rattle.herm_syntax.specs.declared.expressions.UnaryOp.{UnaryOp}
 use Rattle.herm_syntax.specs.declared.statements.Stmt.{Stmt}
 use Rattle.herm_syntax.specs.declared.statements.StmtForm.{StmtForm}
 use Rattle.herm_syntax.specs.declared.statements.StmtForm.TheBlock as forms
-use Rattle.herm_syntax.specs.Views.{letters, path_of, literal_of, atom_of, sign_symbol, expression_of, conjunctions_of, conjunction_of, comparisons_of, comparison_of, compared_of, sum_of, products_of, product_of, unaries_of, primary_of, statement_of, statements_of, arms_of, port_arms_of, otherwise_of, body_of}
+use Rattle.herm_syntax.specs.View.{name_view, path_form_view, literal_view, atom_view, unary_op_view, expr_view, conjs_view, conj_view, comps_view, comp_view, compared_view, sum_view, prods_view, prod_view, unaries_view, primary_view, stmt_form_view, stmt_rows_view, arms_view, port_arms_view, otherwise_view, stmts_view}
 use Rattle.herm_syntax.specs.Trees.{Letters, Path, Literal, Integer, Text, Boolean, Tag, Atom, Constant, Place, Expression, Chain, Compare, Unary, Operands, NoOperand, Operand, Comparison, NoComparison, With, Primary, Simple, Size, Paren, TextOf, LengthOf, Move, Unite, Dissolve, Wrap, Insert, Connect, Send, Receive, New, Discard, Reveal, Remove, Get, Statement, Assign, Unwrap, Call, Return, ReturnBy, Create, Raise, Leave, Case, For, Select, If, While, Try, Statements, NoStatement, Further, Arms, NoArm, Arm, PortArms, NoPortArm, PortArm, Otherwise, NoElse, Else}
 use Rattle.herm_parser.specs.Along.{◌>>=◌, past_token, is_place, past_name, past_each, past_behind, past_list, past_path, past_literal, past_atom, past_sign, past_expression, past_conjunctions, past_conjunction, past_comparisons, past_comparison, past_compared, past_sum, past_products, past_product, past_unaries, past_primary}
 use Rattle.herm_parser.specs.Walk.{Walked, Moved, past_end, ended, past_pair, past_path_name, past_atoms, past_keyed, begins, stated, blocked, walk_form, walk_statements, walk_arms, walk_port_arms, walk_otherwise, walk_body}
@@ -114,8 +114,8 @@ list_goes past view skip one (x ∷ xs) = then_goes (one x) (each_goes (past_beh
 abbrev pub skip_path : Path → Tokens → Tokens
 skip_path p tokens = skip_list skip_name p tokens
 
-path_goes : (p : PathForm) → Goes (past_path p) (skip_path (path_of p))
-path_goes p = list_goes past_name letters skip_name name_goes p.parts.items
+path_goes : (p : PathForm) → Goes (past_path p) (skip_path (path_form_view p))
+path_goes p = list_goes past_name name_view skip_name name_goes p.parts.items
 
 abbrev pub skip_literal : Literal → Tokens → Tokens
 skip_literal (Integer n) tokens = tail tokens
@@ -123,7 +123,7 @@ skip_literal (Text t) tokens = tail tokens
 skip_literal (Boolean b) tokens = tail tokens
 skip_literal (Tag name value) tokens = tail (tail (tail tokens))
 
-literal_goes : (l : LiteralForm) → Goes (past_literal l) (skip_literal (literal_of l))
+literal_goes : (l : LiteralForm) → Goes (past_literal l) (skip_literal (literal_view l))
 literal_goes (literals.Int n) = token_goes
 literal_goes (literals.Text t) = token_goes
 literal_goes (literals.Bool b) = token_goes
@@ -133,7 +133,7 @@ abbrev pub skip_atom : Atom → Tokens → Tokens
 skip_atom (Constant l) tokens = skip_literal l tokens
 skip_atom (Place p) tokens = skip_path p tokens
 
-atom_goes : (a : AtomForm) → Goes (past_atom a) (skip_atom (atom_of a))
+atom_goes : (a : AtomForm) → Goes (past_atom a) (skip_atom (atom_view a))
 atom_goes (atoms.Literal l) = literal_goes l
 atom_goes (atoms.Path p) = path_goes p
 
@@ -161,47 +161,47 @@ abbrev mutual
   skip_primary (TextOf e) tokens = tail (skip_expression e (tail (tail tokens)))
   skip_primary (LengthOf e) tokens = tail (skip_expression e (tail (tail tokens)))
 
-signed_goes : (s : Option UnaryOp) (p : PrimaryForm) → Goes (past_primary p) (skip_primary (primary_of p)) → Goes (λ t. past_sign s t >>= past_primary p) (skip_expression (Unary (option_map sign_symbol s) (primary_of p)))
+signed_goes : (s : Option UnaryOp) (p : PrimaryForm) → Goes (past_primary p) (skip_primary (primary_view p)) → Goes (λ t. past_sign s t >>= past_primary p) (skip_expression (Unary (option_map unary_op_view s) (primary_view p)))
 signed_goes None p inner = inner
 signed_goes (Some operator) p inner = then_goes token_goes inner
 
 mutual
-  expression_goes : (e : Expr) → Goes (past_expression e) (skip_expression (expression_of e))
+  expression_goes : (e : Expr) → Goes (past_expression e) (skip_expression (expr_view e))
   expression_goes (expressions.struct-Expr first shape others) = then_goes (conjunction_goes first) (conjunctions_go others)
 
-  conjunctions_go : {m : _} (others : expressions.Row_of-Conj m) → Goes (past_conjunctions others) (skip_operands (conjunctions_of others))
+  conjunctions_go : {m : _} (others : expressions.Row_of-Conj m) → Goes (past_conjunctions others) (skip_operands (conjs_view others))
   conjunctions_go expressions.end_of-Conj = stays
   conjunctions_go (expressions.more_of-Conj c others) = then_goes (then_goes token_goes (conjunction_goes c)) (conjunctions_go others)
 
-  conjunction_goes : (c : Conj) → Goes (past_conjunction c) (skip_expression (conjunction_of c))
+  conjunction_goes : (c : Conj) → Goes (past_conjunction c) (skip_expression (conj_view c))
   conjunction_goes (expressions.struct-Conj first shape others) = then_goes (comparison_goes first) (comparisons_go others)
 
-  comparisons_go : {m : _} (others : expressions.Row_of-Comp m) → Goes (past_comparisons others) (skip_operands (comparisons_of others))
+  comparisons_go : {m : _} (others : expressions.Row_of-Comp m) → Goes (past_comparisons others) (skip_operands (comps_view others))
   comparisons_go expressions.end_of-Comp = stays
   comparisons_go (expressions.more_of-Comp c others) = then_goes (then_goes token_goes (comparison_goes c)) (comparisons_go others)
 
-  comparison_goes : (c : Comp) → Goes (past_comparison c) (skip_expression (comparison_of c))
+  comparison_goes : (c : Comp) → Goes (past_comparison c) (skip_expression (comp_view c))
   comparison_goes (expressions.struct-Comp left right) = then_goes (sum_goes left) (compared_goes right)
 
-  compared_goes : (right : expressions.Held-Comp-right) → Goes (past_compared right) (skip_comparison (compared_of right))
+  compared_goes : (right : expressions.Held-Comp-right) → Goes (past_compared right) (skip_comparison (compared_view right))
   compared_goes expressions.None' = stays
   compared_goes (expressions.Some' operator pointer right) = then_goes token_goes (sum_goes right)
 
-  sum_goes : (s : Sum) → Goes (past_sum s) (skip_expression (sum_of s))
+  sum_goes : (s : Sum) → Goes (past_sum s) (skip_expression (sum_view s))
   sum_goes (expressions.struct-Sum first shape others) = then_goes (product_goes first) (products_go others)
 
-  products_go : {m : _} (others : expressions.Row_of-Sum-rest-2 m) → Goes (past_products others) (skip_operands (products_of others))
+  products_go : {m : _} (others : expressions.Row_of-Sum-rest-2 m) → Goes (past_products others) (skip_operands (prods_view others))
   products_go expressions.end_of-Sum-rest-2 = stays
   products_go (expressions.more_of-Sum-rest-2 operator p others) = then_goes (then_goes token_goes (product_goes p)) (products_go others)
 
-  product_goes : (p : Prod) → Goes (past_product p) (skip_expression (product_of p))
+  product_goes : (p : Prod) → Goes (past_product p) (skip_expression (prod_view p))
   product_goes (expressions.struct-Prod operator p shape others) = then_goes (signed_goes operator p (primary_goes p)) (unaries_go others)
 
-  unaries_go : {m : _} (others : expressions.Row_of-Prod-rest-2 m) → Goes (past_unaries others) (skip_operands (unaries_of others))
+  unaries_go : {m : _} (others : expressions.Row_of-Prod-rest-2 m) → Goes (past_unaries others) (skip_operands (unaries_view others))
   unaries_go expressions.end_of-Prod-rest-2 = stays
   unaries_go (expressions.more_of-Prod-rest-2 operator s p others) = then_goes (then_goes token_goes (signed_goes s p (primary_goes p))) (unaries_go others)
 
-  primary_goes : (p : PrimaryForm) → Goes (past_primary p) (skip_primary (primary_of p))
+  primary_goes : (p : PrimaryForm) → Goes (past_primary p) (skip_primary (primary_view p))
   primary_goes (expressions.Literal l) = literal_goes l
   primary_goes (expressions.Path p) = path_goes p
   primary_goes (expressions.Paren' pointer e) = then_goes token_goes (then_goes (expression_goes e) token_goes)
@@ -289,16 +289,16 @@ ended_goes n {past} {skip} one = record {
       end_leads n l.0 w l.2 ∙ ap tail (one.leads a l.0 l.1);
 }
 
-pair_goes : (y x : PathForm) → Goes (past_pair y x) (skip_pair (path_of y) (path_of x))
+pair_goes : (y x : PathForm) → Goes (past_pair y x) (skip_pair (path_form_view y) (path_form_view x))
 pair_goes y x = then_goes (path_goes y) (then_goes token_goes (path_goes x))
 
-path_name_goes : (x : PathForm) (name : Name) → Goes (past_path_name x name) (λ t. tail (tail (skip_path (path_of x) t)))
+path_name_goes : (x : PathForm) (name : Name) → Goes (past_path_name x name) (λ t. tail (tail (skip_path (path_form_view x) t)))
 path_name_goes x name = then_goes (path_goes x) (then_goes token_goes (name_goes name))
 
-atoms_goes : (list : List AtomForm) → Goes (past_atoms list) (skip_atoms (map atom_of list))
-atoms_goes list = then_goes token_goes (then_goes (list_goes past_atom atom_of skip_atom atom_goes list) token_goes)
+atoms_goes : (list : List AtomForm) → Goes (past_atoms list) (skip_atoms (map atom_view list))
+atoms_goes list = then_goes token_goes (then_goes (list_goes past_atom atom_view skip_atom atom_goes list) token_goes)
 
-keyed_goes : (row table : PathForm) (keys : List AtomForm) → Goes (past_keyed row table keys) (λ t. skip_atoms (map atom_of keys) (skip_pair (path_of row) (path_of table) t))
+keyed_goes : (row table : PathForm) (keys : List AtomForm) → Goes (past_keyed row table keys) (λ t. skip_atoms (map atom_view keys) (skip_pair (path_form_view row) (path_form_view table) t))
 keyed_goes row table keys = then_goes (pair_goes row table) (atoms_goes keys)
 
 stated_by : (holds : Bool) (v : ℕ × (ℕ × Tokens)) (w : ℕ × Tokens) → (if holds then Some (v.0, v.1.1) else None) ≡ Some w → moved w ≡ walked v
@@ -332,7 +332,7 @@ no_walk : Leads walked walked (λ w. Some w) plain
 no_walk = record { leads = λ w v e. let here : v ≡ w = cc in ap (λ (u : ℕ × (ℕ × Tokens)). u.1.1) here }
 
 mutual
-  form_goes : (form : StmtForm) (n : ℕ) → Leads plain walked (walk_form form n) (skip_statement (statement_of form))
+  form_goes : (form : StmtForm) (n : ℕ) → Leads plain walked (walk_form form n) (skip_statement (stmt_form_view form))
   form_goes (forms.Assign x e) n = ended_goes n (then_goes (path_goes x) (then_goes token_goes (expression_goes e)))
   form_goes (forms.Move y x) n = ended_goes n (then_goes token_goes (pair_goes y x))
   form_goes (forms.New x) n = ended_goes n (then_goes token_goes (path_goes x))
@@ -356,34 +356,34 @@ mutual
   form_goes forms.Leave n = ended_goes n token_goes
   form_goes (forms.Case' v shape arms) n = then_goes token_goes (then_goes (path_goes v) (then_goes token_goes (then_goes (at_walk n (arms_go arms)) walked_end)))
   form_goes (forms.Select' shape arms) n = then_goes token_goes (then_goes token_goes (then_goes (at_walk n (port_arms_go arms)) walked_end))
-  form_goes (forms.For' r t shape body) n = then_goes token_goes (then_goes (pair_goes r t) (block_goes (λ m c. walk_statements body m c) (skip_statements (statements_of body)) (statements_go body) n))
-  form_goes (forms.While' e shape body) n = then_goes token_goes (then_goes (expression_goes e) (block_goes (λ m c. walk_statements body m c) (skip_statements (statements_of body)) (statements_go body) n))
+  form_goes (forms.For' r t shape body) n = then_goes token_goes (then_goes (pair_goes r t) (block_goes (λ m c. walk_statements body m c) (skip_statements (stmt_rows_view body)) (statements_go body) n))
+  form_goes (forms.While' e shape body) n = then_goes token_goes (then_goes (expression_goes e) (block_goes (λ m c. walk_statements body m c) (skip_statements (stmt_rows_view body)) (statements_go body) n))
   form_goes (forms.If' e shape body other) n =
-      then_goes token_goes (then_goes (expression_goes e) (then_goes (block_goes (λ m c. walk_statements body m c) (skip_statements (statements_of body)) (statements_go body) n) (otherwise_goes other)))
+      then_goes token_goes (then_goes (expression_goes e) (then_goes (block_goes (λ m c. walk_statements body m c) (skip_statements (stmt_rows_view body)) (statements_go body) n) (otherwise_goes other)))
   form_goes (forms.Try' shape body shape_of_handlers handled) n =
-      then_goes token_goes (then_goes (block_goes (λ m c. walk_statements body m c) (skip_statements (statements_of body)) (statements_go body) n) (arms_go handled))
+      then_goes token_goes (then_goes (block_goes (λ m c. walk_statements body m c) (skip_statements (stmt_rows_view body)) (statements_go body) n) (arms_go handled))
 
-  statements_go : {m : _} (body : forms.Row_of-Stmt m) → Leads moved moved (λ w. walk_statements body w.0 w.1) (skip_statements (statements_of body))
+  statements_go : {m : _} (body : forms.Row_of-Stmt m) → Leads moved moved (λ w. walk_statements body w.0 w.1) (skip_statements (stmt_rows_view body))
   statements_go forms.end_of-Stmt = no_move
   statements_go (forms.more_of-Stmt number span form others) =
-      then_goes {middle = moved} (record { leads = λ w v e. stated_leads number span w.0 w.1 (skip_statement (statement_of form) w.1) (walk_form form (suc w.0) w.1) (λ u h. (form_goes form (suc w.0)).leads w.1 u h) v e }) (statements_go others)
+      then_goes {middle = moved} (record { leads = λ w v e. stated_leads number span w.0 w.1 (skip_statement (stmt_form_view form) w.1) (walk_form form (suc w.0) w.1) (λ u h. (form_goes form (suc w.0)).leads w.1 u h) v e }) (statements_go others)
 
-  arms_go : {m : _} (arms : forms.Row_of-StmtForm-Case-1-3 m) → Leads walked walked (walk_arms arms) (skip_arms (arms_of arms))
+  arms_go : {m : _} (arms : forms.Row_of-StmtForm-Case-1-3 m) → Leads walked walked (walk_arms arms) (skip_arms (arms_view arms))
   arms_go forms.end_of-StmtForm-Case-1-3 = no_walk
   arms_go (forms.more_of-StmtForm-Case-1-3 name shape body others) =
-      then_goes (of_walk (λ n. then_goes token_goes (then_goes (name_goes name) (block_goes (λ m c. walk_statements body m c) (skip_statements (statements_of body)) (statements_go body) n)))) (arms_go others)
+      then_goes (of_walk (λ n. then_goes token_goes (then_goes (name_goes name) (block_goes (λ m c. walk_statements body m c) (skip_statements (stmt_rows_view body)) (statements_go body) n)))) (arms_go others)
 
-  port_arms_go : {m : _} (arms : forms.Row_of-StmtForm-Select-0-4 m) → Leads walked walked (walk_port_arms arms) (skip_port_arms (port_arms_of arms))
+  port_arms_go : {m : _} (arms : forms.Row_of-StmtForm-Select-0-4 m) → Leads walked walked (walk_port_arms arms) (skip_port_arms (port_arms_view arms))
   port_arms_go forms.end_of-StmtForm-Select-0-4 = no_walk
   port_arms_go (forms.more_of-StmtForm-Select-0-4 port target shape body others) =
-      then_goes (of_walk (λ n. then_goes token_goes (then_goes (pair_goes port target) (block_goes (λ m c. walk_statements body m c) (skip_statements (statements_of body)) (statements_go body) n)))) (port_arms_go others)
+      then_goes (of_walk (λ n. then_goes token_goes (then_goes (pair_goes port target) (block_goes (λ m c. walk_statements body m c) (skip_statements (stmt_rows_view body)) (statements_go body) n)))) (port_arms_go others)
 
-  otherwise_goes : (other : forms.Held-StmtForm-If-2) → Leads walked walked (walk_otherwise other) (skip_otherwise (otherwise_of other))
+  otherwise_goes : (other : forms.Held-StmtForm-If-2) → Leads walked walked (walk_otherwise other) (skip_otherwise (otherwise_view other))
   otherwise_goes forms.None' = no_walk
   otherwise_goes (forms.Some' shape body) =
-      of_walk (λ n. then_goes token_goes (block_goes (λ m c. walk_statements body m c) (skip_statements (statements_of body)) (statements_go body) n))
+      of_walk (λ n. then_goes token_goes (block_goes (λ m c. walk_statements body m c) (skip_statements (stmt_rows_view body)) (statements_go body) n))
 
-pub body_goes : (body : List Stmt) → Leads moved moved (λ w. walk_body body w.0 w.1) (skip_statements (body_of body))
+pub body_goes : (body : List Stmt) → Leads moved moved (λ w. walk_body body w.0 w.1) (skip_statements (stmts_view body))
 body_goes [] = no_move
 body_goes (s ∷ others) =
-    then_goes {middle = moved} (record { leads = λ w v e. stated_leads s.no s.span w.0 w.1 (skip_statement (statement_of s.form) w.1) (walk_form s.form (suc w.0) w.1) (λ u h. (form_goes s.form (suc w.0)).leads w.1 u h) v e }) (body_goes others)
+    then_goes {middle = moved} (record { leads = λ w v e. stated_leads s.no s.span w.0 w.1 (skip_statement (stmt_form_view s.form) w.1) (walk_form s.form (suc w.0) w.1) (λ u h. (form_goes s.form (suc w.0)).leads w.1 u h) v e }) (body_goes others)

@@ -18,7 +18,7 @@ use Rattle.herm_syntax.specs.declared.modules.Module.{Module as ModuleForm}
 use Rattle.herm_syntax.specs.declared.statements.Stmt.{Stmt}
 use Rattle.herm_syntax.specs.declared.modules.Module.TheVariants as modules
 use Rattle.herm_syntax.specs.Trees.{Letters, Field, Mode, In, Inout, Out, Param, Raising, DeclaredFact, InitFact, FullFact, CaseFact, Shape, Names, Fields, Cases, Rows, Inport, Outport, CallMessage, Item, TypeItem, ExceptionItem, Module, Definitions, Process}
-use Rattle.herm_syntax.specs.Views.{letters, field_of, mode_of, param_of, raising_of, fact_of, shape_of, item_by, item_of, module_of, body_of}
+use Rattle.herm_syntax.specs.View.{name_view, field_view, mode_form_view, param_form_view, raise_form_view, dfact_view, shape_form_view, def_form_view, def_item_view, module_view, stmts_view}
 use Rattle.herm_parser.specs.Along.{◌>>=◌, past_token, is_place, past_name, past_each, past_behind, past_list}
 use Rattle.herm_parser.specs.AlongDefinitions.{past_enclosed, past_field, past_param, past_fact, past_facts, past_keep, past_kept, past_raising, past_raisings, past_shape, past_definition, past_item, past_variables, past_module}
 use Rattle.herm_parser.specs.Walk.{walk_body}
@@ -134,7 +134,7 @@ enclosed_known x = then_known token_goes (first_known past_token x)
 
 -- ---- parts of shapes
 
-name_reads : Reads past_name letters (λ n. n) skip_name name_at
+name_reads : Reads past_name name_view (λ n. n) skip_name name_at
 name_reads = record { goes = name_goes; is = name_known }
 
 abbrev field_form : Name → Name → FieldForm
@@ -146,7 +146,7 @@ field_at f tokens = field_form (name_at f.0 tokens) (name_at f.1 (tail (tail tok
 abbrev skip_field : Field → Tokens → Tokens
 skip_field f tokens = tail (tail (tail tokens))
 
-field_reads : Reads past_field field_of (λ f. f) skip_field field_at
+field_reads : Reads past_field field_view (λ f. f) skip_field field_at
 field_reads = record {
   goes = λ f. then_goes (name_goes f.name) (then_goes token_goes (name_goes f.of));
   is = λ f. known_so (λ t h. ap (λ n. field_form n f.of) h.0 ∙ ap (λ n. field_form (name_at f.name.text t) n) h.1)
@@ -158,7 +158,7 @@ mode_form In = modes.In
 mode_form Inout = modes.Inout
 mode_form Out = modes.Out
 
-mode_same : (m : ModeForm) → m ≡ mode_form (mode_of m)
+mode_same : (m : ModeForm) → m ≡ mode_form (mode_form_view m)
 mode_same modes.In = refl
 mode_same modes.Inout = refl
 mode_same modes.Out = refl
@@ -172,10 +172,10 @@ param_at p tokens = param_form (mode_form p.0) (field_at p.1 (tail tokens))
 abbrev skip_param : Param → Tokens → Tokens
 skip_param p tokens = skip_field p.1 (tail tokens)
 
-param_reads : Reads past_param param_of (λ p. p) skip_param param_at
+param_reads : Reads past_param param_form_view (λ p. p) skip_param param_at
 param_reads = record {
   goes = λ p. then_goes token_goes (field_reads.goes p.field);
-  is = λ p. known_so (λ t h. ap (λ m. param_form m p.field) (mode_same p.mode) ∙ ap (λ f. param_form (mode_form (mode_of p.mode)) f) h) (then_known token_goes (field_reads.is p.field));
+  is = λ p. known_so (λ t h. ap (λ m. param_form m p.field) (mode_same p.mode) ∙ ap (λ f. param_form (mode_form (mode_form_view p.mode)) f) h) (then_known token_goes (field_reads.is p.field));
 }
 
 abbrev keep_at : Letters → Tokens → Name
@@ -184,7 +184,7 @@ keep_at name tokens = name_at name (tail (tail tokens))
 abbrev skip_keep : Letters → Tokens → Tokens
 skip_keep name tokens = tail (tail (tail (tail tokens)))
 
-keep_reads : Reads past_keep letters (λ n. n) skip_keep keep_at
+keep_reads : Reads past_keep name_view (λ n. n) skip_keep keep_at
 keep_reads = record {
   goes = λ n. then_goes token_goes (enclosed_goes (name_goes n));
   is = λ n. then_known token_goes (enclosed_known (name_known n));
@@ -198,11 +198,11 @@ abbrev skip_kept : List Letters → Tokens → Tokens
 skip_kept [] tokens = tokens
 skip_kept (n ∷ ns) tokens = tail (skip_list skip_keep (n ∷ ns) (tail tokens))
 
-kept_goes : (names : List Name) → Goes (past_kept names) (skip_kept (map letters names))
+kept_goes : (names : List Name) → Goes (past_kept names) (skip_kept (map name_view names))
 kept_goes [] = stays
 kept_goes (n ∷ ns) = enclosed_goes (list_along keep_reads (n ∷ ns))
 
-kept_known : (names : List Name) → Known (past_kept names) (λ t. names ≡ kept_at (map letters names) t)
+kept_known : (names : List Name) → Known (past_kept names) (λ t. names ≡ kept_at (map name_view names) t)
 kept_known [] = record { known = λ a b e. refl }
 kept_known (n ∷ ns) = enclosed_known (whole_known keep_reads (n ∷ ns))
 
@@ -215,7 +215,7 @@ raising_at r tokens = (name_at r.0 tokens, kept_at r.1 (tail tokens))
 abbrev skip_raising : Raising → Tokens → Tokens
 skip_raising r tokens = skip_kept r.1 (tail tokens)
 
-raising_reads : Reads past_raising raising_of raising_core skip_raising raising_at
+raising_reads : Reads past_raising raise_form_view raising_core skip_raising raising_at
 raising_reads = record {
   goes = λ r. then_goes (name_goes r.name) (kept_goes r.keeps.items);
   is = λ r. known_so (λ t h. ap (λ n. (n, r.keeps.items)) h.0 ∙ ap (λ ns. (name_at r.name.text t, ns)) h.1) (both_known (name_goes r.name) (name_known r.name) (kept_known r.keeps.items));
@@ -229,11 +229,11 @@ abbrev skip_raisings : List Raising → Tokens → Tokens
 skip_raisings [] tokens = tokens
 skip_raisings (r ∷ rs) tokens = tail (skip_list skip_raising (r ∷ rs) (tail (tail tokens)))
 
-raisings_go : (list : List RaiseForm) → Goes (past_raisings list) (skip_raisings (map raising_of list))
+raisings_go : (list : List RaiseForm) → Goes (past_raisings list) (skip_raisings (map raise_form_view list))
 raisings_go [] = stays
 raisings_go (r ∷ rs) = then_goes token_goes (enclosed_goes (list_along raising_reads (r ∷ rs)))
 
-raisings_known : (list : List RaiseForm) → Known (past_raisings list) (λ t. map raising_core list ≡ raisings_at (map raising_of list) t)
+raisings_known : (list : List RaiseForm) → Known (past_raisings list) (λ t. map raising_core list ≡ raisings_at (map raise_form_view list) t)
 raisings_known [] = record { known = λ a b e. refl }
 raisings_known (r ∷ rs) = then_known token_goes (enclosed_known (list_known raising_reads (r ∷ rs)))
 
@@ -242,7 +242,7 @@ skip_fact (InitFact p) tokens = tail (skip_list skip_name p (tail (tail tokens))
 skip_fact (FullFact p) tokens = tail (skip_list skip_name p (tail (tail tokens)))
 skip_fact (CaseFact p c) tokens = tail (tail (tail (skip_list skip_name p (tail (tail tokens)))))
 
-fact_goes : (f : DFact) → Goes (past_fact f) (skip_fact (fact_of f))
+fact_goes : (f : DFact) → Goes (past_fact f) (skip_fact (dfact_view f))
 fact_goes (facts.Init p) = then_goes token_goes (enclosed_goes (list_along name_reads p.items))
 fact_goes (facts.Full p) = then_goes token_goes (enclosed_goes (list_along name_reads p.items))
 fact_goes (facts.Case p component) = then_goes token_goes (enclosed_goes (then_goes (list_along name_reads p.items) (then_goes token_goes (name_goes component))))
@@ -251,9 +251,9 @@ abbrev skip_facts : List DeclaredFact → Tokens → Tokens
 skip_facts [] tokens = tokens
 skip_facts (f ∷ fs) tokens = tail (skip_list skip_fact (f ∷ fs) (tail tokens))
 
-facts_go : (list : List DFact) → Goes (past_facts list) (skip_facts (map fact_of list))
+facts_go : (list : List DFact) → Goes (past_facts list) (skip_facts (map dfact_view list))
 facts_go [] = stays
-facts_go (f ∷ fs) = enclosed_goes (list_goes past_fact fact_of skip_fact fact_goes (f ∷ fs))
+facts_go (f ∷ fs) = enclosed_goes (list_goes past_fact dfact_view skip_fact fact_goes (f ∷ fs))
 
 -- ---- shapes
 
@@ -284,7 +284,7 @@ skip_shape (Inport message fs) tokens = skip_facts fs (tail (tail (tail tokens))
 skip_shape (Outport port) tokens = tail (tail (tail tokens))
 skip_shape (CallMessage params raises) tokens = skip_raisings raises (tail (skip_list skip_param params (tail (tail tokens))))
 
-shape_goes : (s : ShapeForm) → Goes (past_shape s) (skip_shape (shape_of s))
+shape_goes : (s : ShapeForm) → Goes (past_shape s) (skip_shape (shape_form_view s))
 shape_goes (shapes.Names names) = then_goes token_goes (enclosed_goes (list_along name_reads names.items))
 shape_goes (shapes.Fields fs) = then_goes token_goes (enclosed_goes (list_along field_reads fs.items))
 shape_goes (shapes.Cases fs) = then_goes token_goes (enclosed_goes (list_along field_reads fs.items))
@@ -293,7 +293,7 @@ shape_goes (shapes.Inport message fs) = then_goes token_goes (then_goes token_go
 shape_goes (shapes.Outport port) = then_goes token_goes (then_goes token_goes (name_goes port))
 shape_goes (shapes.CallMessage params raises) = then_goes token_goes (then_goes (enclosed_goes (list_along param_reads params.items)) (raisings_go raises.items))
 
-shape_known : (s : ShapeForm) → Known (past_shape s) (λ t. shape_marks s ≡ marks_at (shape_of s) t)
+shape_known : (s : ShapeForm) → Known (past_shape s) (λ t. shape_marks s ≡ marks_at (shape_form_view s) t)
 shape_known (shapes.Names names) = known_so (λ t h. ap (λ ns. in_turn (λ n. n.text) part_marks [] ns) h) (then_known token_goes (enclosed_known (whole_known name_reads names.items)))
 shape_known (shapes.Fields fs) = known_so (λ t h. ap (λ ns. in_turn (λ f. f.name.text) field_marks [] ns) h) (then_known token_goes (enclosed_known (whole_known field_reads fs.items)))
 shape_known (shapes.Cases fs) = known_so (λ t h. ap (λ ns. in_turn (λ f. f.name.text) field_marks [] ns) h) (then_known token_goes (enclosed_known (whole_known field_reads fs.items)))
@@ -305,7 +305,7 @@ shape_known (shapes.Outport port) = known_so (λ t h. ap (λ n. mark n a_port) h
 shape_known (shapes.CallMessage params raises) =
     known_so (λ t h.
     ap (λ ps. in_turn (λ p. p.field.name.text) param_marks [] ps ++ in_turn (λ r. r.name.text) raise_marks [] raises.items) h.0
-    ∙ ap (λ ms. in_turn (λ p. p.field.name.text) param_marks [] (at_list skip_param param_at (map param_of params.items) (tail (tail t))) ++ ms) (turns_by [] raises.items ∙ ap (λ rs. in_turn (λ r. r.0.text) raised_marks [] rs) h.1))
+    ∙ ap (λ ms. in_turn (λ p. p.field.name.text) param_marks [] (at_list skip_param param_at (map param_form_view params.items) (tail (tail t))) ++ ms) (turns_by [] raises.items ∙ ap (λ rs. in_turn (λ r. r.0.text) raised_marks [] rs) h.1))
     (then_known token_goes (both_known (enclosed_goes (list_along param_reads params.items)) (enclosed_known (whole_known param_reads params.items)) (raisings_known raises.items)))
 
 -- ---- items and modules
@@ -315,7 +315,7 @@ abbrev pub Core : Type 0
 Core = Name × Option (Shape × List Mark)
 
 abbrev pub core_by : Name → DefForm → Core
-core_by name (items.Shaped s) = (name, Some (shape_of s, shape_marks s))
+core_by name (items.Shaped s) = (name, Some (shape_form_view s, shape_marks s))
 core_by name items.Exception = (name, None)
 
 abbrev pub core_of : DefItem → Core
@@ -329,7 +329,7 @@ abbrev skip_item : Item → Tokens → Tokens
 skip_item (TypeItem name s) tokens = tail (skip_shape s (tail (tail (tail tokens))))
 skip_item (ExceptionItem name) tokens = tail (tail (tail tokens))
 
-definition_goes : (name : Name) (form : DefForm) → Goes (past_definition name form) (skip_item (item_by (letters name) form))
+definition_goes : (name : Name) (form : DefForm) → Goes (past_definition name form) (skip_item (def_form_view (name_view name) form))
 definition_goes name (items.Shaped s) = then_goes token_goes (then_goes (name_goes name) (then_goes token_goes (then_goes (shape_goes s) token_goes)))
 definition_goes name items.Exception = then_goes token_goes (then_goes (name_goes name) token_goes)
 
@@ -339,13 +339,13 @@ typed name s marks = (name, Some (s, marks))
 abbrev untyped : Name → Core
 untyped name = (name, None)
 
-definition_known : (name : Name) (form : DefForm) → Known (past_definition name form) (λ t. core_by name form ≡ core_at (item_by (letters name) form) t)
+definition_known : (name : Name) (form : DefForm) → Known (past_definition name form) (λ t. core_by name form ≡ core_at (def_form_view (name_view name) form) t)
 definition_known name (items.Shaped s) =
-    known_so (λ t h. ap (λ n. typed n (shape_of s) (shape_marks s)) h.0 ∙ ap (λ ms. typed (name_at name.text (tail t)) (shape_of s) ms) h.1)
+    known_so (λ t h. ap (λ n. typed n (shape_form_view s) (shape_marks s)) h.0 ∙ ap (λ ms. typed (name_at name.text (tail t)) (shape_form_view s) ms) h.1)
     (then_known token_goes (both_known (name_goes name) (name_known name) (then_known token_goes (first_known past_token (shape_known s)))))
 definition_known name items.Exception = known_so (λ t h. ap untyped h) (then_known token_goes (first_known past_token (name_known name)))
 
-item_reads : Reads past_item item_of core_of skip_item core_at
+item_reads : Reads past_item def_item_view core_of skip_item core_at
 item_reads = record { goes = λ i. definition_goes i.name i.form; is = λ i. definition_known i.name i.form }
 
 abbrev pub cores_of : ModuleForm → List Core
@@ -364,29 +364,29 @@ abbrev skip_module : Module → Tokens → Tokens
 skip_module (Definitions name list) tokens = tail (skip_each skip_item list (tail (tail (tail tokens))))
 skip_module (Process name port vars body) tokens = tail (skip_statements body (skip_variables vars (tail (tail (skip_field port (tail (tail (tail tokens))))))))
 
-variables_go : (list : List FieldForm) → Goes (past_variables list) (skip_variables (map field_of list))
+variables_go : (list : List FieldForm) → Goes (past_variables list) (skip_variables (map field_view list))
 variables_go [] = stays
 variables_go (v ∷ vs) = then_goes token_goes (then_goes (list_along field_reads (v ∷ vs)) token_goes)
 
 left_of_walk : Leads moved plain (λ w. Some w.1) plain
 left_of_walk = record { leads = λ w b e. let same : b ≡ w.1 = cc in same }
 
-process_body_goes : (body : List Stmt) → Goes (λ t. walk_body body 1 t >>= λ w. Some w.1) (skip_statements (body_of body))
+process_body_goes : (body : List Stmt) → Goes (λ t. walk_body body 1 t >>= λ w. Some w.1) (skip_statements (stmts_view body))
 process_body_goes body = then_goes (at_number 1 (body_goes body)) left_of_walk
 
-module_goes : (m : ModuleForm) → Goes (past_module m) (skip_module (module_of m))
-module_goes (modules.Definitions name list) = then_goes token_goes (then_goes (name_goes name) (enclosed_goes (each_goes past_item item_of skip_item item_reads.goes list.items)))
+module_goes : (m : ModuleForm) → Goes (past_module m) (skip_module (module_view m))
+module_goes (modules.Definitions name list) = then_goes token_goes (then_goes (name_goes name) (enclosed_goes (each_goes past_item def_item_view skip_item item_reads.goes list.items)))
 module_goes (modules.Process name port vars body) =
     then_goes token_goes (then_goes (name_goes name) (then_goes (enclosed_goes (field_reads.goes port)) (enclosed_goes (then_goes (variables_go vars.items) (process_body_goes body.items)))))
 
-module_known : (m : ModuleForm) → Known (past_module m) (λ t. cores_of m ≡ cores_at (module_of m) t)
+module_known : (m : ModuleForm) → Known (past_module m) (λ t. cores_of m ≡ cores_at (module_view m) t)
 module_known (modules.Definitions name list) = then_known token_goes (then_known (name_goes name) (enclosed_known (each_known item_reads list.items)))
 module_known (modules.Process name port vars body) = record { known = λ a b e. refl }
 
-module_reads : Reads past_module module_of cores_of skip_module cores_at
+module_reads : Reads past_module module_view cores_of skip_module cores_at
 module_reads = record { goes = module_goes; is = module_known }
 
 -- Modules that go along the same tokens and are seen alike have the same names at the same places.
-pub same_cores : (tokens rest left : Tokens) (a b : List ModuleForm) → map module_of a ≡ map module_of b → past_each past_module a tokens ≡ Some rest → past_each past_module b tokens ≡ Some left → map cores_of a ≡ map cores_of b
+pub same_cores : (tokens rest left : Tokens) (a b : List ModuleForm) → map module_view a ≡ map module_view b → past_each past_module a tokens ≡ Some rest → past_each past_module b tokens ≡ Some left → map cores_of a ≡ map cores_of b
 same_cores tokens rest left a b same of_a of_b =
     (each_known module_reads a).known tokens rest of_a ∙ (ap (λ ms. at_each skip_module cores_at ms tokens) same ∙ sym ((each_known module_reads b).known tokens left of_b))

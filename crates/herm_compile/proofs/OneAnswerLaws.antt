@@ -11,14 +11,14 @@ use Rattle.herm_syntax.specs.declared.definitions.DefItem.{DefItem}
 use Rattle.herm_syntax.specs.declared.modules.Module.{Module}
 use Rattle.herm_syntax.specs.declared.modules.Module.TheVariants.{Definitions, Process}
 use Rattle.herm_syntax.specs.Trees.{Letters, Shape}
-use Rattle.herm_syntax.specs.Views.{module_of, shape_of}
+use Rattle.herm_syntax.specs.View.{module_view, shape_form_view}
 use Rattle.herm_parser.specs.Parsing.{IsParsed}
 use Rattle.herm_parser.proofs.OneAnswer.{one_parse}
 use Rattle.herm_meaning.specs.Names.{NamedTable, behind_predefined, predefined_names, predefined_exception_names}
 use Rattle.herm_meaning.specs.Items.{Placed, module_items, items_from, items_of, types_by, types_in, exceptions_by, exceptions_in}
 use Rattle.herm_meaning.specs.Meaning.{part_names, numbered_shape, outline, meant_shape, meaning}
 use Rattle.herm_meaning.specs.Marks.{Mark, a_type, an_exception, mark, shape_marks, Place, places_in, places_by, places_from, places}
-use Rattle.herm_meaning.specs.Faults.{Fault as Wrong, AreFaults, AreFaultsOf}
+use Rattle.herm_meaning.specs.DefinitionFaults.{Fault as Wrong, AreFaults, AreFaultsOf}
 use Rattle.herm_meaning.proofs.Unique.{one-list}
 use Rattle.herm_compile.specs.FirstPhase.{HasModules, HaveModules}
 use Rattle.herm_compile.specs.SecondPhase.{definition_fault}
@@ -100,7 +100,7 @@ places_of_cores (c ∷ cs) t e = core_places c.0 c.1.0 c.1.1 t e (places_of_core
 
 place_is : (n : ℕ) (name : Name) (form : DefForm) (t e : ℕ) (behind others : ℕ → ℕ → List Place) → ((t e : ℕ) → behind t e ≡ others t e) →
     places_by n name form t e behind ≡ core_places n (core_by name form).0 (core_by name form).1 t e others
-place_is n name (Shaped s) t e behind others same = ap (λ ps. places_in n (mark name (a_type t (shape_of s)) ++ shape_marks s) ++ ps) (same (suc t) e)
+place_is n name (Shaped s) t e behind others same = ap (λ ps. places_in n (mark name (a_type t (shape_form_view s)) ++ shape_marks s) ++ ps) (same (suc t) e)
 place_is n name Exception t e behind others same = ap (λ ps. places_in n (mark name (an_exception e)) ++ ps) (same t (suc e))
 
 places_are : (items : List Placed) (t e : ℕ) → places_from items t e ≡ places_of_cores (map placed_core items) t e
@@ -152,7 +152,7 @@ module _ (items others : List Placed) (same : map placed_core items ≡ map plac
 
 -- ---- files
 
-has_same : (bytes : List ℕ) (a b : List Module) → HasModules bytes a → HasModules bytes b → (map module_of a ≡ map module_of b) × (map cores_of a ≡ map cores_of b)
+has_same : (bytes : List ℕ) (a b : List Module) → HasModules bytes a → HasModules bytes b → (map module_view a ≡ map module_view b) × (map cores_of a ≡ map cores_of b)
 has_same bytes a b of_a of_b =
     let tokens_same = one_token_list bytes of_b.tokens of_a.tokens of_b.read of_a.read in
     let parsed = subst (λ (ts : List Token). IsParsed ts b) tokens_same of_b.parsed in
@@ -164,7 +164,7 @@ have_same number [] a b owners others of_a of_b = (ap (map cores_of) (of_a.0 ∙
 have_same number (bytes ∷ files) a b owners others of_a of_b =
     let own = has_same bytes of_a.0 of_b.0 of_a.1 of_b.1 in
     let more = have_same (suc number) files of_a.2 of_b.2 of_a.3 of_b.3 of_a.6 of_b.6 in
-    let count = sym (length-map module_of of_a.0) ∙ (ap length own.0 ∙ length-map module_of of_b.0) in (
+    let count = sym (length-map module_view of_a.0) ∙ (ap length own.0 ∙ length-map module_view of_b.0) in (
       ap (map cores_of) of_a.4 ∙ (map-append cores_of of_a.0 of_a.2
           ∙ (ap (λ cs. cs ++ map cores_of of_a.2) own.1 ∙ (ap (λ cs. map cores_of of_b.0 ++ cs) more.0 ∙ (sym (map-append cores_of of_b.0 of_b.2) ∙ ap (map cores_of) (sym of_b.4))))),
       of_a.5 ∙ (ap (λ n. replicate n number ++ of_a.3) count ∙ (ap (λ os. replicate (length of_b.0) number ++ os) more.1 ∙ sym of_b.5)),

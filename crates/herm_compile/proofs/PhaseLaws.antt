@@ -10,12 +10,12 @@ use Rattle.herm_alphabet.specs.declared.token.Token.{Token}
 use Rattle.herm_readers.specs.Brackets.{IsTooDeep}
 use Rattle.herm_readers.proofs.Nesting.{finds_within}
 use Rattle.herm_syntax.specs.Symbols.{Symbol, side}
-use Rattle.herm_syntax.specs.Views.{module_of}
+use Rattle.herm_syntax.specs.View.{module_view}
 use Rattle.herm_syntax.specs.laws.GrammarLaws.{IsWithinRoom}
 use Rattle.herm_parser.specs.Gives.{kinds as symbols_of}
-use Rattle.herm_parser.specs.Parsing.{most_brackets}
+use Rattle.herm_parser.specs.OpenBrackets.{most_brackets}
 use Rattle.herm_syntax.specs.declared.modules.Module.{Module}
-use Rattle.herm_compile.specs.Seen.{Seen, seen}
+use Rattle.herm_compile.specs.View.{Seen, fault_view}
 use Rattle.herm_compile.specs.FirstPhase.{HasTrees, HasModules, HasFileFault, IsSaid, AreFirstFaults, HaveModules, HaveTrees, file_fault, fault_list, TreesOrFault}
 use Rattle.herm_compile.specs.Added.{IsAdded}
 use Rattle.herm_compile.specs.declared.phase.ReadFiles.{ReadFiles}
@@ -40,7 +40,7 @@ goes_end number all rest found e goes =
 
 -- what was read of all files
 pub record ReadAll (all : List (List ℕ)) (read : ReadFiles) : Type 0 where
-  pub found : AreFirstFaults 0 all (map seen read.faults.items)
+  pub found : AreFirstFaults 0 all (map fault_view read.faults.items)
   pub modules : read.faults.items ≡ [] → HaveModules 0 all read.modules.items read.owners.items
 
 not_nil : (xs : List Seen) (x : Seen) → xs ++ x ∷ [] ≡ [] → ⊥
@@ -52,12 +52,12 @@ abbrev pub ModulesGoOn : ℕ → List (List ℕ) → List (List ℕ) → List Mo
 ModulesGoOn number all rest modules owners = (others : List Module) (behind : List ℕ) → HaveModules number rest others behind → HaveModules 0 all (modules ++ others) (owners ++ behind)
 
 pub record ReadOn (number : ℕ) (all rest : List (List ℕ)) (read : ReadFiles) : Type 0 where
-  pub found : GoesOn number all rest (map seen read.faults.items)
+  pub found : GoesOn number all rest (map fault_view read.faults.items)
   pub modules : read.faults.items ≡ [] → ModulesGoOn number all rest read.modules.items read.owners.items
 
 pub read_first : (all : List (List ℕ)) (read : ReadFiles) → read.faults.items ≡ [] → read.modules.items ≡ [] → read.owners.items ≡ [] → ReadOn 0 all all read
 read_first all read none no_modules no_owners = record {
-  found = λ others more. subst (λ (faults : List Seen). AreFirstFaults 0 all (faults ++ others)) (sym (ap (map seen) none)) more;
+  found = λ others more. subst (λ (faults : List Seen). AreFirstFaults 0 all (faults ++ others)) (sym (ap (map fault_view) none)) more;
   modules = λ e others behind more. subst (λ (ms : List Module). HaveModules 0 all (ms ++ others) (read.owners.items ++ behind)) (sym no_modules) (subst (λ (ns : List ℕ). HaveModules 0 all others (ns ++ behind)) (sym no_owners) more);
 }
 
@@ -71,13 +71,13 @@ modules_next number all bytes rest modules own after owners owners_after goes ha
 -- what a file adds
 read_next : (number : ℕ) (all : List (List ℕ)) (bytes : List ℕ) (rest : List (List ℕ)) (before after : ReadFiles) → ReadOn number all (bytes ∷ rest) before → IsAdded number bytes before after → ReadOn (suc number) all rest after
 read_next number all bytes rest before after on (inl added) = record {
-  found = goes_next number all bytes rest (map seen before.faults.items) (map seen after.faults.items) None on.found (added.own, added.read)
-      (ap (map seen) added.faults ∙ sym (append-nil (map seen before.faults.items)));
+  found = goes_next number all bytes rest (map fault_view before.faults.items) (map fault_view after.faults.items) None on.found (added.own, added.read)
+      (ap (map fault_view) added.faults ∙ sym (append-nil (map fault_view before.faults.items)));
   modules = λ e. modules_next number all bytes rest before.modules.items added.own after.modules.items before.owners.items after.owners.items (on.modules (sym added.faults ∙ e)) added.read added.modules added.owners;
 }
 read_next number all bytes rest before after on (inr added) = record {
-  found = goes_next number all bytes rest (map seen before.faults.items) (map seen after.faults.items) (Some added.fault) on.found added.has added.faults;
-  modules = λ e. absurd (not_nil (map seen before.faults.items) (file_fault number bytes added.fault) (sym added.faults ∙ ap (map seen) e));
+  found = goes_next number all bytes rest (map fault_view before.faults.items) (map fault_view after.faults.items) (Some added.fault) on.found added.has added.faults;
+  modules = λ e. absurd (not_nil (map fault_view before.faults.items) (file_fault number bytes added.fault) (sym added.faults ∙ ap (map fault_view) e));
 }
 
 pub read_step : {X : Type 0} (f : X → List ℕ) (files : List X) (at number : ℕ) (file : X) (before after : ReadFiles) →
@@ -90,7 +90,7 @@ read_step {X} f files at number file before after l i on added =
 
 read_end : (number : ℕ) (all rest : List (List ℕ)) (read : ReadFiles) → rest ≡ [] → ReadOn number all rest read → ReadAll all read
 read_end number all rest read e on = record {
-  found = goes_end number all rest (map seen read.faults.items) e on.found;
+  found = goes_end number all rest (map fault_view read.faults.items) e on.found;
   modules = λ none.
       let whole = on.modules none [] [] (subst (λ (files : List (List ℕ)). HaveModules number files [] []) (sym e) (refl, refl)) in
       subst (λ (ms : List Module). HaveModules 0 all ms read.owners.items) (append-nil read.modules.items) (subst (λ (ns : List ℕ). HaveModules 0 all (read.modules.items ++ []) ns) (append-nil read.owners.items) whole);
@@ -125,7 +125,7 @@ trees_or_fault bytes (faults.Token offset) trees has = tokens_or_fault bytes tre
 trees_or_fault bytes (faults.TooLong offset) trees has = tokens_or_fault bytes trees.1.tokens (lexical.TooLong offset) trees.1.read has
 trees_or_fault bytes (faults.Syntax offset) trees has =
     let same = ap (λ (ts : List Token). symbols_of ts) (one_token_list bytes trees.1.tokens has.0 trees.1.read has.1) in
-    has.2.none (map module_of trees.0) trees.1.parsed.program.fits (sym trees.1.parsed.spelled ∙ same)
+    has.2.none (map module_view trees.0) trees.1.parsed.program.fits (sym trees.1.parsed.spelled ∙ same)
 trees_or_fault bytes (faults.Nesting offset) trees has =
     let same = ap (λ (ts : List Token). symbols_of ts) (one_token_list bytes trees.1.tokens has.0 trees.1.read has.1) in
     none_too_deep (symbols_of has.0) has.2.left (subst (λ (s : List Symbol). IsWithinRoom most_brackets s) same trees.1.parsed.within) has.2.deep

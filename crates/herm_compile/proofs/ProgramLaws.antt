@@ -7,7 +7,7 @@ use Rattle.std.specs.Prelude.{map}
 use Rattle.herm_model.specs.Types.{predefined}
 use Rattle.herm_model.specs.Refusals.{IsMissing, IsAccepted}
 use Rattle.herm_compile.specs.Straight.{process_of, gaps, refusal_of, IsStep}
-use Rattle.herm_compile.specs.Seen.{Seen, seen}
+use Rattle.herm_compile.specs.View.{Seen, fault_view}
 use Rattle.herm_meaning.specs.Names.{NamedTable}
 use Rattle.herm_compile.specs.SecondPhase.{HaveTypes}
 use Rattle.herm_compile.specs.Refused.{reported, starts, not_built, AreNotBuilt, AreMissingFacts, IfRefused, IsExactRefusal, IsLater, AreLater}
@@ -172,20 +172,20 @@ pub form_written : (bytes : List ℕ) (tokens : List Token) (names : List (List 
 form_written bytes tokens names lines h f = ap (λ (x : List Token). kinds x) (one_token_list bytes tokens f.tokens h f.read) ∙ f.written
 
 -- where no program has the tokens, the file is of none
-pub is_not_built : (bytes : List ℕ) (tokens : List Token) (faults : List Fault) → HasTokens bytes tokens → ((names : List (List ℕ)) (lines : List Line) → IsProgram names lines → kinds tokens ≡ program_tokens names lines → ⊥) → map seen faults ≡ not_built ∷ [] → AreNotBuilt (bytes ∷ []) faults
+pub is_not_built : (bytes : List ℕ) (tokens : List Token) (faults : List Fault) → HasTokens bytes tokens → ((names : List (List ℕ)) (lines : List Line) → IsProgram names lines → kinds tokens ≡ program_tokens names lines → ⊥) → map fault_view faults ≡ not_built ∷ [] → AreNotBuilt (bytes ∷ []) faults
 is_not_built bytes tokens faults h none one = record { none = λ names lines f. none names lines f.program (form_written bytes tokens names lines h f); one = one }
 
 pub not_built_later : (bytes : List ℕ) (tokens : List Token) (fault : CompileFault) → HasTokens bytes tokens → ((names : List (List ℕ)) (lines : List Line) → IsProgram names lines → kinds tokens ≡ program_tokens names lines → ⊥) →
-    IfRefused fault (λ faults. map seen faults ≡ not_built ∷ []) → IsLater bytes fault
+    IfRefused fault (λ faults. map fault_view faults ≡ not_built ∷ []) → IsLater bytes fault
 not_built_later bytes tokens (Refused faults) h none one = inl (is_not_built bytes tokens faults.items h none one)
 not_built_later bytes tokens Memory h none one = tt
 
 -- several files are of no program, and neither are none
-pub no_file_later : (fault : CompileFault) → IfRefused fault (λ faults. map seen faults ≡ not_built ∷ []) → IfRefused fault (λ faults. AreLater [] faults)
+pub no_file_later : (fault : CompileFault) → IfRefused fault (λ faults. map fault_view faults ≡ not_built ∷ []) → IfRefused fault (λ faults. AreLater [] faults)
 no_file_later (Refused faults) one = inl (record { none = λ names lines f. f; one = one })
 no_file_later Memory one = tt
 
-pub more_files_later : (bytes more : List ℕ) (files : List (List ℕ)) (fault : CompileFault) → IfRefused fault (λ faults. map seen faults ≡ not_built ∷ []) → IfRefused fault (λ faults. AreLater (bytes ∷ more ∷ files) faults)
+pub more_files_later : (bytes more : List ℕ) (files : List (List ℕ)) (fault : CompileFault) → IfRefused fault (λ faults. map fault_view faults ≡ not_built ∷ []) → IfRefused fault (λ faults. AreLater (bytes ∷ more ∷ files) faults)
 more_files_later bytes more files (Refused faults) one = inl (record { none = λ names lines f. f; one = one })
 more_files_later bytes more files Memory one = tt
 
@@ -203,22 +203,22 @@ pub program_missing : (names : List (List ℕ)) (lines : List Line) → IsProgra
 program_missing names lines p = gaps_are_missing (length names) lines (read_of_program names lines p)
 
 -- no fault is reported where nothing is missing
-none_lacking : (f : Gap → Seen) (gs : List Gap) (faults : List Fault) → length faults ≡ 0 → map seen faults ≡ map f gs → gs ≡ []
+none_lacking : (f : Gap → Seen) (gs : List Gap) (faults : List Fault) → length faults ≡ 0 → map fault_view faults ≡ map f gs → gs ≡ []
 none_lacking f [] faults l e = refl
 none_lacking f (g ∷ gs) [] l e = absurd cc
 none_lacking f (g ∷ gs) (x ∷ faults) l e = absurd (omega arith)
 
-some_lacking : (f : Gap → Seen) (gs : List Gap) (faults : List Fault) → (length faults ≡ 0 → ⊥) → map seen faults ≡ map f gs → gs ≡ [] → ⊥
+some_lacking : (f : Gap → Seen) (gs : List Gap) (faults : List Fault) → (length faults ≡ 0 → ⊥) → map fault_view faults ≡ map f gs → gs ≡ [] → ⊥
 some_lacking f gs [] l e z = l refl
 some_lacking f [] (x ∷ faults) l e z = cc
 some_lacking f (g ∷ gs) (x ∷ faults) l e z = cc
 
-pub accepted : (bytes : List ℕ) (names : List (List ℕ)) (lines : List Line) (places : List ℕ) (faults : List Fault) → IsProgram names lines → eqb (length faults) 0 ≡ true → map seen faults ≡ map (reported bytes names places) (gaps lines) → IsAccepted predefined (process_of (length names) lines)
+pub accepted : (bytes : List ℕ) (names : List (List ℕ)) (lines : List Line) (places : List ℕ) (faults : List Fault) → IsProgram names lines → eqb (length faults) 0 ≡ true → map fault_view faults ≡ map (reported bytes names places) (gaps lines) → IsAccepted predefined (process_of (length names) lines)
 accepted bytes names lines places faults p l e =
     let z = none_lacking (reported bytes names places) (gaps lines) faults (eqb-true (length faults) 0 l) e in
     subst (λ (gs : List Gap). IsMissing predefined (process_of (length names) lines) (map refusal_of gs)) z (program_missing names lines p)
 
-pub is_lacking : (bytes : List ℕ) (names : List (List ℕ)) (lines : List Line) (tokens : List Token) (faults : List Fault) → IsFormBy tokens bytes names lines → eqb (length faults) 0 ≡ false → map seen faults ≡ map (reported bytes names (starts names lines tokens)) (gaps lines) → AreMissingFacts bytes faults
+pub is_lacking : (bytes : List ℕ) (names : List (List ℕ)) (lines : List Line) (tokens : List Token) (faults : List Fault) → IsFormBy tokens bytes names lines → eqb (length faults) 0 ≡ false → map fault_view faults ≡ map (reported bytes names (starts names lines tokens)) (gaps lines) → AreMissingFacts bytes faults
 is_lacking bytes names lines tokens faults f l e = record {
   names = names;
   lines = lines;
@@ -226,5 +226,5 @@ is_lacking bytes names lines tokens faults f l e = record {
   gaps = gaps lines;
   some = λ z. some_lacking (reported bytes names (starts names lines tokens)) (gaps lines) faults (λ k. let t = eq-eqb (length faults) 0 k in absurd cc) e z;
   missing = program_missing names lines f.0.program;
-  each = subst (λ (ps : List Token). map seen faults ≡ map (reported bytes names (starts names lines ps)) (gaps lines)) (sym f.1) e;
+  each = subst (λ (ps : List Token). map fault_view faults ≡ map (reported bytes names (starts names lines ps)) (gaps lines)) (sym f.1) e;
 }

@@ -12,7 +12,7 @@ use Rattle.herm_model.specs.ControlPaths.{Edge, Point, Flow, point, flow_of, Hop
 use Rattle.herm_model.specs.Refusals.{Demand, demands_at, demands, AreRefusals, none, missing, holds, IsMissing}
 use Rattle.herm_model.specs.Lists.{numbered}
 use Rattle.herm_compile.specs.Reading.{IsNumbered, IsRead}
-use Rattle.herm_compile.specs.Straight.{variable, form_of, body_of, process_of, is_held_behind, is_held, gap_at, gaps_from, gaps, IsStep, ok_hops, refusal_of}
+use Rattle.herm_compile.specs.Straight.{variable, line_view, lines_view, process_of, is_held_behind, is_held, gap_at, gaps_from, gaps, IsStep, ok_hops, refusal_of}
 use Rattle.herm_compile.specs.declared.check.Gap.{Gap}
 use Rattle.herm_compile.proofs.Choices.{chosen}
 use Rattle.std.proofs.lemmas.Option.{option_and_then_some}
@@ -89,7 +89,7 @@ abbrev pub straight : List Line → Flow
 straight lines = record { entry = next_of 0 lines; points = points_from 0 lines }
 
 abbrev pub node_for : ℕ → Line → Target → Node
-node_for at line next = record { number = suc at; form = form_of line; leads = next ∷ []; catches = [] }
+node_for at line next = record { number = suc at; form = line_view line; leads = next ∷ []; catches = [] }
 
 pub point_is : (count at : ℕ) (line : Line) (next : Target) → IsStep count line → point predefined (types_of count) (node_for at line next) ≡ point_of at line next
 point_is count at Receive next l = refl
@@ -100,17 +100,17 @@ point_is count at (Discard n) next l = refl
 abbrev pub around : Surroundings
 around = record { behind = end; catches = []; exit = end }
 
-pub next_is : (at : ℕ) (lines : List Line) → start_of_block (body_of lines) at end ≡ next_of at lines
+pub next_is : (at : ℕ) (lines : List Line) → start_of_block (lines_view lines) at end ≡ next_of at lines
 next_is at [] = refl
 next_is at (line ∷ lines) = refl
 
-leads_to : (line : Line) (t : Target) → map (λ (o : Outcome). t) (normal_outcomes (form_of line)) ≡ t ∷ []
+leads_to : (line : Line) (t : Target) → map (λ (o : Outcome). t) (normal_outcomes (line_view line)) ≡ t ∷ []
 leads_to Receive t = refl
 leads_to (Set n text) t = refl
 leads_to (Send n) t = refl
 leads_to (Discard n) t = refl
 
-pub nodes_are : (at : ℕ) (line : Line) (lines : List Line) → nodes_in (body_of (line ∷ lines)) (suc at) at around ≡ node_for at line (next_of (suc at) lines) ∷ nodes_in (body_of lines) (suc (suc at)) (suc at) around
+pub nodes_are : (at : ℕ) (line : Line) (lines : List Line) → nodes_in (lines_view (line ∷ lines)) (suc at) at around ≡ node_for at line (next_of (suc at) lines) ∷ nodes_in (lines_view lines) (suc (suc at)) (suc at) around
 nodes_are at line lines =
     let n : suc at + 1 ≡ suc (suc at) = omega arith in
     let f : at + 1 ≡ suc at = omega arith in
@@ -119,7 +119,7 @@ nodes_are at line lines =
 same_points : (p q : Point) (ps qs : List Point) → p ≡ q → ps ≡ qs → p ∷ ps ≡ q ∷ qs
 same_points p q ps qs e f = cc
 
-pub points_are : (count at : ℕ) (lines : List Line) → AllByRecursion (IsStep count) lines → map (point predefined (types_of count)) (nodes_in (body_of lines) (suc at) at around) ≡ points_from at lines
+pub points_are : (count at : ℕ) (lines : List Line) → AllByRecursion (IsStep count) lines → map (point predefined (types_of count)) (nodes_in (lines_view lines) (suc at) at around) ≡ points_from at lines
 points_are count at [] a = refl
 points_are count at (line ∷ lines) a =
     ap (λ (ns : List Node). map (point predefined (types_of count)) ns) (nodes_are at line lines)

@@ -27,7 +27,7 @@ use Rattle.herm_lexer.specs.declared.fault.LexFault.TheVariants as lexical
 use Rattle.herm_alphabet.proofs.Keywords.{keyword_of-letters}
 use Rattle.herm_lexer.proofs.Files.{ReadTo-le}
 use Rattle.herm_lexer.proofs.FileLaws.{tokens_spell_file}
-use Rattle.herm_parser.specs.SyntaxFaults.{end_first, start_of, place_of}
+use Rattle.herm_parser.specs.TokenPlaces.{end_first, start_of, place_of}
 use Rattle.herm_compile.specs.Form.{kinds}
 use Rattle.herm_compile.specs.declared.phase.FileFault.{FileFault}
 use Rattle.herm_compile.specs.declared.phase.FileFault.TheVariants as faults

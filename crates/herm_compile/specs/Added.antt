@@ -3,15 +3,15 @@ use Rattle.std.specs.Prelude.{◌≡◌, ◌⊎◌, ℕ, List, [], ◌∷◌, �
 use Rattle.std.specs.declared.vec.Vec.{Vec}
 use Rattle.std.specs.declared.alloc.Global.{Global}
 use Rattle.herm_syntax.specs.declared.modules.Module.{Module}
-use Rattle.herm_compile.specs.Seen.{seen}
+use Rattle.herm_compile.specs.View.{fault_view}
 use Rattle.herm_compile.specs.FirstPhase.{HasModules, HasFileFault, file_fault}
 use Rattle.herm_compile.specs.declared.phase.FileFault.{FileFault}
 use Rattle.herm_compile.specs.declared.phase.ReadFiles.{ReadFiles}
 
 -- The file has the modules, or the fault.
-abbrev pub IsRead : List ℕ → Result (Vec Module Global) FileFault → Type 0
-IsRead bytes (Ok modules) = HasModules bytes modules.items
-IsRead bytes (Err fault) = HasFileFault bytes fault
+abbrev pub IsReadFile : List ℕ → Result (Vec Module Global) FileFault → Type 0
+IsReadFile bytes (Ok modules) = HasModules bytes modules.items
+IsReadFile bytes (Err fault) = HasFileFault bytes fault
 
 -- the modules of the file are added
 pub record AreModulesAdded (number : ℕ) (bytes : List ℕ) (before after : ReadFiles) : Type 0 where
@@ -25,7 +25,7 @@ pub record AreModulesAdded (number : ℕ) (bytes : List ℕ) (before after : Rea
 pub record IsFaultAdded (number : ℕ) (bytes : List ℕ) (before after : ReadFiles) : Type 0 where
   pub fault : FileFault
   pub has : HasFileFault bytes fault
-  pub faults : map seen after.faults.items ≡ map seen before.faults.items ++ file_fault number bytes fault ∷ []
+  pub faults : map fault_view after.faults.items ≡ map fault_view before.faults.items ++ file_fault number bytes fault ∷ []
 
 abbrev pub IsAdded : ℕ → List ℕ → ReadFiles → ReadFiles → Type 0
 IsAdded number bytes before after = AreModulesAdded number bytes before after ⊎ IsFaultAdded number bytes before after

@@ -6,9 +6,10 @@ use Rattle.herm_lexer.specs.declared.fault.LexFault.TheVariants as lexical
 use Rattle.herm_alphabet.specs.declared.token.Token.{Token}
 use Rattle.herm_syntax.specs.declared.modules.Module.{Module}
 use Rattle.herm_parser.specs.Parsing.{IsParsed}
-use Rattle.herm_parser.specs.SyntaxFaults.{IsNested, IsMisspelled}
-use Rattle.herm_compile.specs.Places.{line_at, column_at}
-use Rattle.herm_compile.specs.Seen.{Seen}
+use Rattle.herm_parser.specs.OpenBrackets.{IsNested}
+use Rattle.herm_parser.specs.SyntaxFaults.{IsMisspelled}
+use Rattle.herm_compile.specs.Places.{line_number_at, column_at}
+use Rattle.herm_compile.specs.View.{Seen}
 use Rattle.herm_compile.specs.declared.phase.FileFault.{FileFault}
 use Rattle.herm_compile.specs.declared.phase.FileFault.TheVariants.{Byte, Token as NoToken, TooLong, Syntax, Nesting}
 use Rattle.herm_compile.specs.RefusalWords.{fault_words}
@@ -56,7 +57,7 @@ fault_offset (Nesting offset) = offset
 abbrev pub file_fault : ℕ → List ℕ → FileFault → Seen
 file_fault number bytes fault = record {
   file = number;
-  line = line_at bytes (fault_offset fault);
+  line = line_number_at bytes (fault_offset fault);
   column = column_at bytes (fault_offset fault);
   code = fault_code fault;
   words = fault_words fault;

@@ -3,7 +3,7 @@ pub mod Gives
 pub mod Form
 pub mod Reading
 pub mod Straight
-pub mod Seen
+pub mod View
 pub mod Places
 pub mod FirstPhase
 pub mod Refused

@@ -1,7 +1,7 @@
 -- Files have one answer in the second phase (Language reference, "Refusals of definitions").
 use Rattle.std.specs.Prelude.{◌≡◌, ℕ, List, map}
 use Rattle.herm_meaning.specs.Names.{NamedTable}
-use Rattle.herm_compile.specs.Seen.{seen}
+use Rattle.herm_compile.specs.View.{fault_view}
 use Rattle.herm_compile.specs.SecondPhase.{HaveTypes, AreMisdefined}
 use Rattle.herm_compile.specs.declared.fault.Fault.{Fault}
 
@@ -11,7 +11,7 @@ HaveOneTable = (files : List (List ℕ)) (table other : NamedTable) → HaveType
 
 -- The faults of definitions are one list: their files, places, codes and words, in their order.
 abbrev pub AreOneList : Type 0
-AreOneList = (files : List (List ℕ)) (faults others : List Fault) → AreMisdefined files faults → AreMisdefined files others → map seen faults ≡ map seen others
+AreOneList = (files : List (List ℕ)) (faults others : List Fault) → AreMisdefined files faults → AreMisdefined files others → map fault_view faults ≡ map fault_view others
 
 -- Files that mean types have no faults of definitions.
 abbrev pub TypesOrFaults : Type 0

@@ -15,8 +15,8 @@ newlines [] = 0
 newlines (byte ∷ bytes) = if is_newline byte then suc (newlines bytes) else newlines bytes
 
 -- one more than the newlines before the place (Language reference, "Refusals")
-abbrev pub line_at : List ℕ → ℕ → ℕ
-line_at bytes offset = suc (newlines (take offset bytes))
+abbrev pub line_number_at : List ℕ → ℕ → ℕ
+line_number_at bytes offset = suc (newlines (take offset bytes))
 
 -- one more than the bytes since the last newline (Language reference, "Refusals")
 abbrev pub column_at : List ℕ → ℕ → ℕ
@@ -25,7 +25,7 @@ column_at bytes offset = suc (length (front no_newline (reverse (take offset byt
 -- the line and column of a place are those of its offset
 pub record IsPlace (bytes : List ℕ) (place : Place) : Type 0 where
   pub within : place.offset ≤ length bytes
-  pub line_is : place.line ≡ line_at bytes place.offset
+  pub line_is : place.line ≡ line_number_at bytes place.offset
   pub column_is : place.column ≡ column_at bytes place.offset
 
 -- the place behind a byte

@@ -3,7 +3,7 @@ use Rattle.std.specs.Prelude.{ℕ, List, codes, ◌∷◌, ◌++◌, decimal}
 use Rattle.herm_lexer.specs.declared.fault.LexFault.TheVariants as lexical
 use Rattle.herm_compile.specs.declared.phase.FileFault.{FileFault}
 use Rattle.herm_compile.specs.declared.phase.FileFault.TheVariants.{Byte, Token as NoToken, TooLong, Syntax, Nesting}
-use Rattle.herm_meaning.specs.Faults.{Code, unknown, twice, cycle, deep, bad_key, bad_state}
+use Rattle.herm_meaning.specs.DefinitionFaults.{Code, unknown, twice, cycle, deep, bad_key, bad_state}
 use Rattle.std.specs.List.{flat_map}
 use Rattle.herm_model.specs.ControlPaths as control
 use Rattle.herm_compile.specs.Form.{name_of}

@@ -7,8 +7,8 @@ use Rattle.herm_alphabet.specs.declared.token.Token.{Token}
 use Rattle.herm_compile.specs.Form.{line_tokens, IsOfForm, AreOfForm}
 use Rattle.herm_compile.specs.Reading.{up_to_lines}
 use Rattle.herm_compile.specs.Straight.{process_of, refusal_of}
-use Rattle.herm_compile.specs.Seen.{Seen, seen}
-use Rattle.herm_compile.specs.Places.{line_at, column_at}
+use Rattle.herm_compile.specs.View.{Seen, fault_view}
+use Rattle.herm_compile.specs.Places.{line_number_at, column_at}
 use Rattle.herm_meaning.specs.Names.{NamedTable}
 use Rattle.herm_compile.specs.FirstPhase.{AreFirstFaults}
 use Rattle.herm_compile.specs.SecondPhase.{HaveTypes, AreMisdefined}
@@ -40,7 +40,7 @@ fault_at names gap line column = record { file = 0; line = line; column = column
 abbrev pub reported : List ℕ → List (List ℕ) → List ℕ → Gap → Seen
 reported bytes names starts gap =
     let offset = get_or starts gap.at 0 in
-    fault_at names gap (line_at bytes offset) (column_at bytes offset)
+    fault_at names gap (line_number_at bytes offset) (column_at bytes offset)
 
 -- the one fault of files that are not of the form
 abbrev pub not_built : Seen
@@ -49,12 +49,12 @@ not_built = record { file = 0; line = 1; column = 1; code = 12; words = codes "n
 -- Files have faults in the first phase, and are refused with these and no other (Language reference, "Refusals").
 pub record AreUnread (files : List (List ℕ)) (faults : List Fault) : Type 0 where
   pub some : faults ≢ []
-  pub each : AreFirstFaults 0 files (map seen faults)
+  pub each : AreFirstFaults 0 files (map fault_view faults)
 
 -- The files are of no program, and refused with that one fault.
 pub record AreNotBuilt (files : List (List ℕ)) (faults : List Fault) : Type 0 where
   pub none : (names : List (List ℕ)) (lines : List Line) → AreOfForm files names lines → ⊥
-  pub one : map seen faults ≡ not_built ∷ []
+  pub one : map fault_view faults ≡ not_built ∷ []
 
 -- The file is of a program in which facts are missing, and refused with a fault for each, in order.
 pub record AreMissingFacts (bytes : List ℕ) (faults : List Fault) : Type 0 where
@@ -64,7 +64,7 @@ pub record AreMissingFacts (bytes : List ℕ) (faults : List Fault) : Type 0 whe
   pub gaps : List Gap
   pub some : gaps ≢ []
   pub missing : IsMissing predefined (process_of (length names) lines) (map refusal_of gaps)
-  pub each : map seen faults ≡ map (reported bytes names (starts names lines form.tokens)) gaps
+  pub each : map fault_view faults ≡ map (reported bytes names (starts names lines form.tokens)) gaps
 
 -- One file has a program today.
 abbrev pub AreLacking : List (List ℕ) → List Fault → Type 0

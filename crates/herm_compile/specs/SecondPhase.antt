@@ -4,9 +4,9 @@ use Rattle.herm_syntax.specs.declared.modules.Module.{Module}
 use Rattle.herm_meaning.specs.Names.{NamedTable}
 use Rattle.herm_meaning.specs.Items.{items_of}
 use Rattle.herm_meaning.specs.Meaning.{meaning}
-use Rattle.herm_meaning.specs.Faults.{rank, Fault as Wrong, AreFaultsOf}
+use Rattle.herm_meaning.specs.DefinitionFaults.{rank, Fault as Wrong, AreFaultsOf}
 use Rattle.herm_compile.specs.FirstPhase.{HaveModules}
-use Rattle.herm_compile.specs.Seen.{Seen, seen}
+use Rattle.herm_compile.specs.View.{Seen, fault_view}
 use Rattle.herm_compile.specs.Spots.{spot_fault}
 use Rattle.herm_compile.specs.declared.fault.Fault.{Fault}
 use Rattle.herm_compile.specs.RefusalWords.{definition_words}
@@ -31,4 +31,4 @@ pub record AreMisdefined (files : List (List ℕ)) (faults : List Fault) : Type 
   pub list : List Wrong
   pub are : AreFaultsOf (items_of modules) list
   pub some : list ≡ [] → ⊥
-  pub each : map seen faults ≡ map (definition_fault files owners) list
+  pub each : map fault_view faults ≡ map (definition_fault files owners) list

@@ -1,8 +1,8 @@
 -- Faults at places of modules, seen in the file of each module (Language reference, "Refusals").
 use Rattle.std.specs.Prelude.{ℕ, ◌≤◌, None, List, [], length, get_or}
 use Rattle.herm_model.specs.Lists.{IsIn}
-use Rattle.herm_compile.specs.Places.{line_at, column_at}
-use Rattle.herm_compile.specs.Seen.{Seen}
+use Rattle.herm_compile.specs.Places.{line_number_at, column_at}
+use Rattle.herm_compile.specs.View.{Seen}
 
 -- the file of a module, by the files' numbers of all modules; and the bytes of a file
 abbrev pub owner_of : List ℕ → (module' : ℕ) → ℕ
@@ -15,7 +15,7 @@ bytes_of files number = get_or files number []
 abbrev pub spot_fault : List (List ℕ) → (owners : List ℕ) → (module' start code : ℕ) → (words : List ℕ) → Seen
 spot_fault files owners module' start code words = record {
   file = owner_of owners module';
-  line = line_at (bytes_of files (owner_of owners module')) start;
+  line = line_number_at (bytes_of files (owner_of owners module')) start;
   column = column_at (bytes_of files (owner_of owners module')) start;
   code = code;
   words = words;

@@ -19,19 +19,19 @@ abbrev pub console : Path
 console = 1 ∷ 1 ∷ []
 
 -- the statement that a line is
-abbrev pub form_of : Line → model.Form
-form_of Receive = model.Receive (1 ∷ []) (0 ∷ [])
-form_of (Set number bytes) = model.Assign (variable number) (literal (text bytes))
-form_of (Send number) = model.Send (variable number) console
-form_of (Discard number) = model.Discard (variable number)
+abbrev pub line_view : Line → model.Form
+line_view Receive = model.Receive (1 ∷ []) (0 ∷ [])
+line_view (Set number bytes) = model.Assign (variable number) (literal (text bytes))
+line_view (Send number) = model.Send (variable number) console
+line_view (Discard number) = model.Discard (variable number)
 
-abbrev pub body_of : List Line → model.Block
-body_of [] = model.no_statements
-body_of (line ∷ lines) = model.statement (model.simple (form_of line)) (body_of lines)
+abbrev pub lines_view : List Line → model.Block
+lines_view [] = model.no_statements
+lines_view (line ∷ lines) = model.statement (model.simple (line_view line)) (lines_view lines)
 
 -- The process with so many declared strings and these lines: its port is of the type main_start, the message of the type main_message.
 abbrev pub process_of : ℕ → List Line → model.Process
-process_of count lines = record { variables = 7 ∷ 6 ∷ replicate count 2; body = body_of lines }
+process_of count lines = record { variables = 7 ∷ 6 ∷ replicate count 2; body = lines_view lines }
 
 -- ---- which strings are held
 

@@ -1,12 +1,12 @@
 //! The second phase: the types that definitions mean, or their faults.
 ghost use Rattle.std.specs.Prelude.{◌≡◌, ◌++◌, [], ◌∷◌, map, IfOk, OnOk};
-ghost use Rattle.herm_meaning.specs.Faults.{rank};
-ghost use Rattle.herm_defs.specs.Judged.{code_view, fault_view};
+ghost use Rattle.herm_meaning.specs.DefinitionFaults.{rank};
+ghost use Rattle.herm_defs.specs.View.{def_code_view, def_fault_view};
 ghost use Rattle.herm_compile.specs.FirstPhase.{HaveModules};
 ghost use Rattle.herm_compile.specs.SecondPhase.{definition_fault};
 ghost use Rattle.herm_compile.specs.RefusalWords.{definition_words};
 ghost use Rattle.herm_compile.specs.Phases.{IsDefined};
-ghost use Rattle.herm_compile.specs.Seen.{seen};
+ghost use Rattle.herm_compile.specs.View.{fault_view};
 ghost use Rattle.herm_compile.specs.Spots.{AreShort};
 
 use crate::fault::Fault;
@@ -18,7 +18,7 @@ use herm_types::TypeTable;
 use std::alloc::{AllocError, Global};
 
 fn code_of(code: DefCode) -> u8
-    ensures { result ≡ rank (code_view code) }
+    ensures { result ≡ rank (def_code_view code) }
 {
     match code {
         DefCode::Unknown => 6,
@@ -31,7 +31,7 @@ fn code_of(code: DefCode) -> u8
 }
 
 fn words_of(code: DefCode) -> &'static [u8]
-    ensures { result.now ≡ definition_words (code_view code) }
+    ensures { result.now ≡ definition_words (def_code_view code) }
 {
     match code {
         DefCode::Unknown => b"unknown",
@@ -50,7 +50,7 @@ fn definition_fault(
     fault: DefFault,
 ) -> Result<Fault, AllocError>
     requires { AreShort (map (λ file. file.1.items) files.now) }
-    ensures { IfOk result (λ f. seen f ≡ definition_fault (map (λ file. file.1.items) files.now) owners.now (fault_view fault)) }
+    ensures { IfOk result (λ f. fault_view f ≡ definition_fault (map (λ file. file.1.items) files.now) owners.now (def_fault_view fault)) }
 {
     let spot = Spot {
         block: fault.module,
@@ -69,7 +69,7 @@ fn definition_faults(
     list: &[DefFault],
 ) -> Result<Vec<Fault>, AllocError>
     requires { AreShort (map (λ file. file.1.items) files.now) }
-    ensures { IfOk result (λ faults. map seen faults.items ≡ map (definition_fault (map (λ file. file.1.items) files.now) owners.now) (map fault_view list.now)) }
+    ensures { IfOk result (λ faults. map fault_view faults.items ≡ map (definition_fault (map (λ file. file.1.items) files.now) owners.now) (map def_fault_view list.now)) }
 {
     let mut faults = Vec::new(alloc);
     'faults: for fault in list {

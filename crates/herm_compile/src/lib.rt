@@ -21,7 +21,7 @@ ghost use Rattle.herm_model.specs.Refusals.{IsAccepted};
 ghost use Rattle.herm_lexer.specs.Spelling.{HasTokens};
 ghost use Rattle.herm_compile.specs.Form.{IsOfForm, AreOfForm, IsFormBy, IsProgram, OneReading};
 ghost use Rattle.herm_compile.specs.Straight.{process_of, gaps};
-ghost use Rattle.herm_compile.specs.Seen.{seen};
+ghost use Rattle.herm_compile.specs.View.{fault_view};
 ghost use Rattle.herm_compile.specs.FirstPhase.{HasTrees, HaveModules, HaveTrees, TreesOrFault};
 ghost use Rattle.herm_compile.specs.SecondPhase.{HaveTypes};
 ghost use Rattle.herm_compile.specs.Phases.{IsDefined};
@@ -142,7 +142,7 @@ fn compile_lines(alloc: Global, files: &[(Word, Vec<u8>)]) -> Result<Lines, Comp
 
 /// Refuses files of no program.
 fn refuse_not_built(alloc: Global) -> CompileFault
-    ensures { IfRefused result (λ faults. map seen faults ≡ not_built ∷ []) }
+    ensures { IfRefused result (λ faults. map fault_view faults ≡ not_built ∷ []) }
 {
     match not_built(alloc) {
         Ok(faults) => CompileFault::Refused(faults),
@@ -212,7 +212,7 @@ fn lacking(
 ) -> Result<Vec<Fault>, AllocError>
     requires read { HasTokens bytes.now tokens.now }
     requires program { IsProgram program.now.names.items program.now.lines.items }
-    ensures { IfOk result (λ faults. map seen faults.items ≡
+    ensures { IfOk result (λ faults. map fault_view faults.items ≡
         map (reported bytes.now program.now.names.items (starts program.now.names.items program.now.lines.items tokens.now)) (gaps program.now.lines.items)) }
 {
     let names = program.names.as_slice();
@@ -225,7 +225,7 @@ fn lacking(
 
 /// The one fault of files of no program.
 fn not_built(alloc: Global) -> Result<Vec<Fault>, AllocError>
-    ensures { IfOk result (λ faults. map seen faults.items ≡ not_built ∷ []) }
+    ensures { IfOk result (λ faults. map fault_view faults.items ≡ not_built ∷ []) }
 {
     let words = Word::of(alloc, b"not built")?;
     let mut faults = Vec::new(alloc);

@@ -1,10 +1,10 @@
 //! The first phase: each file as tokens and trees, or its one fault.
 ghost use Rattle.std.specs.Prelude.{◌≡◌, ◌++◌, suc, [], map, length, replicate, IfOk, OnOk};
 ghost use Rattle.herm_lexer.specs.Spelling.{HasTokens};
-ghost use Rattle.herm_compile.specs.Seen.{seen};
+ghost use Rattle.herm_compile.specs.View.{fault_view};
 ghost use Rattle.herm_compile.specs.FirstPhase.{HasFileFault, AreFirstFaults, HaveModules, file_fault, fault_code, fault_offset};
 ghost use Rattle.herm_compile.specs.RefusalWords.{fault_words};
-ghost use Rattle.herm_compile.specs.Added.{IsRead, IsAdded};
+ghost use Rattle.herm_compile.specs.Added.{IsReadFile, IsAdded};
 
 use crate::fault::Fault;
 use crate::places::{file_start, place_at};
@@ -73,7 +73,7 @@ fn file_fault(
     fault: FileFault,
 ) -> Result<Fault, AllocError>
     requires { HasFileFault bytes.now fault }
-    ensures { IfOk result (λ f. seen f ≡ file_fault number bytes.now fault) }
+    ensures { IfOk result (λ f. fault_view f ≡ file_fault number bytes.now fault) }
 {
     let place = place_at(bytes, file_start(), fault_offset(fault));
     let words = Word::of(alloc, fault_words(fault))?;
@@ -94,7 +94,7 @@ fn tokens_said(
     tokens: &[Token],
 ) -> Result<Result<Vec<Module>, FileFault>, AllocError>
     requires { HasTokens bytes.now tokens.now }
-    ensures { IfOk result (λ said. IsRead bytes.now said) }
+    ensures { IfOk result (λ said. IsReadFile bytes.now said) }
 {
     match parse(alloc, tokens) {
         Ok(modules) => Ok(Ok(modules)),
@@ -106,7 +106,7 @@ fn tokens_said(
 
 /// The modules of a file, or its fault.
 fn said_of(alloc: Global, bytes: &[u8]) -> Result<Result<Vec<Module>, FileFault>, AllocError>
-    ensures { IfOk result (λ said. IsRead bytes.now said) }
+    ensures { IfOk result (λ said. IsReadFile bytes.now said) }
 {
     match lex(alloc, bytes) {
         Ok(tokens) => tokens_said(alloc, bytes, tokens.as_slice()),
@@ -149,7 +149,7 @@ fn add_file(
     bytes: &[u8],
     said: Result<Vec<Module>, FileFault>,
 ) -> Result<(), AllocError>
-    requires { IsRead bytes.now said }
+    requires { IsReadFile bytes.now said }
     ensures { OnOk result (IsAdded number bytes.now read.old read.new) }
 {
     match said {
@@ -191,7 +191,7 @@ fn number_behind(number: u32) -> Result<u32, AllocError>
 /// Reads the files in their order: the faults of the first phase, of each file its one fault or none where it has trees; and
 /// where there is no fault, the modules of all files, each with the number of its file.
 pub fn read_files(alloc: Global, files: &[(Word, Vec<u8>)]) -> Result<ReadFiles, AllocError>
-    ensures faults { IfOk result (λ read. AreFirstFaults 0 (map (λ file. file.1.items) files.now) (map seen read.faults.items)) }
+    ensures faults { IfOk result (λ read. AreFirstFaults 0 (map (λ file. file.1.items) files.now) (map fault_view read.faults.items)) }
     ensures modules { IfOk result (λ read. read.faults.items ≡ [] → HaveModules 0 (map (λ file. file.1.items) files.now) read.modules.items read.owners.items) }
 {
     let mut read = ReadFiles {

@@ -4,7 +4,7 @@ ghost use Rattle.std.specs.List.{flat_map, AllByRecursion};
 ghost use Rattle.herm_model.specs.Outcomes.{ok};
 ghost use Rattle.herm_compile.specs.Form.{name_of};
 ghost use Rattle.herm_compile.specs.Straight.{IsSmall, ok_hops, refusal_of};
-ghost use Rattle.herm_compile.specs.Seen.{seen, seen_hop, seen_missing};
+ghost use Rattle.herm_compile.specs.View.{fault_view, hop_view, missing_fact_view};
 ghost use Rattle.herm_compile.specs.Places.{IsPlace};
 ghost use Rattle.herm_compile.specs.Refused.{reported, fault_at};
 ghost use Rattle.herm_compile.specs.RefusalWords.{hop_text, gap_words};
@@ -58,7 +58,7 @@ fn gap_words(alloc: Global, names: &[Word], gap: Gap) -> Result<Word, AllocError
 
 fn hops_to(alloc: Global, count: usize) -> Result<Vec<Hop>, AllocError>
     requires { count < 1024 }
-    ensures { IfOk result (λ hops. map seen_hop hops.items ≡ ok_hops 0 count) }
+    ensures { IfOk result (λ hops. map hop_view hops.items ≡ ok_hops 0 count) }
 {
     let mut hops = Vec::new(alloc);
     'hops: for at in 0..count {
@@ -72,7 +72,7 @@ fn hops_to(alloc: Global, count: usize) -> Result<Vec<Hop>, AllocError>
 
 fn missing_of(alloc: Global, gap: Gap) -> Result<MissingFact, AllocError>
     requires { IsSmall gap }
-    ensures { IfOk result (λ missing. seen_missing missing ≡ refusal_of gap) }
+    ensures { IfOk result (λ missing. missing_fact_view missing ≡ refusal_of gap) }
 {
     let by = hops_to(alloc, gap.at)?;
     let path = Path {
@@ -88,7 +88,7 @@ fn missing_of(alloc: Global, gap: Gap) -> Result<MissingFact, AllocError>
 
 fn fault_at(alloc: Global, names: &[Word], gap: Gap, place: Place) -> Result<Fault, AllocError>
     requires { IsSmall gap }
-    ensures { IfOk result (λ fault. seen fault ≡ fault_at names.now gap place.line place.column) }
+    ensures { IfOk result (λ fault. fault_view fault ≡ fault_at names.now gap place.line place.column) }
 {
     let words = gap_words(alloc, names, gap)?;
     let missing = missing_of(alloc, gap)?;
@@ -122,7 +122,7 @@ pub fn faults_of(
     requires short { length bytes.now ≤ 1048576 }
     requires within { AllByRecursion (λ start. start ≤ length bytes.now) starts.now }
     requires small { AllByRecursion IsSmall gaps.now }
-    ensures { IfOk result (λ faults. map seen faults.items ≡ map (reported bytes.now names.now starts.now) gaps.now) }
+    ensures { IfOk result (λ faults. map fault_view faults.items ≡ map (reported bytes.now names.now starts.now) gaps.now) }
 {
     let mut faults = Vec::new(alloc);
     let mut place = file_start();

@@ -1,7 +1,7 @@
 //! Faults at places of modules, in the file of each module.
 ghost use Rattle.std.specs.Prelude.{◌≡◌, ◌≤◌, [], map, length, get_or, IfOk};
-ghost use Rattle.herm_compile.specs.Places.{line_at, column_at};
-ghost use Rattle.herm_compile.specs.Seen.{seen};
+ghost use Rattle.herm_compile.specs.Places.{line_number_at, column_at};
+ghost use Rattle.herm_compile.specs.View.{fault_view};
 ghost use Rattle.herm_compile.specs.Spots.{AreShort, spot_fault};
 
 use crate::fault::Fault;
@@ -38,7 +38,7 @@ fn bytes_of(files: &[(Word, Vec<u8>)], number: u32) -> &[u8]
 
 fn place_in(bytes: &[u8], start: u32) -> Place
     requires { length bytes.now ≤ 1048576 }
-    ensures line { result.line ≡ line_at bytes.now start }
+    ensures line { result.line ≡ line_number_at bytes.now start }
     ensures column { result.column ≡ column_at bytes.now start }
 {
     place_at(bytes, file_start(), (start as usize).min(bytes.len()))
@@ -52,7 +52,7 @@ pub fn spot_fault(
     spot: Spot,
 ) -> Result<Fault, AllocError>
     requires { AreShort (map (λ file. file.1.items) files.now) }
-    ensures { IfOk result (λ f. seen f ≡ spot_fault (map (λ file. file.1.items) files.now) owners.now spot.block spot.start spot.code spot.words.now) }
+    ensures { IfOk result (λ f. fault_view f ≡ spot_fault (map (λ file. file.1.items) files.now) owners.now spot.block spot.start spot.code spot.words.now) }
 {
     let file = owner_of(owners, spot.block);
     let place = place_in(bytes_of(files, file), spot.start);

@@ -9,11 +9,11 @@ use Rattle.herm_model.specs.Types.{Shape, boolean, integer, text, polymorph, nam
 use Rattle.herm_model.specs.Facts.{component_count}
 use Rattle.herm_model.specs.WellFormedTables.{IsType, field_type}
 use Rattle.herm_base.specs.declared.word.Name.{Name}
-use Rattle.herm_syntax.specs.Views.{letters}
+use Rattle.herm_syntax.specs.View.{name_view}
 use Rattle.herm_syntax.specs.Trees.{Letters, DeclaredFact, InitFact, FullFact, CaseFact}
 use Rattle.herm_meaning.specs.Names.{NamedTable}
 use Rattle.herm_meaning.specs.Walks.{Walked, ended, left_fields, met_unknown, further, place_of, parts_of, walk}
-use Rattle.herm_meaning.specs.Faults.{IsNoRecord, IsBadFact, HasTwoCases, HasBadFacts}
+use Rattle.herm_meaning.specs.DefinitionFaults.{IsNoRecord, IsBadFact, HasTwoCases, HasBadFacts}
 use Rattle.herm_graph.specs.Tells.{Tells}
 use Rattle.herm_defs.specs.declared.facts.Walked.{Walked as Code}
 use Rattle.herm_defs.specs.declared.facts.Walked.TheVariants.{Ended, Left, MetUnknown}
@@ -316,19 +316,19 @@ mark-end [] r = refl
 mark-end (b ∷ bs) r = ap (λ xs. 1 ∷ b ∷ xs) (mark-end bs r)
 
 -- one name more of a path
-pub key-more : (path : List Name) (i : ℕ) (n : Name) (bytes new whole : List ℕ) → i < length path → n ≡ get_or path i n → new ≡ bytes ++ marked_bytes n.text [] → bytes ++ path_key (map letters (drop i path)) ≡ whole → new ++ path_key (map letters (drop (i + 1) path)) ≡ whole
+pub key-more : (path : List Name) (i : ℕ) (n : Name) (bytes new whole : List ℕ) → i < length path → n ≡ get_or path i n → new ≡ bytes ++ marked_bytes n.text [] → bytes ++ path_key (map name_view (drop i path)) ≡ whole → new ++ path_key (map name_view (drop (i + 1) path)) ≡ whole
 key-more path i n bytes new whole l e more before =
     rw add-one (
-    ap (λ xs. xs ++ path_key (map letters (drop (suc i) path))) more
-    ∙ (append_assoc bytes (marked_bytes n.text []) (path_key (map letters (drop (suc i) path)))
-    ∙ (ap (bytes ++◌) (mark-end n.text (path_key (map letters (drop (suc i) path)))
-    ∙ ap (λ (x : Name). marked_bytes x.text (path_key (map letters (drop (suc i) path)))) e)
-    ∙ (sym (ap (λ xs. bytes ++ path_key (map letters xs)) (drop-cons path i n l)) ∙ before))))
+    ap (λ xs. xs ++ path_key (map name_view (drop (suc i) path))) more
+    ∙ (append_assoc bytes (marked_bytes n.text []) (path_key (map name_view (drop (suc i) path)))
+    ∙ (ap (bytes ++◌) (mark-end n.text (path_key (map name_view (drop (suc i) path)))
+    ∙ ap (λ (x : Name). marked_bytes x.text (path_key (map name_view (drop (suc i) path)))) e)
+    ∙ (sym (ap (λ xs. bytes ++ path_key (map name_view xs)) (drop-cons path i n l)) ∙ before))))
 
 -- one name more on the way
-pub walk-next : (table : NamedTable) (list : List Name) (i : ℕ) (n : Name) (t : ℕ) (code : Code) → i < length list → n ≡ get_or list i n → code ≡ walked_as (walk table t (n.text ∷ [])) → walked_as (walk table t (map letters (drop i list))) ≡ on code (λ u. walked_as (walk table u (map letters (drop (i + 1) list))))
+pub walk-next : (table : NamedTable) (list : List Name) (i : ℕ) (n : Name) (t : ℕ) (code : Code) → i < length list → n ≡ get_or list i n → code ≡ walked_as (walk table t (n.text ∷ [])) → walked_as (walk table t (map name_view (drop i list))) ≡ on code (λ u. walked_as (walk table u (map name_view (drop (i + 1) list))))
 walk-next table list i n t code l e f =
     rw add-one (
-    ap (λ xs. walked_as (walk table t (map letters xs))) (drop-cons list i n l)
-    ∙ (ap (λ (x : Name). walked_as (walk table t (x.text ∷ map letters (drop (suc i) list)))) (sym e)
-    ∙ walk-on table t n.text (map letters (drop (suc i) list)) code f))
+    ap (λ xs. walked_as (walk table t (map name_view xs))) (drop-cons list i n l)
+    ∙ (ap (λ (x : Name). walked_as (walk table t (x.text ∷ map name_view (drop (suc i) list)))) (sym e)
+    ∙ walk-on table t n.text (map name_view (drop (suc i) list)) code f))

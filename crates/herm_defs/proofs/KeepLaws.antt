@@ -9,12 +9,12 @@ use Rattle.herm_model.specs.Calls.{is_returned}
 use Rattle.herm_model.specs.Outcomes.{disconnected}
 use Rattle.herm_base.specs.declared.word.Name.{Name}
 use Rattle.herm_syntax.specs.declared.definitions.RaiseForm.{RaiseForm}
-use Rattle.herm_syntax.specs.Views.{raising_of}
+use Rattle.herm_syntax.specs.View.{raise_form_view}
 use Rattle.herm_syntax.specs.Trees.{Letters, Param, Mode, In, Inout, Out, Raising}
 use Rattle.herm_meaning.specs.Names.{NamedTable}
 use Rattle.herm_meaning.specs.Walks.{place_of}
 use Rattle.herm_meaning.specs.Meaning.{parameter_meant, mode_meant}
-use Rattle.herm_meaning.specs.Faults.{IsNotReturned, KeepsBadly}
+use Rattle.herm_meaning.specs.DefinitionFaults.{IsNotReturned, KeepsBadly}
 use Rattle.herm_graph.specs.Tells.{Tells}
 use Rattle.herm_defs.specs.Plain.{comes_back, not_returned, keeps_badly, any_keeps_badly}
 use Rattle.herm_defs.proofs.Roles.{tells-and}
@@ -112,7 +112,7 @@ module _ (table : NamedTable) (params : List Param) where
   keeps-told raises = tells-any (KeepsBadly table params) (keeps_badly table.exceptions params) keep-told raises
 
 -- the same as the code tells it
-pub keeps-is : (exceptions : List Letters) (params : List Param) (r : RaiseForm) (n : ℕ) (keeps : List Name) (any result : Bool) → n ≡ place_of exceptions r.name.text → keeps ≡ r.keeps.items → any ≡ list_any (λ (k : Name). not_returned params k.text) keeps → result ≡ ((nat_eq n disconnected && not (nat_eq (length keeps) 0)) || any) → result ≡ keeps_badly exceptions params (raising_of r)
+pub keeps-is : (exceptions : List Letters) (params : List Param) (r : RaiseForm) (n : ℕ) (keeps : List Name) (any result : Bool) → n ≡ place_of exceptions r.name.text → keeps ≡ r.keeps.items → any ≡ list_any (λ (k : Name). not_returned params k.text) keeps → result ≡ ((nat_eq n disconnected && not (nat_eq (length keeps) 0)) || any) → result ≡ keeps_badly exceptions params (raise_form_view r)
 keeps-is exceptions params r n keeps any result e f g h =
     h
     ∙ (ap (λ x. (nat_eq x disconnected && not (nat_eq (length keeps) 0)) || any) e

@@ -12,7 +12,7 @@ use Rattle.herm_syntax.specs.Trees.{Letters, Shape}
 use Rattle.herm_meaning.specs.Names.{NamedTable}
 use Rattle.herm_meaning.specs.Walks.{place_of}
 use Rattle.herm_meaning.specs.Marks.{Mark, Role, a_type, an_exception, a_part, an_input, a_content, a_row, a_key, a_port, a_raised, a_kept}
-use Rattle.herm_meaning.specs.Faults.{Code, unknown, twice, cycle, deep, bad_key, bad_state, rank, Holds, number_of, IsJudged, IsSettled, IsNoRecord, IsNoKey, MeetsNoUnknown, MeetsNoCycle, HasBadShape}
+use Rattle.herm_meaning.specs.DefinitionFaults.{Code, unknown, twice, cycle, deep, bad_key, bad_state, rank, Holds, number_of, IsJudged, IsSettled, IsNoRecord, IsNoKey, MeetsNoUnknown, MeetsNoCycle, HasBadShape}
 use Rattle.herm_graph.specs.Depth.{IsBeyond}
 use Rattle.herm_graph.specs.Tells.{Tells}
 use Rattle.herm_defs.specs.declared.fault.DefCode.{DefCode}

@@ -13,7 +13,7 @@ use Rattle.herm_types.specs.declared.shape.Shape.{Shape as Code}
 use Rattle.herm_types.specs.View.{shape_view}
 use Rattle.herm_meaning.specs.Names.{NamedTable}
 use Rattle.herm_meaning.specs.Walks.{place_of, parts_of}
-use Rattle.herm_meaning.specs.Faults.{IsNoRecord, IsNoKey, IsSettled, itself}
+use Rattle.herm_meaning.specs.DefinitionFaults.{IsNoRecord, IsNoKey, IsSettled, itself}
 use Rattle.herm_graph.specs.Depth.{IsBeyond}
 use Rattle.herm_graph.specs.Tells.{Tells, Refutes}
 use Rattle.herm_defs.specs.Plain.{is_record, is_inport, passes, no_key}

@@ -9,7 +9,7 @@ use Rattle.herm_syntax.specs.declared.definitions.DefForm.TheVariants.{Shaped, E
 use Rattle.herm_syntax.specs.declared.definitions.ShapeForm.{ShapeForm}
 use Rattle.herm_syntax.specs.declared.definitions.ShapeForm.TheVariants.{Names, Fields, Cases, Rows, Inport, Outport, CallMessage}
 use Rattle.herm_syntax.specs.Trees.{Letters, Shape}
-use Rattle.herm_syntax.specs.Views.{letters, field_of, param_of, shape_of}
+use Rattle.herm_syntax.specs.View.{name_view, field_view, param_form_view, shape_form_view}
 use Rattle.herm_types.specs.declared.shape.Shape.{Shape as Code}
 use Rattle.herm_types.specs.View.{shape_view, parts_view}
 use Rattle.herm_types.specs.Table.{defined_table, IsSized}
@@ -31,20 +31,20 @@ meaning-is items defined exceptions table t n s p e = rw (n, map-map shape_view 
 
 -- ---- sizes
 
-few-names : (form : ShapeForm) → part_total form < 2 ^ 31 → length (part_names (shape_of form)) < 2 ^ 31
-few-names (Names values) l = omega (arith, l, length-map letters values.items)
-few-names (Fields fs) l = omega (arith, l, length-map field_of fs.items, length-map (λ (f : Letters × Letters). f.0) (map field_of fs.items))
-few-names (Cases cs) l = omega (arith, l, length-map field_of cs.items, length-map (λ (f : Letters × Letters). f.0) (map field_of cs.items))
+few-names : (form : ShapeForm) → part_total form < 2 ^ 31 → length (part_names (shape_form_view form)) < 2 ^ 31
+few-names (Names values) l = omega (arith, l, length-map name_view values.items)
+few-names (Fields fs) l = omega (arith, l, length-map field_view fs.items, length-map (λ (f : Letters × Letters). f.0) (map field_view fs.items))
+few-names (Cases cs) l = omega (arith, l, length-map field_view cs.items, length-map (λ (f : Letters × Letters). f.0) (map field_view cs.items))
 few-names (Rows row keys) l = omega arith
 few-names (Inport message facts) l = omega arith
 few-names (Outport port) l = omega arith
-few-names (CallMessage params raises) l = omega (arith, l, length-map param_of params.items, length-map (λ p. p.1.0) (map param_of params.items))
+few-names (CallMessage params raises) l = omega (arith, l, length-map param_form_view params.items, length-map (λ p. p.1.0) (map param_form_view params.items))
 
 few-behind : (items : List Placed) → AreFew items → (k : ℕ) (d : Letters × Shape) → slice_get (types_in items) k ≡ Some d → length (part_names d.1) < 2 ^ 31
 few-behind [] few k d e = none-not_some e
 few-behind (i ∷ items) few k d e = by i.1.form (few i (inl refl)) k e (λ k'. few-behind items (λ j m. few j (inr m)) k' d)
   where
-    by : (f : DefForm) → form_total f < 2 ^ 31 → (k : ℕ) → slice_get (types_by (letters i.1.name) f (types_in items)) k ≡ Some d → ((k' : ℕ) → slice_get (types_in items) k' ≡ Some d → length (part_names d.1) < 2 ^ 31) → length (part_names d.1) < 2 ^ 31
+    by : (f : DefForm) → form_total f < 2 ^ 31 → (k : ℕ) → slice_get (types_by (name_view i.1.name) f (types_in items)) k ≡ Some d → ((k' : ℕ) → slice_get (types_in items) k' ≡ Some d → length (part_names d.1) < 2 ^ 31) → length (part_names d.1) < 2 ^ 31
     by (Shaped form) l zero e' again = subst (λ (d' : Letters × Shape). length (part_names d'.1) < 2 ^ 31) (some-injective e') (few-names form l)
     by (Shaped form) l (suc k') e' again = again k' e'
     by Exception l k' e' again = again k' e'

@@ -13,7 +13,7 @@ use Rattle.herm_model.specs.Types as types
 use Rattle.herm_model.specs.WellFormedTables.{field_type}
 use Rattle.herm_model.proofs.Options.{some-injective, none-not_some}
 use Rattle.herm_syntax.specs.Trees.{Letters}
-use Rattle.herm_syntax.specs.Views.{letters}
+use Rattle.herm_syntax.specs.View.{name_view}
 use Rattle.herm_meaning.specs.Names.{NamedTable}
 use Rattle.herm_meaning.specs.Walks.{place_of, parts_of, Walked, ended, left_fields, met_unknown, further, walk, walk_fields}
 use Rattle.herm_defs.specs.Steps.{step_from, end_of}
@@ -81,23 +81,23 @@ behind-twice ps qs None = refl
 behind-twice ps qs (Some e) = ap (λ rs. Some (rs, e.1)) (sym (append_assoc ps qs e.0))
 
 -- nothing was passed
-pub walk-begins : (table : NamedTable) (t : ℕ) (path : List Name) → behind [] (end_of (walk table t (map letters (drop 0 path)))) ≡ end_of (walk table t (map letters path))
-walk-begins table t path = behind-nothing (end_of (walk table t (map letters path)))
+pub walk-begins : (table : NamedTable) (t : ℕ) (path : List Name) → behind [] (end_of (walk table t (map name_view (drop 0 path)))) ≡ end_of (walk table t (map name_view path))
+walk-begins table t path = behind-nothing (end_of (walk table t (map name_view path)))
 
 -- the rest of a path from a name that is read
-rest-of : (path : List Name) (i : ℕ) (o : Name) → i < length path → o ≡ get_or path i o → map letters (drop i path) ≡ o.text ∷ map letters (drop (i + 1) path)
-rest-of path i o l e = ap (map letters) (drop-cons path i o l) ∙ (ap (λ (n : Name). n.text ∷ map letters (drop (suc i) path)) (sym e) ∙ ap (λ k. o.text ∷ map letters (drop k path)) (let one : suc i ≡ i + 1 = omega arith in one))
+rest-of : (path : List Name) (i : ℕ) (o : Name) → i < length path → o ≡ get_or path i o → map name_view (drop i path) ≡ o.text ∷ map name_view (drop (i + 1) path)
+rest-of path i o l e = ap (map name_view) (drop-cons path i o l) ∙ (ap (λ (n : Name). n.text ∷ map name_view (drop (suc i) path)) (sym e) ∙ ap (λ k. o.text ∷ map name_view (drop k path)) (let one : suc i ≡ i + 1 = omega arith in one))
 
 -- the name leads to no field
-pub walk-stops : (table : NamedTable) (t : ℕ) (path : List Name) (i : ℕ) (o : Name) (ps : List ℕ) (whole : Option (List ℕ × ℕ)) → i < length path → o ≡ get_or path i o → step_from table t o.text ≡ None → behind ps (end_of (walk table t (map letters (drop i path)))) ≡ whole → None ≡ whole
+pub walk-stops : (table : NamedTable) (t : ℕ) (path : List Name) (i : ℕ) (o : Name) (ps : List ℕ) (whole : Option (List ℕ × ℕ)) → i < length path → o ≡ get_or path i o → step_from table t o.text ≡ None → behind ps (end_of (walk table t (map name_view (drop i path)))) ≡ whole → None ≡ whole
 walk-stops table t path i o ps whole l e stop before =
-    sym (ap (λ p. behind ps (end_of (walk table t p))) (rest-of path i o l e) ∙ ap (behind ps) (one-step table t o.text (map letters (drop (i + 1) path)) ∙ ap (map_or None (λ (f : ℕ × ℕ). behind (f.0 ∷ []) (end_of (walk table f.1 (map letters (drop (i + 1) path)))))) stop)) ∙ before
+    sym (ap (λ p. behind ps (end_of (walk table t p))) (rest-of path i o l e) ∙ ap (behind ps) (one-step table t o.text (map name_view (drop (i + 1) path)) ∙ ap (map_or None (λ (f : ℕ × ℕ). behind (f.0 ∷ []) (end_of (walk table f.1 (map name_view (drop (i + 1) path)))))) stop)) ∙ before
 
 -- the name leads to a field
-pub walk-goes : (table : NamedTable) (t : ℕ) (path : List Name) (i : ℕ) (o : Name) (ps : List ℕ) (place u : ℕ) (whole : Option (List ℕ × ℕ)) → i < length path → o ≡ get_or path i o → step_from table t o.text ≡ Some (place, u) → behind ps (end_of (walk table t (map letters (drop i path)))) ≡ whole → behind (ps ++ place ∷ []) (end_of (walk table u (map letters (drop (i + 1) path)))) ≡ whole
+pub walk-goes : (table : NamedTable) (t : ℕ) (path : List Name) (i : ℕ) (o : Name) (ps : List ℕ) (place u : ℕ) (whole : Option (List ℕ × ℕ)) → i < length path → o ≡ get_or path i o → step_from table t o.text ≡ Some (place, u) → behind ps (end_of (walk table t (map name_view (drop i path)))) ≡ whole → behind (ps ++ place ∷ []) (end_of (walk table u (map name_view (drop (i + 1) path)))) ≡ whole
 walk-goes table t path i o ps place u whole l e step before =
-    sym (behind-twice ps (place ∷ []) (end_of (walk table u (map letters (drop (i + 1) path)))))
-    ∙ (sym (ap (λ p. behind ps (end_of (walk table t p))) (rest-of path i o l e) ∙ ap (behind ps) (one-step table t o.text (map letters (drop (i + 1) path)) ∙ ap (map_or None (λ (f : ℕ × ℕ). behind (f.0 ∷ []) (end_of (walk table f.1 (map letters (drop (i + 1) path)))))) step)) ∙ before)
+    sym (behind-twice ps (place ∷ []) (end_of (walk table u (map name_view (drop (i + 1) path)))))
+    ∙ (sym (ap (λ p. behind ps (end_of (walk table t p))) (rest-of path i o l e) ∙ ap (behind ps) (one-step table t o.text (map name_view (drop (i + 1) path)) ∙ ap (map_or None (λ (f : ℕ × ℕ). behind (f.0 ∷ []) (end_of (walk table f.1 (map name_view (drop (i + 1) path)))))) step)) ∙ before)
 
 dropped : (path : List Name) (i : ℕ) → length path ≤ i → drop i path ≡ []
 dropped [] zero l = refl
@@ -106,16 +106,16 @@ dropped (n ∷ path) zero l = absurd (omega (arith, l))
 dropped (n ∷ path) (suc i) l = dropped path i (omega (arith, l))
 
 -- all names were passed
-pub walk-done : (table : NamedTable) (t : ℕ) (path : List Name) (i : ℕ) (ps : List ℕ) (whole : Option (List ℕ × ℕ)) → length path ≤ i → behind ps (end_of (walk table t (map letters (drop i path)))) ≡ whole → Some (ps, t) ≡ whole
+pub walk-done : (table : NamedTable) (t : ℕ) (path : List Name) (i : ℕ) (ps : List ℕ) (whole : Option (List ℕ × ℕ)) → length path ≤ i → behind ps (end_of (walk table t (map name_view (drop i path)))) ≡ whole → Some (ps, t) ≡ whole
 walk-done table t path i ps whole l before =
-    ap (λ qs. Some (qs, t)) (sym (append-nil ps)) ∙ (ap (λ p. behind ps (end_of (walk table t (map letters p)))) (sym (dropped path i l)) ∙ before)
+    ap (λ qs. Some (qs, t)) (sym (append-nil ps)) ∙ (ap (λ p. behind ps (end_of (walk table t (map name_view p)))) (sym (dropped path i l)) ∙ before)
 
 -- ---- paths of one field at least
 
-pub no-fields : (table : NamedTable) (t : ℕ) (path : List Name) → true ≡ (length path == 0) → None ≡ end_of (walk_fields table t (map letters path))
+pub no-fields : (table : NamedTable) (t : ℕ) (path : List Name) → true ≡ (length path == 0) → None ≡ end_of (walk_fields table t (map name_view path))
 no-fields table t [] e = refl
 no-fields table t (n ∷ path) e = absurd (omega (arith, eqb-true (length (n ∷ path)) 0 (sym e)))
 
-pub some-fields : (table : NamedTable) (t : ℕ) (path : List Name) (end : Option (List ℕ × ℕ)) → false ≡ (length path == 0) → end ≡ end_of (walk table t (map letters path)) → end ≡ end_of (walk_fields table t (map letters path))
+pub some-fields : (table : NamedTable) (t : ℕ) (path : List Name) (end : Option (List ℕ × ℕ)) → false ≡ (length path == 0) → end ≡ end_of (walk table t (map name_view path)) → end ≡ end_of (walk_fields table t (map name_view path))
 some-fields table t [] end e h = absurd cc
 some-fields table t (n ∷ path) end e h = h

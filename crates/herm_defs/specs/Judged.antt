@@ -4,23 +4,13 @@ use Rattle.herm_base.specs.declared.word.Name.{Name}
 use Rattle.herm_syntax.specs.declared.definitions.DefItem.{DefItem}
 use Rattle.herm_meaning.specs.Names.{NamedTable}
 use Rattle.herm_meaning.specs.Marks.{Mark, Role, Place, places_in, places_by}
-use Rattle.herm_meaning.specs.Faults.{Code, unknown, twice, cycle, deep, bad_key, bad_state, Fault, Holds, IsRight, IsFirst, AreFaults}
+use Rattle.herm_meaning.specs.DefinitionFaults.{unknown, twice, cycle, deep, bad_key, bad_state, Fault, Holds, IsRight, IsFirst, AreFaults}
 use Rattle.herm_graph.specs.Tells.{Tells}
 use Rattle.herm_defs.specs.declared.fault.DefCode.{DefCode}
 use Rattle.herm_defs.specs.declared.fault.DefCode.TheVariants.{Unknown, Twice, Cycle, Deep, BadKey, BadState}
 use Rattle.herm_defs.specs.declared.fault.DefFault.{DefFault}
 use Rattle.herm_defs.specs.declared.judge.CodeTests.{CodeTests}
-
-abbrev pub code_view : DefCode → Code
-code_view Unknown = unknown
-code_view Twice = twice
-code_view Cycle = cycle
-code_view Deep = deep
-code_view BadKey = bad_key
-code_view BadState = bad_state
-
-abbrev pub fault_view : DefFault → Fault
-fault_view f = record { code = code_view f.code; module' = f.module; span = f.span }
+use Rattle.herm_defs.specs.View.{def_code_view, def_fault_view}
 
 -- a name in its role
 abbrev pub marked : Name → Role → Mark
@@ -39,7 +29,7 @@ module _ (table : NamedTable) where
   -- it is the first code that holds at a name, or none holds
   abbrev pub IsCodeAt : Mark → Option DefCode → Type 0
   IsCodeAt m None = IsRight table (0, m)
-  IsCodeAt m (Some c) = IsFirst table (code_view c) (0, m)
+  IsCodeAt m (Some c) = IsFirst table (def_code_view c) (0, m)
 
 -- the first code of which the test holds
 abbrev pub first_code : CodeTests → Option DefCode
@@ -49,14 +39,14 @@ first_code t =
 -- a fault of a module at a name, where there is a code
 abbrev pub faults_by : ℕ → Name → Option DefCode → List Fault
 faults_by module' name None = []
-faults_by module' name (Some c) = record { code = code_view c; module' = module'; span = name.span } ∷ []
+faults_by module' name (Some c) = record { code = def_code_view c; module' = module'; span = name.span } ∷ []
 
 -- the faults of these names of a module were appended
 abbrev pub Judges : NamedTable → ℕ → List Mark → List DefFault → List DefFault → Type 0
-Judges table module' marks old new = (more : List Fault) × (map fault_view new ≡ map fault_view old ++ more) × AreFaults table (places_in module' marks) more
+Judges table module' marks old new = (more : List Fault) × (map def_fault_view new ≡ map def_fault_view old ++ more) × AreFaults table (places_in module' marks) more
 
 -- The faults of an item were appended, where the next type and the next exception have these numbers, and behind it those.
 abbrev pub JudgesItem : NamedTable → ℕ → DefItem → ℕ → ℕ → ℕ × ℕ → List DefFault → List DefFault → Type 0
 JudgesItem table module' item t e next old new =
-    (more : List Fault) × (map fault_view new ≡ map fault_view old ++ more)
+    (more : List Fault) × (map def_fault_view new ≡ map def_fault_view old ++ more)
     × ((behind : ℕ → ℕ → List Place) (rest : List Fault) → AreFaults table (behind next.0 next.1) rest → AreFaults table (places_by module' item.name item.form t e behind) (more ++ rest))

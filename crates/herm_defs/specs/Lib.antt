@@ -6,6 +6,7 @@ pub mod Kept
 pub mod Steps
 pub mod Known
 pub mod Judged
+pub mod View
 pub mod Plain
 pub mod PlainFacts
 pub mod Refused

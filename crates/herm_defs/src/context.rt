@@ -7,7 +7,7 @@ ghost use Rattle.herm_types.specs.View.{shape_view, parts_view};
 ghost use Rattle.herm_types.specs.Table.{says, shapes_view};
 ghost use Rattle.herm_meaning.specs.Walks.{place_of, parts_of};
 ghost use Rattle.herm_meaning.specs.Meaning.{type_names, exception_names, outline};
-ghost use Rattle.herm_meaning.specs.Faults.{number_of, IsJudged, IsSettled, MeetsNoUnknown, MeetsNoCycle};
+ghost use Rattle.herm_meaning.specs.DefinitionFaults.{number_of, IsJudged, IsSettled, MeetsNoUnknown, MeetsNoCycle};
 ghost use Rattle.herm_graph.specs.Tells.{Tells};
 ghost use Rattle.herm_graph.specs.Depth.{IsBeyond};
 ghost use Rattle.herm_defs.specs.Seen.{item_seen};
@@ -38,9 +38,10 @@ impl Model for Context {
 
     ghost Value = { NamedTable };
 
-    ghost use Rattle.herm_defs.specs.Known.{known_view, IsKnown};
+    ghost use Rattle.herm_defs.specs.View.{context_view};
+    ghost use Rattle.herm_defs.specs.Known.{IsKnown};
 
-    ghost view = { known_view };
+    ghost view = { context_view };
 
     ghost invariant = { IsKnown };
 }

@@ -2,10 +2,10 @@
 ghost use Rattle.std.specs.Prelude.{◌≡◌, ◌<◌, ◌^◌, [], IfOk, IfErr, map, length};
 ghost use Rattle.herm_meaning.specs.Items.{items_of};
 ghost use Rattle.herm_meaning.specs.Meaning.{meaning};
-ghost use Rattle.herm_meaning.specs.Faults.{AreFaultsOf};
+ghost use Rattle.herm_meaning.specs.DefinitionFaults.{AreFaultsOf};
 ghost use Rattle.herm_defs.specs.Seen.{item_seen};
 ghost use Rattle.herm_defs.specs.Few.{AreFew};
-ghost use Rattle.herm_defs.specs.Judged.{fault_view};
+ghost use Rattle.herm_defs.specs.View.{def_fault_view};
 ghost use Rattle.herm_defs.specs.Refused.{IfRefused, HasFaults};
 
 use crate::fault::DefFault;
@@ -43,7 +43,7 @@ fn table_or_faults(
     items: &[(u32, &DefItem)],
     faults: Vec<DefFault>,
 ) -> Result<TypeTable, DefsFault>
-    requires faults { AreFaultsOf (map item_seen items.now) (map fault_view faults.items) }
+    requires faults { AreFaultsOf (map item_seen items.now) (map def_fault_view faults.items) }
     requires few { AreFew (map item_seen items.now) }
     requires items { length items.now < 2 ^ 31 }
     ensures table { IfOk result (λ t. t ≡ meaning (map item_seen items.now)) }

@@ -2,10 +2,10 @@
 ghost use Rattle.std.specs.Prelude.{◌≡◌, ◌++◌, [], ◌∷◌, true, IfOk, OnOk, map, slice_get};
 ghost use Rattle.herm_model.specs.Lists.{map_or};
 ghost use Rattle.herm_model.specs.WellFormedTables.{field_type};
-ghost use Rattle.herm_syntax.specs.Views.{letters, fact_of};
+ghost use Rattle.herm_syntax.specs.View.{name_view, dfact_view};
 ghost use Rattle.herm_types.specs.View.{shape_view};
 ghost use Rattle.herm_meaning.specs.Walks as model;
-ghost use Rattle.herm_meaning.specs.Faults.{HasBadFacts};
+ghost use Rattle.herm_meaning.specs.DefinitionFaults.{HasBadFacts};
 ghost use Rattle.herm_graph.specs.Tells.{Tells};
 ghost use Rattle.herm_defs.specs.declared.facts.Walked.TheVariants.{Ended, Left};
 ghost use Rattle.herm_defs.specs.Plain.{passes};
@@ -53,7 +53,7 @@ fn step(context: &Context, t: usize, name: &Name) -> Walked
 
 /// Where names of fields lead from a type.
 fn walk(context: &Context, message: usize, names: &[Name]) -> Walked
-    ensures { result ≡ walked_as (model.walk context.now message (map letters names.now)) }
+    ensures { result ≡ walked_as (model.walk context.now message (map name_view names.now)) }
 {
     let mut t = message;
     for name in names {
@@ -68,7 +68,7 @@ fn walk(context: &Context, message: usize, names: &[Name]) -> Walked
 
 /// Whether a path leaves the fields of a message.
 fn leaves_fields(context: &Context, message: usize, path: &[Name]) -> bool
-    ensures { result ≡ has_left (walked_as (model.walk context.now message (map letters path.now))) }
+    ensures { result ≡ has_left (walked_as (model.walk context.now message (map name_view path.now))) }
 {
     match walk(context, message, path) {
         Walked::Ended(_) => false,
@@ -107,7 +107,7 @@ fn is_there(context: &Context, t: usize) -> bool
 
 /// Whether the fact at a place is a case of another component.
 fn is_other(facts: &[DFact], place: usize, component: &Name) -> bool
-    ensures { result ≡ differs component.now.text (slice_get (map fact_of facts.now) place) }
+    ensures { result ≡ differs component.now.text (slice_get (map dfact_view facts.now) place) }
 {
     match facts.get(place) {
         Some(DFact::Case(_, other)) => component.text.bytes() != other.text.bytes(),
@@ -145,7 +145,7 @@ fn push_name(bytes: &mut Vec<u8>, name: &Name) -> Result<(), AllocError>
 
 /// A word by which a path is told from all others.
 fn path_key(alloc: Global, path: &[Name]) -> Result<Word, AllocError>
-    ensures { IfOk result (λ w. w ≡ path_key (map letters path.now)) }
+    ensures { IfOk result (λ w. w ≡ path_key (map name_view path.now)) }
 {
     let mut bytes = Vec::new(alloc);
     for name in path {
@@ -164,7 +164,7 @@ fn no_path(alloc: Global) -> Result<Word, AllocError>
 
 /// The word of a case's path, and one that is no path's for other facts.
 fn fact_key(alloc: Global, fact: &DFact) -> Result<Word, AllocError>
-    ensures { IfOk result (λ w. w ≡ fact_key (fact_of fact.now)) }
+    ensures { IfOk result (λ w. w ≡ fact_key (dfact_view fact.now)) }
 {
     match fact {
         DFact::Init(_) => no_path(alloc),
@@ -175,7 +175,7 @@ fn fact_key(alloc: Global, fact: &DFact) -> Result<Word, AllocError>
 
 /// The words of facts, found by their bytes.
 fn fact_keys(alloc: Global, facts: &[DFact]) -> Result<Names, AllocError>
-    ensures { IfOk result (λ keys. keys ≡ map fact_key (map fact_of facts.now)) }
+    ensures { IfOk result (λ keys. keys ≡ map fact_key (map dfact_view facts.now)) }
 {
     let mut words = Vec::with_capacity(alloc, facts.len())?;
     for fact in facts {
@@ -196,8 +196,8 @@ fn is_bad_case(
     path: &[Name],
     component: &Name,
 ) -> Result<bool, AllocError>
-    requires keys { keys.now ≡ map fact_key (map fact_of facts.now) }
-    ensures { IfOk result (λ b. b ≡ case_test context.now component.now.text (differs component.now.text (slice_get (map fact_of facts.now) (model.place_of (map fact_key (map fact_of facts.now)) (path_key (map letters path.now))))) (walked_as (model.walk context.now message (map letters path.now)))) }
+    requires keys { keys.now ≡ map fact_key (map dfact_view facts.now) }
+    ensures { IfOk result (λ b. b ≡ case_test context.now component.now.text (differs component.now.text (slice_get (map dfact_view facts.now) (model.place_of (map fact_key (map dfact_view facts.now)) (path_key (map name_view path.now))))) (walked_as (model.walk context.now message (map name_view path.now)))) }
 {
     let key = path_key(alloc, path)?;
     let is_other = is_other(facts, keys.place(key.bytes()), component);
@@ -213,8 +213,8 @@ fn is_bad_fact(
     keys: &Names,
     fact: &DFact,
 ) -> Result<bool, AllocError>
-    requires keys { keys.now ≡ map fact_key (map fact_of facts.now) }
-    ensures { IfOk result (λ b. b ≡ bad_fact context.now message (map fact_of facts.now) (fact_of fact.now)) }
+    requires keys { keys.now ≡ map fact_key (map dfact_view facts.now) }
+    ensures { IfOk result (λ b. b ≡ bad_fact context.now message (map dfact_view facts.now) (dfact_view fact.now)) }
 {
     match fact {
         DFact::Init(path) => Ok(leaves_fields(context, message, path.as_slice())),
@@ -241,7 +241,7 @@ fn any_bad_fact(
     message: usize,
     facts: &[DFact],
 ) -> Result<bool, AllocError>
-    ensures { IfOk result (λ b. b ≡ has_bad_fact context.now message (map fact_of facts.now)) }
+    ensures { IfOk result (λ b. b ≡ has_bad_fact context.now message (map dfact_view facts.now)) }
 {
     let keys = fact_keys(alloc, facts)?;
     let mut any = false;
@@ -259,7 +259,7 @@ pub fn bad_facts(
     message: usize,
     facts: &[DFact],
 ) -> Result<bool, AllocError>
-    ensures { IfOk result (λ b. Tells b (HasBadFacts context.now message (map fact_of facts.now))) }
+    ensures { IfOk result (λ b. Tells b (HasBadFacts context.now message (map dfact_view facts.now))) }
 {
     if facts.is_empty() {
         return Ok(false);

@@ -2,7 +2,7 @@
 ghost use Rattle.std.specs.Prelude.{◌≡◌, ◌<◌, ◌^◌, IfOk, map, length, option_map};
 ghost use Rattle.std.specs.Str.{bytes_eq};
 ghost use Rattle.std.specs.List.{position};
-ghost use Rattle.herm_syntax.specs.Views.{letters};
+ghost use Rattle.herm_syntax.specs.View.{name_view};
 ghost use Rattle.herm_types.specs.View.{shape_view, parts_view};
 ghost use Rattle.herm_meaning.specs.Walks.{place_of, walk, walk_fields};
 ghost use Rattle.herm_defs.specs.Steps.{end_of, field_at, step_from, part_seen};
@@ -102,7 +102,7 @@ fn walk(
     from: TypeNo,
     path: &[Name],
 ) -> Result<Option<(Vec<u32>, TypeNo)>, AllocError>
-    ensures { IfOk result (λ e. option_map (λ e. (e.0.items, e.1.0)) e ≡ end_of (walk table.now from.0 (map letters path.now))) }
+    ensures { IfOk result (λ e. option_map (λ e. (e.0.items, e.1.0)) e ≡ end_of (walk table.now from.0 (map name_view path.now))) }
 {
     let mut places = Vec::new(alloc);
     let mut t = from;
@@ -125,7 +125,7 @@ pub fn walk_fields(
     from: TypeNo,
     path: &[Name],
 ) -> Result<Option<(Vec<u32>, TypeNo)>, AllocError>
-    ensures { IfOk result (λ e. option_map (λ e. (e.0.items, e.1.0)) e ≡ end_of (walk_fields table.now from.0 (map letters path.now))) }
+    ensures { IfOk result (λ e. option_map (λ e. (e.0.items, e.1.0)) e ≡ end_of (walk_fields table.now from.0 (map name_view path.now))) }
 {
     if path.is_empty() {
         return Ok(None);

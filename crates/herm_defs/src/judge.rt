@@ -4,10 +4,10 @@ ghost use Rattle.herm_model.specs.Paths.{Fact};
 ghost use Rattle.herm_model.specs.Types as types;
 ghost use Rattle.herm_model.specs.Copyable.{IsCopyable};
 ghost use Rattle.herm_model.specs.TypedExpressions.{HasShape, is_scalar_shape};
-ghost use Rattle.herm_syntax.specs.Views.{shape_of, fact_of};
+ghost use Rattle.herm_syntax.specs.View.{shape_form_view, dfact_view};
 ghost use Rattle.herm_types.specs.View.{shape_view};
 ghost use Rattle.herm_meaning.specs.Marks.{a_type, an_exception, a_part, an_input, a_content, a_row, a_key, a_port, a_raised, a_kept};
-ghost use Rattle.herm_meaning.specs.Faults.{IsJudged, IsSettled, IsNoRecord, IsNoKey, HasBadFacts, HasBadShape};
+ghost use Rattle.herm_meaning.specs.DefinitionFaults.{IsJudged, IsSettled, IsNoRecord, IsNoKey, HasBadFacts, HasBadShape};
 ghost use Rattle.herm_graph.specs.Tells.{Tells};
 ghost use Rattle.herm_defs.specs.Judged.{IsCodeAt, marked, first_code};
 ghost use Rattle.herm_defs.specs.Plain.{is_record, is_inport, passes, no_key};
@@ -210,7 +210,7 @@ fn is_bad_inport(
     t: usize,
     facts: &[DFact],
 ) -> Result<bool, AllocError>
-    ensures { IfOk result (λ b. Tells b (IsJudged context.now t × HasBadFacts context.now t (map fact_of facts.now))) }
+    ensures { IfOk result (λ b. Tells b (IsJudged context.now t × HasBadFacts context.now t (map dfact_view facts.now))) }
 {
     if !context.is_judged(t) {
         return Ok(false);
@@ -221,7 +221,7 @@ fn is_bad_inport(
 
 /// Whether a shape declares facts or keeps parameters badly.
 fn is_bad_shape(alloc: Global, context: &Context, shape: &ShapeForm) -> Result<bool, AllocError>
-    ensures { IfOk result (λ b. Tells b (HasBadShape context.now (shape_of shape.now))) }
+    ensures { IfOk result (λ b. Tells b (HasBadShape context.now (shape_form_view shape.now))) }
 {
     match shape {
         ShapeForm::Inport { message, facts } => {
@@ -330,7 +330,7 @@ pub fn type_code(
     name: &Name,
     shape: &ShapeForm,
 ) -> Result<Option<DefCode>, AllocError>
-    ensures { IfOk result (λ code. IsCodeAt context.now (marked name.now (a_type number (shape_of shape.now))) code) }
+    ensures { IfOk result (λ code. IsCodeAt context.now (marked name.now (a_type number (shape_form_view shape.now))) code) }
 {
     let bad_state = is_bad_shape(alloc, context, shape)?;
     Ok(first(CodeTests {

@@ -20,8 +20,8 @@ mod table;
 
 ghost use Rattle.std.specs.Prelude.{IfOk, map};
 ghost use Rattle.herm_meaning.specs.Items.{items_of};
-ghost use Rattle.herm_meaning.specs.Faults.{AreFaultsOf};
-ghost use Rattle.herm_defs.specs.Judged.{fault_view};
+ghost use Rattle.herm_meaning.specs.DefinitionFaults.{AreFaultsOf};
+ghost use Rattle.herm_defs.specs.View.{def_fault_view};
 
 pub use definitions::{DefsFault, define};
 pub use fault::{DefCode, DefFault};
@@ -34,7 +34,7 @@ use std::alloc::{AllocError, Global};
 /// The faults of definitions modules, in the order of the text: at each name at most one, the first that holds there. Only
 /// memory can be wanting; that is also the answer where there are 2^31 modules, items or parts of one list.
 pub fn definition_faults(alloc: Global, modules: &[Module]) -> Result<Vec<DefFault>, AllocError>
-    ensures faults { IfOk result (λ v. AreFaultsOf (items_of modules.now) (map fault_view v.items)) }
+    ensures faults { IfOk result (λ v. AreFaultsOf (items_of modules.now) (map def_fault_view v.items)) }
 {
     if modules.len() >= TOO_MANY {
         return Err(AllocError);

@@ -1,6 +1,6 @@
 //! Names of lists, found by their bytes.
 ghost use Rattle.std.specs.Prelude.{◌≡◌, IfOk, map};
-ghost use Rattle.herm_syntax.specs.Views.{letters, param_of};
+ghost use Rattle.herm_syntax.specs.View.{name_view, param_form_view};
 
 use crate::names::Names;
 use herm_base::Name;
@@ -8,7 +8,7 @@ use herm_syntax::{Field, ParamForm, RaiseForm};
 use std::alloc::{AllocError, Global};
 
 pub fn names_of(alloc: Global, list: &[Name]) -> Result<Names, AllocError>
-    ensures { IfOk result (λ n. n ≡ map letters list.now) }
+    ensures { IfOk result (λ n. n ≡ map name_view list.now) }
 {
     let mut words = Vec::with_capacity(alloc, list.len())?;
     for name in list {
@@ -32,7 +32,7 @@ pub fn field_names(alloc: Global, fields: &[Field]) -> Result<Names, AllocError>
 }
 
 pub fn param_names(alloc: Global, params: &[ParamForm]) -> Result<Names, AllocError>
-    ensures { IfOk result (λ n. n ≡ map (λ p. p.1.0) (map param_of params.now)) }
+    ensures { IfOk result (λ n. n ≡ map (λ p. p.1.0) (map param_form_view params.now)) }
 {
     let mut words = Vec::with_capacity(alloc, params.len())?;
     for param in params {

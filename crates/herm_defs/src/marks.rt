@@ -1,12 +1,12 @@
 //! The names of definitions are gone through in the order of the text.
 ghost use Rattle.std.specs.Prelude.{◌≡◌, ◌<◌, ◌≤◌, ◌+◌, ◌^◌, ◌++◌, [], ◌∷◌, IfOk, OnOk, length, map, take};
-ghost use Rattle.herm_syntax.specs.Views.{letters};
+ghost use Rattle.herm_syntax.specs.View.{name_view, shape_form_view};
 ghost use Rattle.herm_meaning.specs.Marks.{Role, in_turn, mark, part_marks, field_marks, key_marks, param_marks, kept_marks, raise_marks, shape_marks, parameter_role, a_content, a_type, an_exception, a_row, a_port};
-ghost use Rattle.herm_syntax.specs.Views.{shape_of};
 ghost use Rattle.herm_defs.specs.Seen.{item_seen};
 ghost use Rattle.herm_defs.specs.Few.{AreFew};
-ghost use Rattle.herm_defs.specs.Judged.{fault_view, faults_by, marked, IsCodeAt, Judges, JudgesItem};
-ghost use Rattle.herm_meaning.specs.Faults.{AreFaultsOf};
+ghost use Rattle.herm_defs.specs.View.{def_fault_view};
+ghost use Rattle.herm_defs.specs.Judged.{faults_by, marked, IsCodeAt, Judges, JudgesItem};
+ghost use Rattle.herm_meaning.specs.DefinitionFaults.{AreFaultsOf};
 
 use crate::context::Context;
 use crate::fault::{DefCode, DefFault};
@@ -27,7 +27,7 @@ fn push(
     name: &Name,
     code: Option<DefCode>,
 ) -> Result<(), AllocError>
-    ensures { OnOk result (map fault_view faults.new.items ≡ map fault_view faults.old.items ++ faults_by module_number name.now code) }
+    ensures { OnOk result (map def_fault_view faults.new.items ≡ map def_fault_view faults.old.items ++ faults_by module_number name.now code) }
 {
     match code {
         Some(code) => {
@@ -171,7 +171,7 @@ fn judge_parts(
     names: &Names,
     list: &[Name],
 ) -> Result<(), AllocError>
-    requires names { names.now ≡ map letters list.now }
+    requires names { names.now ≡ map name_view list.now }
     ensures part { OnOk result (Judges context.now module_number (in_turn (λ n. n.text) part_marks [] list.now) faults.old.items faults.new.items) }
     ensures kept { OnOk result (Judges context.now module_number (in_turn (λ n. n.text) kept_marks [] list.now) faults.old.items faults.new.items) }
 {
@@ -371,7 +371,7 @@ fn judge_type(
     name: &Name,
     shape: &ShapeForm,
 ) -> Result<(), AllocError>
-    ensures { OnOk result (Judges context.now module_number (mark name.now (a_type number (shape_of shape.now)) ++ shape_marks shape.now) faults.old.items faults.new.items) }
+    ensures { OnOk result (Judges context.now module_number (mark name.now (a_type number (shape_form_view shape.now)) ++ shape_marks shape.now) faults.old.items faults.new.items) }
 {
     let code = type_code(alloc, context, number, name, shape)?;
     push(faults, module_number, name, code)?;
@@ -434,7 +434,7 @@ const FIRST_EXCEPTION: usize = 7;
 pub fn faults_of(alloc: Global, items: &[(u32, &DefItem)]) -> Result<Vec<DefFault>, AllocError>
     requires few { AreFew (map item_seen items.now) }
     requires items { length items.now < 2 ^ 31 }
-    ensures { IfOk result (λ v. AreFaultsOf (map item_seen items.now) (map fault_view v.items)) }
+    ensures { IfOk result (λ v. AreFaultsOf (map item_seen items.now) (map def_fault_view v.items)) }
 {
     let context = Context::of(alloc, items)?;
     let mut faults = Vec::new(alloc);

@@ -2,11 +2,11 @@
 ghost use Rattle.std.specs.Prelude.{◌≡◌, ◌<◌, ◌^◌, ◌++◌, [], ◌∷◌, cond, IfOk, OnOk, map, length};
 ghost use Rattle.std.specs.List.{list_any};
 ghost use Rattle.std.specs.Str.{bytes_eq};
-ghost use Rattle.herm_syntax.specs.Views.{letters, field_of, param_of, raising_of, shape_of};
-ghost use Rattle.herm_types.specs.View.{mode_view, param_view, raise_view, shape_view, parts_view};
+ghost use Rattle.herm_syntax.specs.View.{name_view, field_view, param_form_view, raise_form_view, shape_form_view};
+ghost use Rattle.herm_types.specs.View.{mode_view, param_view, raise_decl_view, shape_view, parts_view};
 ghost use Rattle.herm_meaning.specs.Walks.{place_of};
 ghost use Rattle.herm_meaning.specs.Meaning.{mode_meant, parameter_meant, raising_meant, kept_places, numbered_shape, part_names};
-ghost use Rattle.herm_syntax.specs.Views as views;
+ghost use Rattle.herm_syntax.specs.View as views;
 ghost use Rattle.herm_defs.specs.Few.{part_total};
 
 use crate::names::Names;
@@ -17,13 +17,13 @@ use std::alloc::{AllocError, Global};
 
 fn number_of(names: &Names, name: &Name) -> TypeNo
     requires { length names.now < 2 ^ 32 }
-    ensures { result.0 ≡ place_of names.now (letters name.now) }
+    ensures { result.0 ≡ place_of names.now (name_view name.now) }
 {
     TypeNo(names.number(name.text.bytes()))
 }
 
 fn words_of(alloc: Global, names: &[Name]) -> Result<Vec<Word>, AllocError>
-    ensures { IfOk result (λ v. v.items ≡ map letters names.now) }
+    ensures { IfOk result (λ v. v.items ≡ map name_view names.now) }
 {
     let mut words = Vec::new(alloc);
     for name in names {
@@ -35,8 +35,8 @@ fn words_of(alloc: Global, names: &[Name]) -> Result<Vec<Word>, AllocError>
 
 fn parts_of(alloc: Global, types: &Names, fields: &[Field]) -> Result<Vec<Part>, AllocError>
     requires { length types.now < 2 ^ 32 }
-    ensures types { IfOk result (λ v. map (λ p. p.of.0) v.items ≡ map (λ f. place_of types.now f.1) (map field_of fields.now)) }
-    ensures names { IfOk result (λ v. map (λ p. p.name) v.items ≡ map (λ f. f.0) (map field_of fields.now)) }
+    ensures types { IfOk result (λ v. map (λ p. p.of.0) v.items ≡ map (λ f. place_of types.now f.1) (map field_view fields.now)) }
+    ensures names { IfOk result (λ v. map (λ p. p.name) v.items ≡ map (λ f. f.0) (map field_view fields.now)) }
 {
     let mut parts = Vec::new(alloc);
     for field in fields {
@@ -48,7 +48,7 @@ fn parts_of(alloc: Global, types: &Names, fields: &[Field]) -> Result<Vec<Part>,
 }
 
 fn mode_of(mode: ModeForm) -> Mode
-    ensures { mode_view result ≡ mode_meant (views.mode_of mode) }
+    ensures { mode_view result ≡ mode_meant (views.mode_form_view mode) }
 {
     match mode {
         ModeForm::In => Mode::In,
@@ -59,8 +59,8 @@ fn mode_of(mode: ModeForm) -> Mode
 
 fn params_of(alloc: Global, types: &Names, params: &[ParamForm]) -> Result<Vec<Param>, AllocError>
     requires { length types.now < 2 ^ 32 }
-    ensures types { IfOk result (λ v. map param_view v.items ≡ map (parameter_meant types.now) (map param_of params.now)) }
-    ensures names { IfOk result (λ v. map (λ p. p.name) v.items ≡ map (λ p. p.1.0) (map param_of params.now)) }
+    ensures types { IfOk result (λ v. map param_view v.items ≡ map (parameter_meant types.now) (map param_form_view params.now)) }
+    ensures names { IfOk result (λ v. map (λ p. p.name) v.items ≡ map (λ p. p.1.0) (map param_form_view params.now)) }
 {
     let mut numbered = Vec::new(alloc);
     for param in params {
@@ -73,13 +73,13 @@ fn params_of(alloc: Global, types: &Names, params: &[ParamForm]) -> Result<Vec<P
 }
 
 fn any_is(names: &[Name], name: &[u8]) -> bool
-    ensures { result ≡ list_any (λ n. bytes_eq name.now (letters n)) names.now }
+    ensures { result ≡ list_any (λ n. bytes_eq name.now (name_view n)) names.now }
 {
     names.iter().any(|other| name == other.text.bytes())
 }
 
 fn is_among(names: &[Name], name: &[u8]) -> bool
-    ensures { result ≡ list_any (bytes_eq name.now) (map letters names.now) }
+    ensures { result ≡ list_any (bytes_eq name.now) (map name_view names.now) }
 {
     any_is(names, name)
 }
@@ -97,7 +97,7 @@ fn push_if(numbers: &mut Vec<u32>, test: bool, number: u32) -> Result<(), AllocE
 /// The places of the parameters that are kept, rising.
 fn kept_places(alloc: Global, params: &[ParamForm], keeps: &[Name]) -> Result<Vec<u32>, AllocError>
     requires { length params.now < 2 ^ 31 }
-    ensures { IfOk result (λ v. v.items ≡ kept_places 0 (map (λ p. p.1.0) (map param_of params.now)) (map letters keeps.now)) }
+    ensures { IfOk result (λ v. v.items ≡ kept_places 0 (map (λ p. p.1.0) (map param_form_view params.now)) (map name_view keeps.now)) }
 {
     let mut kept = Vec::new(alloc);
     if keeps.is_empty() {
@@ -119,7 +119,7 @@ fn raises_of(
 ) -> Result<Vec<RaiseDecl>, AllocError>
     requires few { length params.now < 2 ^ 31 }
     requires exceptions { length exceptions.now < 2 ^ 32 }
-    ensures { IfOk result (λ v. map raise_view v.items ≡ map (raising_meant types.now exceptions.now (map param_of params.now)) (map raising_of raises.now)) }
+    ensures { IfOk result (λ v. map raise_decl_view v.items ≡ map (raising_meant types.now exceptions.now (map param_form_view params.now)) (map raise_form_view raises.now)) }
 {
     let mut numbered = Vec::new(alloc);
     for raise in raises {
@@ -140,8 +140,8 @@ pub fn numbered_shape(
     requires few { part_total shape.now < 2 ^ 31 }
     requires types { length types.now < 2 ^ 32 }
     requires exceptions { length exceptions.now < 2 ^ 32 }
-    ensures shape { IfOk result (λ s. shape_view s ≡ numbered_shape types.now exceptions.now (shape_of shape.now)) }
-    ensures parts { IfOk result (λ s. parts_view s ≡ part_names (shape_of shape.now)) }
+    ensures shape { IfOk result (λ s. shape_view s ≡ numbered_shape types.now exceptions.now (shape_form_view shape.now)) }
+    ensures parts { IfOk result (λ s. parts_view s ≡ part_names (shape_form_view shape.now)) }
 {
     match shape {
         ShapeForm::Names(values) => {

@@ -1,6 +1,6 @@
 //! Keys and declared facts are looked up in the outline of definitions.
 ghost use Rattle.std.specs.Prelude.{◌≡◌, ◌<◌, ◌^◌, ◌++◌, [], ◌∷◌, IfOk, OnOk, map, flat_map, length};
-ghost use Rattle.herm_syntax.specs.Views.{letters, fact_of, shape_of};
+ghost use Rattle.herm_syntax.specs.View.{name_view, dfact_view, shape_form_view};
 ghost use Rattle.herm_types.specs.View.{fact_view, shape_view, parts_view};
 ghost use Rattle.herm_meaning.specs.Walks.{place_of, parts_of};
 ghost use Rattle.herm_meaning.specs.Meaning.{fact_meant, meant_shape, part_names};
@@ -35,7 +35,7 @@ fn keys_of(
     row: TypeNo,
     keys: &[Name],
 ) -> Result<Vec<u32>, AllocError>
-    ensures { IfOk result (λ v. v.items ≡ map (place_of (parts_of table.now row.0)) (map letters keys.now)) }
+    ensures { IfOk result (λ v. v.items ≡ map (place_of (parts_of table.now row.0)) (map name_view keys.now)) }
 {
     let mut places = Vec::with_capacity(alloc, keys.len())?;
     for key in keys {
@@ -52,7 +52,7 @@ fn push_init(
     path: &[Name],
     facts: &mut Vec<Fact>,
 ) -> Result<(), AllocError>
-    ensures { OnOk result (map fact_view facts.new.items ≡ map fact_view facts.old.items ++ init_meant table.now message.0 (map letters path.now)) }
+    ensures { OnOk result (map fact_view facts.new.items ≡ map fact_view facts.old.items ++ init_meant table.now message.0 (map name_view path.now)) }
 {
     match walk_fields(alloc, table, message, path)? {
         Some((parts, _)) => {
@@ -103,7 +103,7 @@ fn push_full(
     path: &[Name],
     facts: &mut Vec<Fact>,
 ) -> Result<(), AllocError>
-    ensures { OnOk result (map fact_view facts.new.items ≡ map fact_view facts.old.items ++ full_meant table.now message.0 (map letters path.now)) }
+    ensures { OnOk result (map fact_view facts.new.items ≡ map fact_view facts.old.items ++ full_meant table.now message.0 (map name_view path.now)) }
 {
     match walk_fields(alloc, table, message, path)? {
         Some((parts, t)) => {
@@ -124,7 +124,7 @@ fn push_case(
     component: &Name,
     facts: &mut Vec<Fact>,
 ) -> Result<(), AllocError>
-    ensures { OnOk result (map fact_view facts.new.items ≡ map fact_view facts.old.items ++ case_meant table.now message.0 (map letters path.now) (letters component.now)) }
+    ensures { OnOk result (map fact_view facts.new.items ≡ map fact_view facts.old.items ++ case_meant table.now message.0 (map name_view path.now) (name_view component.now)) }
 {
     match walk_fields(alloc, table, message, path)? {
         Some((parts, t)) => {
@@ -145,7 +145,7 @@ fn push_fact(
     fact: &DFact,
     facts: &mut Vec<Fact>,
 ) -> Result<(), AllocError>
-    ensures { OnOk result (map fact_view facts.new.items ≡ map fact_view facts.old.items ++ fact_meant table.now message.0 (fact_of fact.now)) }
+    ensures { OnOk result (map fact_view facts.new.items ≡ map fact_view facts.old.items ++ fact_meant table.now message.0 (dfact_view fact.now)) }
 {
     match fact {
         DFact::Init(path) => {
@@ -170,7 +170,7 @@ fn facts_of(
     message: TypeNo,
     list: &[DFact],
 ) -> Result<Vec<Fact>, AllocError>
-    ensures { IfOk result (λ v. map fact_view v.items ≡ flat_map (fact_meant table.now message.0) (map fact_of list.now)) }
+    ensures { IfOk result (λ v. map fact_view v.items ≡ flat_map (fact_meant table.now message.0) (map dfact_view list.now)) }
 {
     let mut facts = Vec::new(alloc);
     for fact in list {
@@ -192,8 +192,8 @@ pub fn read_shape(
     requires few_exceptions { length exceptions.now < 2 ^ 32 }
     requires types { types.now ≡ table.now.names }
     requires exceptions { exceptions.now ≡ table.now.exceptions }
-    ensures shape { IfOk result (λ s. shape_view s ≡ meant_shape table.now (shape_of form.now)) }
-    ensures parts { IfOk result (λ s. parts_view s ≡ part_names (shape_of form.now)) }
+    ensures shape { IfOk result (λ s. shape_view s ≡ meant_shape table.now (shape_form_view form.now)) }
+    ensures parts { IfOk result (λ s. parts_view s ≡ part_names (shape_form_view form.now)) }
 {
     match form {
         ShapeForm::Rows { row, keys } => {

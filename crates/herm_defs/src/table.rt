@@ -3,7 +3,7 @@ ghost use Rattle.std.specs.Prelude.{◌≡◌, ◌<◌, ◌^◌, ◌++◌, [], I
 ghost use Rattle.herm_types.specs.View.{shape_view, parts_view};
 ghost use Rattle.herm_meaning.specs.Items.{types_in, exceptions_in, types_by, exceptions_by};
 ghost use Rattle.herm_meaning.specs.Meaning.{type_names, exception_names, part_names, numbered_shape, meant_shape, outline, meaning};
-ghost use Rattle.herm_meaning.specs.Faults.{AreFaultsOf};
+ghost use Rattle.herm_meaning.specs.DefinitionFaults.{AreFaultsOf};
 ghost use Rattle.herm_defs.specs.Seen.{item_seen};
 ghost use Rattle.herm_defs.specs.Few.{AreFew, form_total};
 

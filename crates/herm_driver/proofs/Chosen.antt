@@ -1,7 +1,8 @@
 -- What is due to the words, from what a shelf answers.
 use Rattle.std.proofs.Common.{◌≡◌, ◌≤◌, ◌⊎◌, inl, inr, ℕ, List, [], ◌∷◌, ◌++◌, Option, Some, None, length, take, refl, ap, subst, IfSome, MatchOption, option_map, arith}
 use Rattle.herm_edge.specs.Faults.{Rose}
-use Rattle.herm_edge.specs.Shelf.{File, Load, FileAnswer, given, not_there, not_read, no_memory, answer_of, IfHere, file_at}
+use Rattle.herm_edge.specs.Shelf.{File, Load, FileAnswer, given, not_there, not_read, no_memory, IfHere, file_at}
+use Rattle.herm_edge.specs.View.{loaded_view}
 use Rattle.herm_edge.specs.declared.shelf.Loaded.{Loaded}
 use Rattle.herm_edge.specs.declared.shelf.Loaded.TheVariants.{Here, Missing, Failed, Memory}
 use Rattle.herm_driver.specs.Loads.{load_limit, load_of, CountsFaults, IsTold, AreTold, FirstAreLoaded}
@@ -49,7 +50,7 @@ due-failed loads faults contents before after name status text report loaded ros
 
 -- a file was loaded, whatever was answered
 first-answered : {S : Type 0} (loads : S → Load → S → Type 0) (name : List ℕ) (loaded : Loaded) (before after : S) →
-    loads before (load_of name (answer_of loaded)) after → IfHere loaded (λ bytes. length bytes ≤ load_limit) → FirstAreLoaded loads (name ∷ []) before after
+    loads before (load_of name (loaded_view loaded)) after → IfHere loaded (λ bytes. length bytes ≤ load_limit) → FirstAreLoaded loads (name ∷ []) before after
 first-answered loads name (Here bytes) before after asked within = record { count = 1; answers = given bytes.items ∷ []; loaded = (after, asked, within, refl) }
 first-answered loads name Missing before after asked within = record { count = 1; answers = not_there ∷ []; loaded = (asked, refl) }
 first-answered loads name Failed before after asked within = record { count = 1; answers = not_read ∷ []; loaded = (asked, refl) }
@@ -57,11 +58,11 @@ first-answered loads name Memory before after asked within = record { count = 1;
 
 pub first-loaded : {S : Type 0} (loads : S → Load → S → Type 0) (name : List ℕ) (limit : ℕ) (loaded : Loaded) (before after : S) →
     limit ≡ load_limit →
-    loads before (record { name = name; limit = limit; answer = answer_of loaded }) after →
+    loads before (record { name = name; limit = limit; answer = loaded_view loaded }) after →
     IfHere loaded (λ bytes. length bytes ≤ limit) →
     FirstAreLoaded loads (name ∷ []) before after
 first-loaded {S} loads name limit loaded before after e asked within =
-    let P : ℕ → Type 0 = λ n. loads before (record { name = name; limit = n; answer = answer_of loaded }) after in
+    let P : ℕ → Type 0 = λ n. loads before (record { name = name; limit = n; answer = loaded_view loaded }) after in
     let Q : ℕ → Type 0 = λ n. IfHere loaded (λ bytes. length bytes ≤ n) in
     first-answered loads name loaded before after (subst P e asked) (subst Q e within)
 

@@ -16,7 +16,7 @@ use Rattle.herm_model.specs.Types.{predefined}
 use Rattle.herm_model.specs.Refusals.{IsAccepted}
 use Rattle.herm_world.specs.Lines.{sent}
 use Rattle.herm_world.specs.StraightRuns.{IsReported}
-use Rattle.herm_world.specs.ReportView.{report_as}
+use Rattle.herm_world.specs.View.{report_view}
 use Rattle.herm_world.specs.declared.report.Report.{Report}
 use Rattle.herm_driver.specs.Words.{named_file, named_files}
 use Rattle.herm_driver.specs.Loads.{load_limit, AreLoaded, CountsFaults, AreTold}
@@ -26,7 +26,7 @@ use Rattle.herm_driver.specs.RefusalLines.{refusals_text}
 -- the report, with the status and the text, is that of a run of these lines in the source machine
 abbrev pub IsReportOf : ℕ → List Line → ℕ → List ℕ → Option Report → Type 0
 IsReportOf count lines status text None = ⊥
-IsReportOf count lines status text (Some report) = IsReported count lines [] (report_as report status text)
+IsReportOf count lines status text (Some report) = IsReported count lines [] (report_view report status text)
 
 -- The bytes have trees, their definitions have no fault, and they are an accepted program, whose run is reported, with the status
 -- and the text: the status is 0, and the text has a line for each string that is sent.

@@ -1,7 +1,8 @@
 //! The answer of a call before anything is written: its status, its text and its report.
 ghost use Rattle.std.specs.Prelude.{◌≡◌, ◌≢◌, ◌≤◌, ◌⊎◌, ◌∷◌, [], IfOk, OnErr, None, IfSome, MatchOption, length, take, map, option_map, string_bytes};
 ghost use Rattle.herm_edge.specs.Faults.{Rose};
-ghost use Rattle.herm_edge.specs.Shelf.{answer_of, file_at, IfHere, OnMissing, OnFailed, UnlessFailed};
+ghost use Rattle.herm_edge.specs.View.{loaded_view};
+ghost use Rattle.herm_edge.specs.Shelf.{file_at, IfHere, OnMissing, OnFailed, UnlessFailed};
 ghost use Rattle.herm_driver.specs.Loads.{load_limit, load_of, FirstAreLoaded};
 ghost use Rattle.herm_driver.specs.Due.{IsDone, IsRefusal, IsReportOf, IsNotFound, IsUnreadable, IsDueByLoads, IsDueToWords, IsCaused, IsChosen, IsTextStatus};
 ghost use Rattle.herm_driver.specs.Words.{named_files};
@@ -99,7 +100,7 @@ fn read_fault(alloc: Global, name: &str) -> Result<Answer, AllocError>
 
 /// Loads a named file, once.
 fn load_named<F: Shelf>(name: &str, shelf: &mut F) -> Loaded
-    ensures loaded { F.loads shelf.old (load_of name.now (answer_of result)) shelf.new }
+    ensures loaded { F.loads shelf.old (load_of name.now (loaded_view result)) shelf.new }
     ensures within { IfHere result (λ bytes. length bytes ≤ load_limit) }
     ensures here { IfHere result (λ bytes. IfSome (F.contents shelf.old)
         (λ files. option_map (take load_limit) (file_at files name.now) ≡ Some bytes)) }

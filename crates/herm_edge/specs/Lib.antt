@@ -1,5 +1,6 @@
 pub mod Faults
 pub mod Shelf
+pub mod View
 pub mod Sink
 pub mod MemShelf
 pub mod MemSink

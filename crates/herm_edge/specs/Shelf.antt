@@ -29,13 +29,6 @@ abbrev pub file_at : List File → List ℕ → Option (List ℕ)
 file_at [] name = None
 file_at (file ∷ files) name = if bytes_eq file.name name then Some file.bytes else file_at files name
 
--- what a load answered, as a list of bytes
-abbrev pub answer_of : Loaded → FileAnswer
-answer_of (Here bytes) = given bytes.items
-answer_of Missing = not_there
-answer_of Failed = not_read
-answer_of Memory = no_memory
-
 -- a fact about the bytes that were loaded
 abbrev pub IfHere : Loaded → (List ℕ → Type 0) → Type 0
 IfHere (Here bytes) P = P bytes.items

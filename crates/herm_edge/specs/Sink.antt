@@ -15,14 +15,14 @@ IfTook (Took n) P = P n
 IfTook Failed P = Unit {0}
 
 -- a fact where the write failed
-abbrev pub OnFailed : Wrote → Type 0 → Type 0
-OnFailed (Took n) P = Unit {0}
-OnFailed Failed P = P
+abbrev pub OnWriteFailed : Wrote → Type 0 → Type 0
+OnWriteFailed (Took n) P = Unit {0}
+OnWriteFailed Failed P = P
 
 -- a count of faults after a write with this answer: one higher where it failed
-abbrev pub faults_after : Wrote → ℕ → ℕ
-faults_after (Took n) faults = faults
-faults_after Failed faults = next_count faults
+abbrev pub faults_after_write : Wrote → ℕ → ℕ
+faults_after_write (Took n) faults = faults
+faults_after_write Failed faults = next_count faults
 
 -- a sink over a writer: the writer, and how many faults there were
 pub record WriterState (W : Type 0) : Type 0 where

@@ -4,7 +4,8 @@ ghost use Rattle.std.specs.Io.KnownBytes.{Consumes, IsAtEnd};
 ghost use Rattle.std.specs.IoError.{error_kind};
 ghost use Rattle.herm_edge.specs.Faults.{Rose};
 ghost use Rattle.herm_edge.specs.Reader.{FailsToLoad};
-ghost use Rattle.herm_edge.specs.Shelf.{file_at, answer_of, faults_after, IfHere, OnMissing, OnFailed, UnlessFailed};
+ghost use Rattle.herm_edge.specs.Shelf.{file_at, faults_after, IfHere, OnMissing, OnFailed, UnlessFailed};
+ghost use Rattle.herm_edge.specs.View.{loaded_view};
 
 use crate::calls::next_count;
 use crate::counted::Counted;
@@ -133,7 +134,7 @@ impl<'a, R: Files + AllocGlobal> Shelf for DirShelf<'a, R> {
         ensures missing { OnMissing result (IfSome None (λ files. file_at files name.now ≡ None)) }
         ensures failed { OnFailed result (Rose self.old self.new) }
         ensures kept { UnlessFailed result (self.new ≡ self.old) }
-        ensures loaded { self.new ≡ faults_after (answer_of result) self.old }
+        ensures loaded { self.new ≡ faults_after (loaded_view result) self.old }
         ensures never_falls { self.old ≤ self.new }
     {
         let answer = load_file(self.rt, name, limit);

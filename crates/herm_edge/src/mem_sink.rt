@@ -1,7 +1,7 @@
 // A sink in memory.
 ghost use Rattle.std.specs.Prelude.{◌≡◌, ◌<◌, ◌≤◌, ◌^◌, [], Some, IfOk, length, take, vec_len, vec_capacity};
 ghost use Rattle.herm_edge.specs.Faults.{Rose};
-ghost use Rattle.herm_edge.specs.Sink.{written_after, IfTook, OnFailed};
+ghost use Rattle.herm_edge.specs.Sink.{written_after, IfTook, OnWriteFailed};
 ghost use Rattle.herm_edge.specs.MemSink.{SinkState, taken_count, write_answer, after_write};
 
 use crate::calls::{begin_call, next_count};
@@ -74,8 +74,8 @@ impl Sink for MemSink {
         ensures some { IfTook result (λ n. 1 ≤ n) }
         ensures within { IfTook result (λ n. n ≤ length bytes.now) }
         ensures grows { IfTook result (λ n. Some self.new.written ≡ written_after (Some self.old.written) (take n bytes.now)) }
-        ensures stays { OnFailed result (Some self.new.written ≡ Some self.old.written) }
-        ensures failed { OnFailed result (Rose self.old.faults self.new.faults) }
+        ensures stays { OnWriteFailed result (Some self.new.written ≡ Some self.old.written) }
+        ensures failed { OnWriteFailed result (Rose self.old.faults self.new.faults) }
         ensures kept { IfTook result (λ _. self.new.faults ≡ self.old.faults) }
         ensures never_falls { self.old.faults ≤ self.new.faults }
     {

@@ -1,7 +1,8 @@
 // Where files are read from.
 ghost use Rattle.std.specs.Prelude.{◌≡◌, ℕ, ◌≤◌, List, Option, Some, None, IfSome, length, option_map, take};
 ghost use Rattle.herm_edge.specs.Faults.{Rose};
-ghost use Rattle.herm_edge.specs.Shelf.{File, Load, answer_of, file_at, IfHere, OnMissing, OnFailed, UnlessFailed};
+ghost use Rattle.herm_edge.specs.Shelf.{File, Load, file_at, IfHere, OnMissing, OnFailed, UnlessFailed};
+ghost use Rattle.herm_edge.specs.View.{loaded_view};
 
 /// What a shelf answers when a file is asked for.
 #[derive(Debug, Drop)]
@@ -44,6 +45,6 @@ pub trait Shelf {
         ensures failed { OnFailed result (Rose (faults self.old) (faults self.new)) }
         ensures kept { UnlessFailed result (faults self.new ≡ faults self.old) }
         ensures never_falls { faults self.old ≤ faults self.new }
-        ensures loaded { loads self.old (record { name = name.now; limit = limit; answer = answer_of result }) self.new }
+        ensures loaded { loads self.old (record { name = name.now; limit = limit; answer = loaded_view result }) self.new }
         ensures same { contents self.new ≡ contents self.old };
 }

@@ -1,7 +1,7 @@
 // Where text is written to.
 ghost use Rattle.std.specs.Prelude.{◌≡◌, ℕ, ◌<◌, ◌≤◌, List, Option, length, take};
 ghost use Rattle.herm_edge.specs.Faults.{Rose};
-ghost use Rattle.herm_edge.specs.Sink.{written_after, IfTook, OnFailed};
+ghost use Rattle.herm_edge.specs.Sink.{written_after, IfTook, OnWriteFailed};
 
 /// What a sink answers when it is handed bytes.
 #[derive(Clone, Copy, Debug, PartialEq, Eq)]
@@ -31,8 +31,8 @@ pub trait Sink {
         ensures some { IfTook result (λ n. 1 ≤ n) }
         ensures within { IfTook result (λ n. n ≤ length bytes.now) }
         ensures grows { IfTook result (λ n. written self.new ≡ written_after (written self.old) (take n bytes.now)) }
-        ensures stays { OnFailed result (written self.new ≡ written self.old) }
-        ensures failed { OnFailed result (Rose (faults self.old) (faults self.new)) }
+        ensures stays { OnWriteFailed result (written self.new ≡ written self.old) }
+        ensures failed { OnWriteFailed result (Rose (faults self.old) (faults self.new)) }
         ensures kept { IfTook result (λ _. faults self.new ≡ faults self.old) }
         ensures never_falls { faults self.old ≤ faults self.new };
 }

@@ -2,7 +2,7 @@
 ghost use Rattle.std.specs.Prelude.{◌≡◌, ◌<◌, ◌≤◌, None, length, take};
 ghost use Rattle.herm_edge.specs.Faults.{Rose};
 ghost use Rattle.std.specs.Io.KnownBytes.{Appends, Keeps};
-ghost use Rattle.herm_edge.specs.Sink.{WriterState, faults_after, IfTook, OnFailed};
+ghost use Rattle.herm_edge.specs.Sink.{WriterState, faults_after_write, IfTook, OnWriteFailed};
 
 use crate::calls::next_count;
 use crate::{Sink, Wrote};
@@ -43,11 +43,11 @@ impl<W: Write> Sink for WriteSink<W> {
     fn write(&mut self, bytes: &[u8]) -> Wrote
         requires { 0 < length bytes.now }
         ensures passed { IfTook result (λ n. Appends (W.contents self.old.writer) (W.contents self.new.writer) (take n bytes.now)) }
-        ensures left { OnFailed result (Keeps (W.contents self.old.writer) (W.contents self.new.writer)) }
-        ensures count { self.new.faults ≡ faults_after result self.old.faults }
+        ensures left { OnWriteFailed result (Keeps (W.contents self.old.writer) (W.contents self.new.writer)) }
+        ensures count { self.new.faults ≡ faults_after_write result self.old.faults }
         ensures some { IfTook result (λ n. 1 ≤ n) }
         ensures within { IfTook result (λ n. n ≤ length bytes.now) }
-        ensures failed { OnFailed result (Rose self.old.faults self.new.faults) }
+        ensures failed { OnWriteFailed result (Rose self.old.faults self.new.faults) }
         ensures kept { IfTook result (λ _. self.new.faults ≡ self.old.faults) }
         ensures never_falls { self.old.faults ≤ self.new.faults }
     {

@@ -10,11 +10,11 @@ use Rattle.herm_model.specs.TypedExpressions.{HasShape}
 use Rattle.herm_model.specs.WellFormedTables.{IsType, NamesTypes, RaisesKnown}
 use Rattle.herm_model.proofs.Lists.{or-either, length-map}
 use Rattle.herm_meaning.specs.Names.{NamedTable}
-use Rattle.herm_meaning.specs.Faults.{MeetsNoCycle, MeetsNoUnknown, DependsOn, itself, by_part, IsSettled}
+use Rattle.herm_meaning.specs.DefinitionFaults.{MeetsNoCycle, MeetsNoUnknown, DependsOn, itself, by_part, IsSettled}
 use Rattle.herm_types.specs.declared.shape.RaiseDecl.{RaiseDecl}
 use Rattle.herm_types.specs.declared.shape.Shape.{Shape as Code}
 use Rattle.herm_types.specs.Chosen.{lists}
-use Rattle.herm_types.specs.View.{raise_view, shape_view}
+use Rattle.herm_types.specs.View.{raise_decl_view, shape_view}
 use Rattle.herm_graph.proofs.Reaching.{next-read}
 use Rattle.herm_types.specs.Table.{says}
 use Rattle.herm_graph.specs.declared.graph.Rule.{Rule}
@@ -76,7 +76,7 @@ within-is table count t e n = by (nat_lt t count) refl n
 
 -- ---- unknown names in shapes
 
-pub any-raised : (exceptions : ℕ) (rs : List RaiseDecl) → list_any (λ (r : RaiseDecl). not (nat_lt r.exc.0 exceptions)) rs ≡ list_any (λ (r : Raised). not (nat_lt r.exception exceptions)) (map raise_view rs)
+pub any-raised : (exceptions : ℕ) (rs : List RaiseDecl) → list_any (λ (r : RaiseDecl). not (nat_lt r.exc.0 exceptions)) rs ≡ list_any (λ (r : Raised). not (nat_lt r.exception exceptions)) (map raise_decl_view rs)
 any-raised exceptions [] = refl
 any-raised exceptions (r ∷ rs) = rw (any-raised exceptions rs) refl
 

@@ -3,7 +3,7 @@ use Rattle.std.specs.Prelude.{ℕ}
 use Rattle.herm_model.specs.Copyable.{IsCopyable}
 use Rattle.herm_model.specs.WellFormedTables.{IsType, Reaches}
 use Rattle.herm_meaning.specs.Names.{NamedTable}
-use Rattle.herm_meaning.specs.Faults.{MeetsNoCycle, MeetsNoUnknown, IsSettled}
+use Rattle.herm_meaning.specs.DefinitionFaults.{MeetsNoCycle, MeetsNoUnknown, IsSettled}
 use Rattle.herm_types.specs.Table.{says}
 use Rattle.herm_graph.specs.declared.analysis.TypeTests.{TypeTests}
 use Rattle.herm_graph.specs.Depth.{IsBeyond}

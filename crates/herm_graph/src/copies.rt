@@ -4,7 +4,7 @@ ghost use Rattle.herm_model.specs.Types as types;
 ghost use Rattle.herm_model.specs.Copyable as copyable;
 ghost use Rattle.herm_model.specs.WellFormedTables.{IsType};
 ghost use Rattle.herm_meaning.specs.Names.{NamedTable};
-ghost use Rattle.herm_meaning.specs.Faults.{IsSettled};
+ghost use Rattle.herm_meaning.specs.DefinitionFaults.{IsSettled};
 ghost use Rattle.herm_types.specs.Table.{says, shapes_view};
 ghost use Rattle.herm_types.specs.View.{shape_view};
 ghost use Rattle.herm_types.specs.Chosen.{lists};

@@ -4,7 +4,7 @@ ghost use Rattle.std.specs.List.{list_all};
 ghost use Rattle.herm_model.specs.Types.{named_types};
 ghost use Rattle.herm_model.specs.WellFormedTables.{Reaches};
 ghost use Rattle.herm_meaning.specs.Names.{NamedTable};
-ghost use Rattle.herm_meaning.specs.Faults.{MeetsNoCycle, MeetsNoUnknown};
+ghost use Rattle.herm_meaning.specs.DefinitionFaults.{MeetsNoCycle, MeetsNoUnknown};
 ghost use Rattle.herm_types.specs.Table.{says, shapes_view};
 ghost use Rattle.herm_types.specs.Chosen.{lists};
 ghost use Rattle.herm_graph.specs.Graph.{number_at, comes_behind, AreInside, AreInOrder};

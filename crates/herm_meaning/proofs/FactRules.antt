@@ -15,7 +15,7 @@ use Rattle.herm_syntax.specs.Trees.{Letters, DeclaredFact, InitFact, FullFact, C
 use Rattle.herm_meaning.specs.Names.{NamedTable, part_count}
 use Rattle.herm_meaning.specs.Walks.{place_of, parts_of, Walked, ended, left_fields, met_unknown, further, walk, walk_fields, at_end}
 use Rattle.herm_meaning.specs.Meaning.{fact_meant}
-use Rattle.herm_meaning.specs.Faults.{IsBadFact, HasTwoCases}
+use Rattle.herm_meaning.specs.DefinitionFaults.{IsBadFact, HasTwoCases}
 use Rattle.herm_meaning.proofs.NamePlaces.{one-place}
 use Rattle.herm_meaning.proofs.NameRules.{below}
 use Rattle.herm_meaning.proofs.Forgotten.{bare, of-bare, cases-bare, below-bare, bare-full, steps-bare}

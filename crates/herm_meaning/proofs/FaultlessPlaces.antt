@@ -9,11 +9,11 @@ use Rattle.herm_syntax.specs.declared.definitions.DefForm.{DefForm}
 use Rattle.herm_syntax.specs.declared.definitions.DefForm.TheVariants.{Shaped, Exception}
 use Rattle.herm_syntax.specs.declared.definitions.ShapeForm.{ShapeForm}
 use Rattle.herm_syntax.specs.Trees.{Letters, Shape}
-use Rattle.herm_syntax.specs.Views.{letters, shape_of}
+use Rattle.herm_syntax.specs.View.{name_view, shape_form_view}
 use Rattle.herm_meaning.specs.Names.{NamedTable}
 use Rattle.herm_meaning.specs.Items.{Placed, types_in, types_by, exceptions_in, exceptions_by}
 use Rattle.herm_meaning.specs.Marks.{a_type, an_exception, Mark, Place, in_turn, mark, shape_marks, places_in, places_by, places_from}
-use Rattle.herm_meaning.specs.Faults.{twice, IsRight, AreFaults}
+use Rattle.herm_meaning.specs.DefinitionFaults.{twice, IsRight, AreFaults}
 
 -- no code holds at any of these places
 abbrev pub AllRight : NamedTable → List Place → Type 0
@@ -48,14 +48,14 @@ pub record Stands (table : NamedTable) (t : ℕ) (d : Letters × Shape) : Type 0
   pub module' : ℕ
   pub name : Name
   pub form : ShapeForm
-  pub is : (name.text, shape_of form) ≡ d
-  pub right : MarksRight table module' (mark name (a_type t (shape_of form)) ++ shape_marks form)
+  pub is : (name.text, shape_form_view form) ≡ d
+  pub right : MarksRight table module' (mark name (a_type t (shape_form_view form)) ++ shape_marks form)
 
 pub types-stand : (table : NamedTable) (items : List Placed) (t e k : ℕ) (d : Letters × Shape) → AllRight table (places_from items t e) → slice_get (types_in items) k ≡ Some d → Stands table (t + k) d
 types-stand table [] t e k d right at = none-not_some at
 types-stand table (i ∷ items) t e k d right at = by i.1.form k right at (λ t' e' k'. types-stand table items t' e' k' d)
   where
-    by : (f : DefForm) (k : ℕ) → AllRight table (places_by i.0 i.1.name f t e (places_from items)) → slice_get (types_by (letters i.1.name) f (types_in items)) k ≡ Some d → ((t' e' k' : ℕ) → AllRight table (places_from items t' e') → slice_get (types_in items) k' ≡ Some d → Stands table (t' + k') d) → Stands table (t + k) d
+    by : (f : DefForm) (k : ℕ) → AllRight table (places_by i.0 i.1.name f t e (places_from items)) → slice_get (types_by (name_view i.1.name) f (types_in items)) k ≡ Some d → ((t' e' k' : ℕ) → AllRight table (places_from items t' e') → slice_get (types_in items) k' ≡ Some d → Stands table (t' + k') d) → Stands table (t + k) d
     by (Shaped shape) zero right' at' again =
         let same : t + zero ≡ t = omega arith in
         subst (λ n. Stands table n d) (sym same) (record {
@@ -63,19 +63,19 @@ types-stand table (i ∷ items) t e k d right at = by i.1.form k right at (λ t'
           name = i.1.name;
           form = shape;
           is = some-injective at';
-          right = marks-right table i.0 (mark i.1.name (a_type t (shape_of shape)) ++ shape_marks shape) (λ p h. right' p (in-append_left p (places_in i.0 (mark i.1.name (a_type t (shape_of shape)) ++ shape_marks shape)) (places_from items (suc t) e) h));
+          right = marks-right table i.0 (mark i.1.name (a_type t (shape_form_view shape)) ++ shape_marks shape) (λ p h. right' p (in-append_left p (places_in i.0 (mark i.1.name (a_type t (shape_form_view shape)) ++ shape_marks shape)) (places_from items (suc t) e) h));
         })
     by (Shaped shape) (suc k') right' at' again =
         let same : suc t + k' ≡ t + suc k' = omega arith in
-        subst (λ n. Stands table n d) same (again (suc t) e k' (λ p h. right' p (in-append_right p (places_in i.0 (mark i.1.name (a_type t (shape_of shape)) ++ shape_marks shape)) (places_from items (suc t) e) h)) at')
+        subst (λ n. Stands table n d) same (again (suc t) e k' (λ p h. right' p (in-append_right p (places_in i.0 (mark i.1.name (a_type t (shape_form_view shape)) ++ shape_marks shape)) (places_from items (suc t) e) h)) at')
     by Exception k' right' at' again = again t (suc e) k' (λ p h. right' p (in-append_right p (places_in i.0 (mark i.1.name (an_exception e))) (places_from items t (suc e)) h)) at'
 
 pub exceptions-stand : (table : NamedTable) (items : List Placed) (t e k : ℕ) (name : Letters) → AllRight table (places_from items t e) → slice_get (exceptions_in items) k ≡ Some name → IsIn name (take (e + k) table.exceptions) → ⊥
 exceptions-stand table [] t e k name right at = none-not_some at
 exceptions-stand table (i ∷ items) t e k name right at = by i.1.form k right at (λ t' e' k'. exceptions-stand table items t' e' k' name)
   where
-    by : (f : DefForm) (k : ℕ) → AllRight table (places_by i.0 i.1.name f t e (places_from items)) → slice_get (exceptions_by (letters i.1.name) f (exceptions_in items)) k ≡ Some name → ((t' e' k' : ℕ) → AllRight table (places_from items t' e') → slice_get (exceptions_in items) k' ≡ Some name → IsIn name (take (e' + k') table.exceptions) → ⊥) → IsIn name (take (e + k) table.exceptions) → ⊥
-    by (Shaped shape) k' right' at' again = again (suc t) e k' (λ p h. right' p (in-append_right p (places_in i.0 (mark i.1.name (a_type t (shape_of shape)) ++ shape_marks shape)) (places_from items (suc t) e) h)) at'
+    by : (f : DefForm) (k : ℕ) → AllRight table (places_by i.0 i.1.name f t e (places_from items)) → slice_get (exceptions_by (name_view i.1.name) f (exceptions_in items)) k ≡ Some name → ((t' e' k' : ℕ) → AllRight table (places_from items t' e') → slice_get (exceptions_in items) k' ≡ Some name → IsIn name (take (e' + k') table.exceptions) → ⊥) → IsIn name (take (e + k) table.exceptions) → ⊥
+    by (Shaped shape) k' right' at' again = again (suc t) e k' (λ p h. right' p (in-append_right p (places_in i.0 (mark i.1.name (a_type t (shape_form_view shape)) ++ shape_marks shape)) (places_from items (suc t) e) h)) at'
     by Exception zero right' at' again = λ among.
         let same : e + zero ≡ e = omega arith in
         right' (i.0, record { name = i.1.name; role = an_exception e }) (inl refl) twice (subst (λ n. IsIn i.1.name.text (take n table.exceptions)) same (subst (λ w. IsIn w (take (e + zero) table.exceptions)) (sym (some-injective at')) among))

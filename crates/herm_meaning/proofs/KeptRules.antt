@@ -15,7 +15,7 @@ use Rattle.herm_syntax.specs.Trees.{Letters, Param, Raising}
 use Rattle.herm_meaning.specs.Names.{NamedTable}
 use Rattle.herm_meaning.specs.Walks.{place_of}
 use Rattle.herm_meaning.specs.Meaning.{kept_places, parameter_meant, raising_meant}
-use Rattle.herm_meaning.specs.Faults.{IsNotReturned, KeepsBadly}
+use Rattle.herm_meaning.specs.DefinitionFaults.{IsNotReturned, KeepsBadly}
 use Rattle.herm_meaning.proofs.NamePlaces.{its-place}
 use Rattle.herm_meaning.proofs.TypeRules.{not-false}
 

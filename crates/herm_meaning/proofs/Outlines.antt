@@ -9,7 +9,7 @@ use Rattle.herm_model.proofs.Lists.{and-both, both-and, length-map}
 use Rattle.herm_meaning.specs.Names.{IsWellNamed}
 use Rattle.herm_meaning.specs.Items.{Placed, types_in, exceptions_in}
 use Rattle.herm_meaning.specs.Meaning.{part_names, numbered_shape, type_names, exception_names, outline, meaning}
-use Rattle.herm_meaning.specs.Faults.{AreFaultsOf}
+use Rattle.herm_meaning.specs.DefinitionFaults.{AreFaultsOf}
 use Rattle.herm_meaning.proofs.Forgotten.{bare, bare-of, of-bare, bare-type, reached-bare, bare-copyable, within-bare, steps-bare, bare-all, type-bare}
 use Rattle.herm_meaning.proofs.WellNamed.{same, part_each, well-named}
 

@@ -18,12 +18,12 @@ use Rattle.herm_syntax.specs.declared.definitions.ParamForm.{ParamForm}
 use Rattle.herm_syntax.specs.declared.definitions.ShapeForm.{ShapeForm}
 use Rattle.herm_syntax.specs.declared.definitions.ShapeForm.TheVariants.{Names, Fields, Cases, Rows, Inport, Outport, CallMessage}
 use Rattle.herm_syntax.specs.Trees.{Letters}
-use Rattle.herm_syntax.specs.Views.{letters, mode_of, param_of, shape_of}
+use Rattle.herm_syntax.specs.View.{name_view, mode_form_view, param_form_view, shape_form_view}
 use Rattle.herm_meaning.specs.Names.{NamedTable, part_count}
 use Rattle.herm_meaning.specs.Walks.{place_of, parts_of}
 use Rattle.herm_meaning.specs.Meaning.{mode_meant, parameter_meant, meant_shape}
 use Rattle.herm_meaning.specs.Marks.{a_row, a_key, a_port, an_input, in_turn, key_marks, param_marks, parameter_role, raise_marks, mark, shape_marks}
-use Rattle.herm_meaning.specs.Faults.{twice, bad_key, bad_state, IsRight, IsJudged, DependsOn, itself, by_part}
+use Rattle.herm_meaning.specs.DefinitionFaults.{twice, bad_key, bad_state, IsRight, IsJudged, DependsOn, itself, by_part}
 use Rattle.herm_meaning.proofs.FaultlessPlaces.{MarksRight, left-right, right-right, each-turn, differ-turn}
 use Rattle.herm_meaning.proofs.NamePlaces.{places-differ}
 use Rattle.herm_meaning.proofs.NameRules.{below}
@@ -107,7 +107,7 @@ module _ (o : NamedTable) (n : ℕ) (full : TypeTable) (sound : IsSound o full) 
       let shape = full-shape got.0 there.0 there.1 in
       (got.0, shape.0, got.1, shape.1, sym (bare-scalar shape.0) ∙ (ap is_scalar_shape shape.2 ∙ scalar))
 
-  row-key : (row : Name) (ks : List Name) → MarksRight o n (mark row a_row ++ in_turn (λ k. k.text) (key_marks row.text) [] ks) → IsType o.shapes (place_of o.names row.text) → HasKey full (types.rows (place_of o.names row.text) (map (place_of (parts_of o (place_of o.names row.text))) (map letters ks)))
+  row-key : (row : Name) (ks : List Name) → MarksRight o n (mark row a_row ++ in_turn (λ k. k.text) (key_marks row.text) [] ks) → IsType o.shapes (place_of o.names row.text) → HasKey full (types.rows (place_of o.names row.text) (map (place_of (parts_of o (place_of o.names row.text))) (map name_view ks)))
   row-key row ks right known =
       let fields = record-of (slice_get o.shapes (place_of o.names row.text)) (λ none. right (record { name = row; role = a_row }) (inl refl) bad_key (judged _ known, none)) in
       let keys = right-right o n (mark row a_row) (in_turn (λ k. k.text) (key_marks row.text) [] ks) right in
@@ -115,20 +115,20 @@ module _ (o : NamedTable) (n : ℕ) (full : TypeTable) (sound : IsSound o full) 
       let count : length (parts_of o (place_of o.names row.text)) ≡ length fields.0 = part-names o _ _ sound.part_each fields.1 in (
         fields.0,
         shape.1 ∙ ap Some (fields-bare shape.0 fields.0 shape.2),
-        places-differ (parts_of o (place_of o.names row.text)) (map letters ks)
+        places-differ (parts_of o (place_of o.names row.text)) (map name_view ks)
             (differ-turn o n (λ (k : Name). k.text) (key_marks row.text) (λ before k marks among. marks (record { name = k; role = a_key before row.text }) (inl refl) twice among) [] ks keys)
             (λ x i.
-            let from = in-map_from letters x ks i in
+            let from = in-map_from name_view x ks i in
             let below_count = each-turn o n (λ (k : Name). k.text) (key_marks row.text) (λ (k : Name). place_of (parts_of o (place_of o.names row.text)) k.text < length fields.0) (λ before k marks. key-place row before k fields.0 known fields.1 (marks (record { name = k; role = a_key before row.text }) (inl refl))) [] ks keys from.0 from.1 in
             subst (λ w. place_of (parts_of o (place_of o.names row.text)) w < length (parts_of o (place_of o.names row.text))) (sym from.2) (subst (λ c. place_of (parts_of o (place_of o.names row.text)) from.0.text < c) (sym count) below_count)),
         λ i h.
-            let of_letters = in-map_from (place_of (parts_of o (place_of o.names row.text))) i (map letters ks) h in
-            let from = in-map_from letters of_letters.0 ks of_letters.1 in
+            let of_letters = in-map_from (place_of (parts_of o (place_of o.names row.text))) i (map name_view ks) h in
+            let from = in-map_from name_view of_letters.0 ks of_letters.1 in
             let scalar = each-turn o n (λ (k : Name). k.text) (key_marks row.text) (λ (k : Name). IsScalarField full fields.0 (place_of (parts_of o (place_of o.names row.text)) k.text)) (λ before k marks. scalar-key row before k fields.0 known fields.1 (marks (record { name = k; role = a_key before row.text }) (inl refl))) [] ks keys from.0 from.1 in
             subst (λ j. IsScalarField full fields.0 j) (sym (of_letters.2 ∙ ap (place_of (parts_of o (place_of o.names row.text))) from.2)) scalar,
       )
 
-  pub keys : (form : ShapeForm) → MarksRight o n (shape_marks form) → NamesTypes o.shapes (meant_shape o (shape_of form)) → HasKey full (meant_shape o (shape_of form))
+  pub keys : (form : ShapeForm) → MarksRight o n (shape_marks form) → NamesTypes o.shapes (meant_shape o (shape_form_view form)) → HasKey full (meant_shape o (shape_form_view form))
   keys (Names values) right known = tt
   keys (Fields fs) right known = tt
   keys (Cases cs) right known = tt
@@ -139,7 +139,7 @@ module _ (o : NamedTable) (n : ℕ) (full : TypeTable) (sound : IsSound o full) 
 
   -- ---- outports
 
-  pub outports : (form : ShapeForm) → MarksRight o n (shape_marks form) → NamesTypes o.shapes (meant_shape o (shape_of form)) → LeadsToInport full (meant_shape o (shape_of form))
+  pub outports : (form : ShapeForm) → MarksRight o n (shape_marks form) → NamesTypes o.shapes (meant_shape o (shape_form_view form)) → LeadsToInport full (meant_shape o (shape_form_view form))
   outports (Names values) right known = tt
   outports (Fields fs) right known = tt
   outports (Cases cs) right known = tt
@@ -165,25 +165,25 @@ module _ (o : NamedTable) (n : ℕ) (full : TypeTable) (sound : IsSound o full) 
       let tested = not-false (is_copyable_within greatest_depth o.shapes t) (λ fails. right bad_state (judged t known, (λ u d. settled t u known d), (λ c. true≢false (sym (decided.1 c) ∙ fails)))) in
       copyable-bare full t (subst (λ ss. IsCopyable ss t) sound.same (decided.0 tested))
 
-  copies : (ps : List ParamForm) → MarksRight o n (in_turn (λ p. p.field.name.text) param_marks [] ps) → ((t : ℕ) → IsIn t (map (λ p. p.content) (map (parameter_meant o.names) (map param_of ps))) → IsType o.shapes t) → (p : types.Parameter) → IsIn p (map (parameter_meant o.names) (map param_of ps)) → p.mode ≡ types.by_in → IsCopyable full p.content
+  copies : (ps : List ParamForm) → MarksRight o n (in_turn (λ p. p.field.name.text) param_marks [] ps) → ((t : ℕ) → IsIn t (map (λ p. p.content) (map (parameter_meant o.names) (map param_form_view ps))) → IsType o.shapes t) → (p : types.Parameter) → IsIn p (map (parameter_meant o.names) (map param_form_view ps)) → p.mode ≡ types.by_in → IsCopyable full p.content
   copies ps right known p i =
-      let of_param = in-map_from (parameter_meant o.names) p (map param_of ps) i in
-      let param = in-map_from param_of of_param.0 ps of_param.1 in
+      let of_param = in-map_from (parameter_meant o.names) p (map param_form_view ps) i in
+      let param = in-map_from param_form_view of_param.0 ps of_param.1 in
       let content : p.content ≡ place_of o.names param.0.field.of.text = ap (λ (q : types.Parameter). q.content) of_param.2 ∙ ap (λ q. (parameter_meant o.names q).content) param.2 in
-      let mode : p.mode ≡ mode_meant (mode_of param.0.mode) = ap (λ (q : types.Parameter). q.mode) of_param.2 ∙ ap (λ q. (parameter_meant o.names q).mode) param.2 in
+      let mode : p.mode ≡ mode_meant (mode_form_view param.0.mode) = ap (λ (q : types.Parameter). q.mode) of_param.2 ∙ ap (λ q. (parameter_meant o.names q).mode) param.2 in
       let there = subst (IsType o.shapes) content (known p.content (in-map (λ (q : types.Parameter). q.content) p _ i)) in
-      let copyable = each-turn o n (λ (q : ParamForm). q.field.name.text) param_marks (λ (q : ParamForm). IsType o.shapes (place_of o.names q.field.of.text) → mode_meant (mode_of q.mode) ≡ types.by_in → IsCopyable full (place_of o.names q.field.of.text)) by [] ps right param.0 param.1 there in
+      let copyable = each-turn o n (λ (q : ParamForm). q.field.name.text) param_marks (λ (q : ParamForm). IsType o.shapes (place_of o.names q.field.of.text) → mode_meant (mode_form_view q.mode) ≡ types.by_in → IsCopyable full (place_of o.names q.field.of.text)) by [] ps right param.0 param.1 there in
       λ e. subst (λ t. IsCopyable full t) (sym content) (copyable (sym mode ∙ e))
     where
-      by : (before : List Letters) (q : ParamForm) → MarksRight o n (param_marks before q) → IsType o.shapes (place_of o.names q.field.of.text) → mode_meant (mode_of q.mode) ≡ types.by_in → IsCopyable full (place_of o.names q.field.of.text)
+      by : (before : List Letters) (q : ParamForm) → MarksRight o n (param_marks before q) → IsType o.shapes (place_of o.names q.field.of.text) → mode_meant (mode_form_view q.mode) ≡ types.by_in → IsCopyable full (place_of o.names q.field.of.text)
       by before q marks there e = go q.mode (marks (record { name = q.field.name; role = parameter_role q.mode before q.field.of.text }) (inl refl)) e
         where
-          go : (m : ModeForm) → IsRight o (n, record { name = q.field.name; role = parameter_role m before q.field.of.text }) → mode_meant (mode_of m) ≡ types.by_in → IsCopyable full (place_of o.names q.field.of.text)
+          go : (m : ModeForm) → IsRight o (n, record { name = q.field.name; role = parameter_role m before q.field.of.text }) → mode_meant (mode_form_view m) ≡ types.by_in → IsCopyable full (place_of o.names q.field.of.text)
           go In right' e' = input-copyable q.field.name before q.field.of.text there right'
           go Inout right' e' = let k : ⊥ = cc e' in absurd k
           go Out right' e' = let k : ⊥ = cc e' in absurd k
 
-  pub inputs : (form : ShapeForm) → MarksRight o n (shape_marks form) → NamesTypes o.shapes (meant_shape o (shape_of form)) → CopiesInputs full (meant_shape o (shape_of form))
+  pub inputs : (form : ShapeForm) → MarksRight o n (shape_marks form) → NamesTypes o.shapes (meant_shape o (shape_form_view form)) → CopiesInputs full (meant_shape o (shape_form_view form))
   inputs (Names values) right known = tt
   inputs (Fields fs) right known = tt
   inputs (Cases cs) right known = tt

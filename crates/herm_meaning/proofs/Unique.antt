@@ -2,7 +2,7 @@
 use Rattle.std.proofs.Common.{◌≡◌, ◌<◌, inl, inr, [], ◌∷◌, refl, sym, ◌∙◌, ap, arith}
 use Rattle.herm_meaning.specs.Names.{NamedTable}
 use Rattle.herm_meaning.specs.Marks.{Place}
-use Rattle.herm_meaning.specs.Faults.{Code, unknown, twice, cycle, deep, bad_key, bad_state, rank, IsFirst}
+use Rattle.herm_meaning.specs.DefinitionFaults.{Code, unknown, twice, cycle, deep, bad_key, bad_state, rank, IsFirst}
 use Rattle.herm_meaning.specs.laws.FaultLaws.{HasOneList}
 
 same-rank : (c d : Code) → (rank c < rank d → ⊥) → (rank d < rank c → ⊥) → c ≡ d

@@ -16,13 +16,13 @@ use Rattle.herm_model.proofs.Deciding.{different-decides}
 use Rattle.herm_syntax.specs.declared.definitions.ShapeForm.{ShapeForm}
 use Rattle.herm_syntax.specs.declared.definitions.ShapeForm.TheVariants as forms
 use Rattle.herm_syntax.specs.Trees.{Letters, Shape, Names, Fields, Cases, Rows, Inport, Outport, CallMessage}
-use Rattle.herm_syntax.specs.Views.{param_of, raising_of, fact_of, shape_of}
+use Rattle.herm_syntax.specs.View.{param_form_view, raise_form_view, dfact_view, shape_form_view}
 use Rattle.herm_meaning.specs.Names.{NamedTable, predefined_names, predefined_parts, predefined_exception_names, part_count, IsWellNamed}
 use Rattle.herm_meaning.specs.Items.{Placed, types_in, exceptions_in}
 use Rattle.herm_meaning.specs.Walks.{place_of}
 use Rattle.herm_meaning.specs.Meaning.{part_names, numbered_shape, meant_shape, outline, meaning}
 use Rattle.herm_meaning.specs.Marks.{a_type, in_turn, param_marks, raise_marks, mark, shape_marks, places, places_from}
-use Rattle.herm_meaning.specs.Faults.{twice, cycle, deep, bad_state, IsRight, MeetsNoCycle, MeetsNoUnknown, HasBadShape, AreFaultsOf}
+use Rattle.herm_meaning.specs.DefinitionFaults.{twice, cycle, deep, bad_state, IsRight, MeetsNoCycle, MeetsNoUnknown, HasBadShape, AreFaultsOf}
 use Rattle.herm_meaning.proofs.FaultlessPlaces.{AllRight, no-faults, MarksRight, left-right, right-right, Stands, types-stand, exceptions-stand}
 use Rattle.herm_meaning.proofs.NamePlaces.{at-in, differ-before}
 use Rattle.herm_meaning.proofs.NameRules as names
@@ -149,7 +149,7 @@ module _ (items : List Placed) (faultless : AreFaultsOf items []) where
   written k d e = subst (λ t. Stands o t d) (behind-is k) (types-stand o items 8 7 k d right e)
 
   -- what is so of the meant shape of each written one
-  each-meant : (P : ℕ → types.Shape → Type 0) → ((k : ℕ) (d : Letters × Shape) (w : Stands o (behind k) d) → P (behind k) (meant_shape o (shape_of w.form))) → (k : ℕ) (s : types.Shape) → slice_get meant k ≡ Some s → P (behind k) s
+  each-meant : (P : ℕ → types.Shape → Type 0) → ((k : ℕ) (d : Letters × Shape) (w : Stands o (behind k) d) → P (behind k) (meant_shape o (shape_form_view w.form))) → (k : ℕ) (s : types.Shape) → slice_get meant k ≡ Some s → P (behind k) s
   each-meant P by k s e =
       let from = map-some (λ d. meant_shape o d.1) (slice_get defined k) s (sym (slice_get-map (λ d. meant_shape o d.1) defined k) ∙ e) in
       let w = written k from.0 from.1 in
@@ -157,10 +157,10 @@ module _ (items : List Placed) (faultless : AreFaultsOf items []) where
 
   -- the marks of its shape
   marks : (k : ℕ) (d : Letters × Shape) (w : Stands o (behind k) d) → MarksRight o w.module' (shape_marks w.form)
-  marks k d w = right-right o w.module' (mark w.name (a_type (behind k) (shape_of w.form))) (shape_marks w.form) w.right
+  marks k d w = right-right o w.module' (mark w.name (a_type (behind k) (shape_form_view w.form))) (shape_marks w.form) w.right
 
-  at-name : (k : ℕ) (d : Letters × Shape) (w : Stands o (behind k) d) → IsRight o (w.module', record { name = w.name; role = a_type (behind k) (shape_of w.form) })
-  at-name k d w = w.right (record { name = w.name; role = a_type (behind k) (shape_of w.form) }) (inl refl)
+  at-name : (k : ℕ) (d : Letters × Shape) (w : Stands o (behind k) d) → IsRight o (w.module', record { name = w.name; role = a_type (behind k) (shape_form_view w.form) })
+  at-name k d w = w.right (record { name = w.name; role = a_type (behind k) (shape_form_view w.form) }) (inl refl)
 
   -- ---- types and exceptions are known
 
@@ -270,7 +270,7 @@ module _ (items : List Placed) (faultless : AreFaultsOf items []) where
   each-small : (t : ℕ) (s : types.Shape) → HasShape full t s → IsTrue (is_within_depth greatest_depth o.shapes t) × length (part_paths all_parts o.shapes t) ≤ greatest_paths
   each-small = each-shape meant (λ t s. IsTrue (is_within_depth greatest_depth o.shapes t) × length (part_paths all_parts o.shapes t) ≤ greatest_paths)
       (refl, omega arith) (refl, omega arith) (refl, omega arith) (refl, omega arith) (refl, omega arith) (refl, omega arith) (refl, omega arith) (refl, omega arith)
-      (each-meant (λ t s. IsTrue (is_within_depth greatest_depth o.shapes t) × length (part_paths all_parts o.shapes t) ≤ greatest_paths) (λ k d w. not-deep (behind k) w.module' w.name (shape_of w.form) (at-name k d w)))
+      (each-meant (λ t s. IsTrue (is_within_depth greatest_depth o.shapes t) × length (part_paths all_parts o.shapes t) ≤ greatest_paths) (λ k d w. not-deep (behind k) w.module' w.name (shape_form_view w.form) (at-name k d w)))
 
   -- ---- parts
 
@@ -300,7 +300,7 @@ module _ (items : List Placed) (faultless : AreFaultsOf items []) where
   inputs : (t : ℕ) (s : types.Shape) → HasShape full t s → CopiesInputs full s
   inputs = each-shape meant (λ t s. CopiesInputs full s) tt tt tt tt tt tt tt tt (each-meant (λ t s. CopiesInputs full s) (λ k d w. rules.inputs o w.module' full sound w.form (marks k d w) (names.types-known o w.module' w.form (marks k d w))))
 
-  declares : (form : ShapeForm) → NamesTypes o.shapes (meant_shape o (shape_of form)) → (HasBadShape o (shape_of form) → ⊥) → DeclaresFields full (meant_shape o (shape_of form)) × DeclaresOneCase (meant_shape o (shape_of form))
+  declares : (form : ShapeForm) → NamesTypes o.shapes (meant_shape o (shape_form_view form)) → (HasBadShape o (shape_form_view form) → ⊥) → DeclaresFields full (meant_shape o (shape_form_view form)) × DeclaresOneCase (meant_shape o (shape_form_view form))
   declares (forms.Names values) named fine = (tt, tt)
   declares (forms.Fields fs) named fine = (tt, tt)
   declares (forms.Cases cs) named fine = (tt, tt)
@@ -309,8 +309,8 @@ module _ (items : List Placed) (faultless : AreFaultsOf items []) where
       let number = place_of o.names message.text in
       let there = named number (inl refl) in
       let judged = rules.judged o 0 full sound number there in (
-        facts.of-fields o full sound number there (map fact_of fs.items) (λ f i b. fine (judged, inr (inl (f, i, b)))),
-        facts.one-case o full sound number there (map fact_of fs.items) (λ f i b. fine (judged, inr (inl (f, i, b)))) (λ h. fine (judged, inr (inr h))),
+        facts.of-fields o full sound number there (map dfact_view fs.items) (λ f i b. fine (judged, inr (inl (f, i, b)))),
+        facts.one-case o full sound number there (map dfact_view fs.items) (λ f i b. fine (judged, inr (inl (f, i, b)))) (λ h. fine (judged, inr (inr h))),
       )
   declares (forms.Outport port) named fine = (tt, tt)
   declares (forms.CallMessage params raises) named fine = (tt, tt)
@@ -318,7 +318,7 @@ module _ (items : List Placed) (faultless : AreFaultsOf items []) where
   declared : (t : ℕ) (s : types.Shape) → HasShape full t s → DeclaresFields full s × DeclaresOneCase s
   declared = each-shape meant (λ t s. DeclaresFields full s × DeclaresOneCase s) (tt, tt) (tt, tt) (tt, tt) (tt, tt) ((λ f i. absurd i), (λ p c d i j. absurd i)) (tt, tt) (tt, tt) ((λ f i. absurd i), (λ p c d i j. absurd i)) (each-meant (λ t s. DeclaresFields full s × DeclaresOneCase s) (λ k d w. declares w.form (names.types-known o w.module' w.form (marks k d w)) (at-name k d w bad_state)))
 
-  keeps : (n : ℕ) (form : ShapeForm) → MarksRight o n (shape_marks form) → (HasBadShape o (shape_of form) → ⊥) → KeepsReturned (meant_shape o (shape_of form)) × KeepsRising (meant_shape o (shape_of form)) × KeepsNoneDisconnected (meant_shape o (shape_of form))
+  keeps : (n : ℕ) (form : ShapeForm) → MarksRight o n (shape_marks form) → (HasBadShape o (shape_form_view form) → ⊥) → KeepsReturned (meant_shape o (shape_form_view form)) × KeepsRising (meant_shape o (shape_form_view form)) × KeepsNoneDisconnected (meant_shape o (shape_form_view form))
   keeps n (forms.Names values) fine shape = (tt, tt, tt)
   keeps n (forms.Fields fs) fine shape = (tt, tt, tt)
   keeps n (forms.Cases cs) fine shape = (tt, tt, tt)
@@ -327,9 +327,9 @@ module _ (items : List Placed) (faultless : AreFaultsOf items []) where
   keeps n (forms.Outport port) fine shape = (tt, tt, tt)
   keeps n (forms.CallMessage params raises) fine shape =
       let differ = names.params-differ o n params.items (left-right o n (in_turn (λ p. p.field.name.text) param_marks [] params.items) (in_turn (λ r. r.name.text) raise_marks [] raises.items) fine) in (
-        kept.kept-returned o (map param_of params.items) (map raising_of raises.items) (λ r i b. shape (r, i, b)) differ,
-        kept.kept-rising o (map param_of params.items) (map raising_of raises.items) (λ r i b. shape (r, i, b)),
-        kept.kept-disconnected o (map param_of params.items) (map raising_of raises.items) (λ r i b. shape (r, i, b)),
+        kept.kept-returned o (map param_form_view params.items) (map raise_form_view raises.items) (λ r i b. shape (r, i, b)) differ,
+        kept.kept-rising o (map param_form_view params.items) (map raise_form_view raises.items) (λ r i b. shape (r, i, b)),
+        kept.kept-disconnected o (map param_form_view params.items) (map raise_form_view raises.items) (λ r i b. shape (r, i, b)),
       )
 
   all-kept : (t : ℕ) (s : types.Shape) → HasShape full t s → KeepsReturned s × KeepsRising s × KeepsNoneDisconnected s

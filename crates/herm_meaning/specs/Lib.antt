@@ -4,5 +4,5 @@ pub mod Items
 pub mod Meaning
 pub mod Marks
 pub mod Walks
-pub mod Faults
+pub mod DefinitionFaults
 pub mod laws

@@ -11,7 +11,7 @@ use Rattle.herm_syntax.specs.declared.definitions.RaiseForm.{RaiseForm}
 use Rattle.herm_syntax.specs.declared.definitions.ShapeForm.{ShapeForm}
 use Rattle.herm_syntax.specs.declared.definitions.ShapeForm.TheVariants.{Names, Fields, Cases, Rows, Inport, Outport, CallMessage}
 use Rattle.herm_syntax.specs.Trees.{Letters, Shape}
-use Rattle.herm_syntax.specs.Views.{shape_of}
+use Rattle.herm_syntax.specs.View.{shape_form_view}
 use Rattle.herm_meaning.specs.Items.{Placed}
 
 -- What a name stands for at its place.
@@ -92,7 +92,7 @@ places_in module' (m ∷ ms) = (module', m) ∷ places_in module' ms
 
 -- the marks of an item, and of those behind it, where the next type and the next exception have these numbers
 abbrev pub places_by : ℕ → Name → DefForm → ℕ → ℕ → (ℕ → ℕ → List Place) → List Place
-places_by module' name (Shaped shape) t e behind = places_in module' (mark name (a_type t (shape_of shape)) ++ shape_marks shape) ++ behind (suc t) e
+places_by module' name (Shaped shape) t e behind = places_in module' (mark name (a_type t (shape_form_view shape)) ++ shape_marks shape) ++ behind (suc t) e
 places_by module' name Exception t e behind = places_in module' (mark name (an_exception e)) ++ behind t (suc e)
 
 abbrev pub places_from : List Placed → ℕ → ℕ → List Place

@@ -1,5 +1,6 @@
 pub mod ControlExamples
 pub mod RefusedProcesses
+pub mod RefusedVariants
 pub mod ExampleTypes
 pub mod TableExamples
 pub mod BodyExamples

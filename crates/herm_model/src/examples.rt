@@ -6,7 +6,8 @@ ghost use Rattle.herm_model.specs.Statements.{handler, no_handlers};
 ghost use Rattle.herm_model.specs.Outcomes.{disconnected};
 ghost use Rattle.herm_model.specs.Refusals.{IsMissing, IsAccepted};
 ghost use Rattle.herm_model.specs.examples.ControlExamples.{ArmsInLoop, EmptyBody, EmptyBranch, EmptyLoop, EmptyTriesInLoop, EmptyTry, LeaveInTry, LeaveInner, LoopInHandler, NearestHandler, OutOfReach, OuterHandler, SecondHandler};
-ghost use Rattle.herm_model.specs.examples.RefusedProcesses.{busy, calls, denies, discard_w, discards_its_call, dissolve_a, inserted_twice, keeps_nothing, keeps_w, missing_after_call, missing_after_insert, missing_after_move, missing_after_one_branch, missing_at_return, missing_in_a_loop, moves_variant, on_busy, reveal_a, send_q, send_w, sent_twice, set_in_one_branch, used_after_insert, with_ask, with_rows, with_variant};
+ghost use Rattle.herm_model.specs.examples.RefusedProcesses.{busy, calls, denies, discard_w, discards_its_call, inserted_twice, keeps_nothing, keeps_w, missing_after_call, missing_after_insert, missing_after_one_branch, missing_at_return, missing_in_a_loop, on_busy, send_q, send_w, sent_twice, set_in_one_branch, used_after_insert, with_ask, with_rows};
+ghost use Rattle.herm_model.specs.examples.RefusedVariants.{dissolve_a, missing_after_move, moves_variant, reveal_a, with_variant};
 
 /// A variable that one branch sets is missing behind the other one, and a variable that a loop sends is missing in its
 /// second turn.

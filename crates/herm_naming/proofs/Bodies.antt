@@ -8,7 +8,7 @@ use Rattle.herm_model.proofs.Lists.{length-map}
 use Rattle.herm_syntax.specs.Trees.{Statement, Assign, Move, Unite, Dissolve, Wrap, Insert, Connect, Send, Receive, New, Discard, Reveal, Remove, Get, Unwrap, Call, Return, ReturnBy, Create, Raise, Leave, Case, For, Select, If, While, Try, Statements, NoStatement, Further, Arms, NoArm, Arm, PortArms, NoPortArm, PortArm, Otherwise, NoElse, Else}
 use Rattle.herm_naming.specs.Numbers.{Scope}
 use Rattle.herm_naming.specs.Meaning.{statement_number, block_number, arm_blocks, port_arm_blocks, otherwise_number, handlers_number}
-use Rattle.herm_naming.specs.Faults.{within, in_body, in_arms, in_port_arms, in_otherwise}
+use Rattle.herm_naming.specs.StatementFaults.{within, in_body, in_arms, in_port_arms, in_otherwise}
 
 -- a statement with whether it stands in a loop, by its number
 abbrev pub placed_number : Scope → Bool × Statement → Placed

@@ -22,7 +22,7 @@ use Rattle.herm_naming.specs.Meaning.{process_number, arm_names, arm_forms, stat
 use Rattle.herm_naming.specs.Known.{paths_named, is_there, is_form_there, is_statement_there}
 use Rattle.herm_naming.specs.Fits.{fits_form, fits_statement}
 use Rattle.herm_naming.specs.Copies.{copies_form, copies_statement}
-use Rattle.herm_naming.specs.Faults.{part_ways, set_arguments, paths_part, ports_of, repeats, first_code, statement_code, within, in_body, in_arms, in_port_arms, in_otherwise}
+use Rattle.herm_naming.specs.StatementFaults.{part_ways, set_arguments, paths_part, ports_of, repeats, first_code, statement_code, within, in_body, in_arms, in_port_arms, in_otherwise}
 use Rattle.herm_naming.proofs.Settled.{path-type}
 use Rattle.herm_naming.proofs.TypedForms.{IsApartForm, at-more, form-typed}
 use Rattle.herm_naming.proofs.Apart.{part-within, set-numbers, port-numbers, names-differ, paths-apart, all-apart, ports-differ}

@@ -4,7 +4,7 @@ pub mod Meaning
 pub mod Known
 pub mod Fits
 pub mod Copies
-pub mod Faults
+pub mod StatementFaults
 pub mod Refusals
 pub mod laws
 pub mod examples

@@ -11,7 +11,7 @@ use Rattle.herm_syntax.specs.Trees.{Letters, Module}
 use Rattle.herm_meaning.specs.Names.{NamedTable}
 use Rattle.herm_naming.specs.Numbers.{type_number}
 use Rattle.herm_naming.specs.Meaning.{ProcessText, processes_in, process_meaning, main_name}
-use Rattle.herm_naming.specs.Faults.{Code, unreachable, no_main, process_codes}
+use Rattle.herm_naming.specs.StatementFaults.{Code, unreachable, no_main, process_codes}
 
 -- No control path leads to the statement with this number, which is not a `try`. Language reference, "Control paths".
 pub record IsUnreached (table : TypeTable) (p : Process) (number : ℕ) : Type 0 where

@@ -4,11 +4,12 @@ use Rattle.herm_readers.specs.Reader.{Read, Fault, Reader}
 use Rattle.herm_readers.specs.Combinators.{mapped, many, choice}
 use Rattle.herm_alphabet.specs.declared.token.Token.{Token}
 use Rattle.herm_syntax.specs.declared.statements.Stmt.{Stmt}
-use Rattle.herm_syntax.specs.Symbols.{Symbol, is, kw_case, kw_for, kw_select, kw_if, kw_while, kw_try}
+use Rattle.herm_syntax.specs.Symbols.{Symbol, is}
+use Rattle.herm_syntax.specs.KeywordSymbols.{kw_case, kw_for, kw_select, kw_if, kw_while, kw_try}
 use Rattle.herm_syntax.specs.Trees.{Statement, Statements, NoStatement, Further}
 use Rattle.herm_syntax.specs.ReadExpressions.{read_expression}
 use Rattle.herm_syntax.specs.ReadStatements.{inside, statements_of, read_statement, read_statements, statement_of as joined, compound_of, read_compound, read_plain, is_plain, read_case, read_for, read_select, read_if, read_while, read_try, read_assign}
-use Rattle.herm_syntax.specs.Views.{statement_of, body_of}
+use Rattle.herm_syntax.specs.View.{stmt_form_view, stmts_view}
 use Rattle.herm_parser.specs.Gives.{kinds}
 use Rattle.herm_parser.specs.Forms.{either, plain_at}
 use Rattle.herm_parser.specs.Blocks.{body_at, case_at, for_at, select_at, if_at, while_at, try_at, assign_at, compound_at, statement_at}
@@ -20,9 +21,9 @@ unfolding body_at
 body_none zero e symbols = refl
 body_none (suc depth) e symbols = absurd (omega arith)
 
-pub body_list : (found : List Stmt) → statements_of (map (λ s. statement_of s.form) found) ≡ body_of found
+pub body_list : (found : List Stmt) → statements_of (map (λ s. stmt_form_view s.form) found) ≡ stmts_view found
 body_list [] = refl
-body_list (s ∷ found) = ap (λ t. Further (statement_of s.form) t) (body_list found)
+body_list (s ∷ found) = ap (λ t. Further (stmt_form_view s.form) t) (body_list found)
 
 pub statement_behind : (depth : ℕ) → statement_at depth [] ≡ Fault 0
 unfolding statement_at compound_at case_at for_at select_at if_at while_at try_at assign_at

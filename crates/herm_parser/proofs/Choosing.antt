@@ -2,7 +2,8 @@
 use Rattle.std.proofs.Common.{◌≡◌, Bool, true, false, ◌⊎◌, inl, inr, List, refl, ap, ◌∙◌}
 use Rattle.herm_readers.specs.Reader.{Answer, Read, Fault, Reader, ahead}
 use Rattle.herm_readers.specs.Combinators.{onward, passes, mapped, chosen, choice}
-use Rattle.herm_syntax.specs.Symbols.{Symbol, is, kw_unwrap, kw_call, kw_return, kw_create, kw_raise, kw_leave}
+use Rattle.herm_syntax.specs.Symbols.{Symbol, is}
+use Rattle.herm_syntax.specs.KeywordSymbols.{kw_unwrap, kw_call, kw_return, kw_create, kw_raise, kw_leave}
 use Rattle.herm_syntax.specs.Trees.{Statement}
 use Rattle.herm_syntax.specs.Words.{is_transfer, is_touch, is_find}
 use Rattle.herm_syntax.specs.ReadStatements.{plain_of, read_plain, is_plain, read_two_paths, read_one_path, read_keyed, read_unwrap, read_call, read_return, read_create, read_raise, read_leave}

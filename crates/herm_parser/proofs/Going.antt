@@ -4,7 +4,8 @@ use Rattle.herm_readers.specs.Reader.{Reader, Reads}
 use Rattle.herm_readers.specs.Combinators.{one, one_rule, sequence, sequence_rule}
 use Rattle.herm_readers.proofs.Sequences.{sequence_reads}
 use Rattle.std.specs.Prelude.{true}
-use Rattle.herm_syntax.specs.Symbols.{Symbol, is_operator, star, plus, equal, kw_and, kw_or}
+use Rattle.herm_syntax.specs.Symbols.{Symbol, is_operator, star, plus, equal}
+use Rattle.herm_syntax.specs.KeywordSymbols.{kw_and, kw_or}
 use Rattle.herm_syntax.specs.Trees.{Expression}
 use Rattle.herm_syntax.specs.ReadExpressions.{pick_by, expression_rule, primary_rule, read_levels}
 use Rattle.herm_syntax.proofs.Names.{pick_by_reads}

@@ -10,7 +10,7 @@ use Rattle.herm_syntax.specs.declared.modules.Module.TheVariants as modules
 use Rattle.herm_syntax.specs.declared.statements.Stmt.{Stmt}
 use Rattle.herm_syntax.specs.declared.statements.StmtForm.{StmtForm}
 use Rattle.herm_syntax.specs.declared.statements.StmtForm.TheBlock as forms
-use Rattle.herm_syntax.specs.Views.{numbers_within, numbers, arms_numbers, port_arms_numbers, otherwise_numbers, body_numbers}
+use Rattle.herm_syntax.specs.StatementNumbers.{numbers_within, numbers, arms_numbers, port_arms_numbers, otherwise_numbers, body_numbers}
 use Rattle.herm_syntax.specs.laws.GrammarLaws.{counting, IsNumbered}
 use Rattle.herm_parser.specs.Along.{◌>>=◌, past_token, past_name, past_path, past_expression, past_each}
 use Rattle.herm_parser.specs.Walk.{Walked, Moved, past_end, ended, past_pair, past_path_name, past_atoms, past_keyed, begins, stated, blocked, walk_form, walk_statements, walk_arms, walk_port_arms, walk_otherwise, walk_statement, walk_body}

@@ -5,11 +5,12 @@ use Rattle.herm_readers.specs.Brackets.{IsTooDeep, IsWithin}
 use Rattle.herm_readers.proofs.Nesting.{finds_within}
 use Rattle.herm_alphabet.specs.declared.token.Token.{Token}
 use Rattle.herm_syntax.specs.Symbols.{Symbol, side}
-use Rattle.herm_syntax.specs.Views.{module_of}
+use Rattle.herm_syntax.specs.View.{module_view}
 use Rattle.herm_syntax.proofs.Numbers.{one_program}
 use Rattle.herm_parser.specs.Gives.{kinds}
-use Rattle.herm_parser.specs.Parsing.{most_brackets}
-use Rattle.herm_parser.specs.SyntaxFaults.{place_of, IsNested, IsMisspelled}
+use Rattle.herm_parser.specs.OpenBrackets.{most_brackets, IsNested}
+use Rattle.herm_parser.specs.TokenPlaces.{place_of}
+use Rattle.herm_parser.specs.SyntaxFaults.{IsMisspelled}
 use Rattle.herm_parser.specs.Laws.{HasOneParse, ParsedHasNoFault, HasOneFault}
 use Rattle.herm_parser.specs.declared.fault.ParseFault.TheVariants.{Syntax, Nesting, Memory}
 
@@ -28,7 +29,7 @@ nested_not_within P tokens offset nested within = not_within most_brackets (kind
 pub parsed_has_no_fault : ParsedHasNoFault
 parsed_has_no_fault tokens modules (Nesting offset) parsed nested =
     nested_not_within (Nesting offset ≡ Memory) tokens offset nested (finds_within Symbol side most_brackets (kinds tokens) parsed.within)
-parsed_has_no_fault tokens modules (Syntax offset) parsed misspelled = absurd (misspelled.none (map module_of modules) parsed.program.fits (sym parsed.spelled))
+parsed_has_no_fault tokens modules (Syntax offset) parsed misspelled = absurd (misspelled.none (map module_view modules) parsed.program.fits (sym parsed.spelled))
 parsed_has_no_fault tokens modules Memory parsed memory = refl
 
 -- Of two ways to cut a list, the one that leaves fewer behind goes beyond the first symbol that the other leaves.

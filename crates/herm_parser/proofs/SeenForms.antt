@@ -11,10 +11,10 @@ use Rattle.herm_syntax.specs.declared.statements.StmtForm.{StmtForm, Case, For, 
 use Rattle.herm_syntax.specs.declared.statements.StmtForm.TheBlock as forms
 use Rattle.herm_syntax.specs.Trees.{Letters, Path, Statements, Further, Arms, Arm, PortArms, PortArm, Else, Case as CaseTree, For as ForTree, If as IfTree, While as WhileTree, Try as TryTree, Select as SelectTree}
 use Rattle.herm_syntax.specs.ReadStatements as reading
-use Rattle.herm_syntax.specs.Views.{letters, path_of, expression_of, statement_of, statements_of, arms_of, port_arms_of, otherwise_of, body_of}
+use Rattle.herm_syntax.specs.View.{name_view, path_form_view, expr_view, stmt_form_view, stmt_rows_view, arms_view, port_arms_view, otherwise_view, stmts_view}
 use Rattle.herm_parser.specs.Along.{◌>>=◌, past_token, past_name, past_path, past_expression}
 use Rattle.herm_parser.specs.Walk.{Walked, Moved, past_end, past_pair, blocked, stated, walk_form, walk_statements, walk_arms, walk_port_arms, walk_otherwise, walk_body, walk_arm, walk_each, walk_port_arm, walk_else}
-use Rattle.herm_parser.specs.Blocks.{arm_of, port_arm_of, else_of}
+use Rattle.herm_parser.specs.Blocks.{arm_view, port_arm_view, else_view}
 
 alike : {A B : Type 0} → (first : Option A) (f g : A → Option B) → ((a : A) → f a ≡ g a) → (first >>= f) ≡ (first >>= g)
 alike None f g same = refl
@@ -25,9 +25,9 @@ then_same x y f g e h = ap (λ t. t >>= f) e ∙ ap (λ k. y >>= k) h
 
 -- ---- blocks
 
-rows_seen : {m : _} (others : forms.Row_of-Stmt m) → statements_of others ≡ body_of (forms.items-the_row-Stmt m others)
+rows_seen : {m : _} (others : forms.Row_of-Stmt m) → stmt_rows_view others ≡ stmts_view (forms.items-the_row-Stmt m others)
 rows_seen forms.end_of-Stmt = refl
-rows_seen (forms.more_of-Stmt number span form others) = ap (λ t. Further (statement_of form) t) (rows_seen others)
+rows_seen (forms.more_of-Stmt number span form others) = ap (λ t. Further (stmt_form_view form) t) (rows_seen others)
 
 rows_walk_at : {m : _} (others : forms.Row_of-Stmt m) (n : ℕ) (tokens : List Token) → walk_statements others n tokens ≡ walk_body (forms.items-the_row-Stmt m others) n tokens
 rows_walk_at forms.end_of-Stmt n tokens = refl
@@ -59,11 +59,11 @@ while_rows e body = forms.items_hidden-the_row-Stmt-0 body
 if_rows : (e : Expr) (body : Vec Stmt Global) (other : Option (Vec Stmt Global)) → forms.items-the_row-Stmt (row_in (If e body other)).0 (row_in (If e body other)).1 ≡ body.items
 if_rows e body other = forms.items_hidden-the_row-Stmt-0 body
 
-pub for_seen : (r t : PathForm) (body : Vec Stmt Global) → statement_of (For r t body) ≡ ForTree (path_of r) (path_of t) (body_of body.items)
-for_seen r t body = ap (λ b. ForTree (path_of r) (path_of t) b) (rows_seen (row_in (For r t body)).1 ∙ ap body_of (for_rows r t body))
+pub for_seen : (r t : PathForm) (body : Vec Stmt Global) → stmt_form_view (For r t body) ≡ ForTree (path_form_view r) (path_form_view t) (stmts_view body.items)
+for_seen r t body = ap (λ b. ForTree (path_form_view r) (path_form_view t) b) (rows_seen (row_in (For r t body)).1 ∙ ap stmts_view (for_rows r t body))
 
-pub while_seen : (e : Expr) (body : Vec Stmt Global) → statement_of (While e body) ≡ WhileTree (expression_of e) (body_of body.items)
-while_seen e body = ap (λ b. WhileTree (expression_of e) b) (rows_seen (row_in (While e body)).1 ∙ ap body_of (while_rows e body))
+pub while_seen : (e : Expr) (body : Vec Stmt Global) → stmt_form_view (While e body) ≡ WhileTree (expr_view e) (stmts_view body.items)
+while_seen e body = ap (λ b. WhileTree (expr_view e) b) (rows_seen (row_in (While e body)).1 ∙ ap stmts_view (while_rows e body))
 
 pub for_walk : (r t : PathForm) (body : Vec Stmt Global) (n : ℕ) (tokens : List Token) →
     walk_form (For r t body) n tokens ≡ (past_token tokens >>= λ a. past_pair r t a >>= λ b. blocked (walk_body body.items) n b)
@@ -86,14 +86,14 @@ else_row forms.None' = (_, forms.end_of-Stmt)
 else_rows : (e : Expr) (body x : Vec Stmt Global) → forms.items-the_row-Stmt (else_row (otherwise_in (If e body (Some x)))).0 (else_row (otherwise_in (If e body (Some x)))).1 ≡ x.items
 else_rows e body x = forms.items_hidden-the_row-Stmt-0 x
 
-else_seen : (e : Expr) (body : Vec Stmt Global) (other : Option (Vec Stmt Global)) → otherwise_of (otherwise_in (If e body other)) ≡ else_of other
+else_seen : (e : Expr) (body : Vec Stmt Global) (other : Option (Vec Stmt Global)) → otherwise_view (otherwise_in (If e body other)) ≡ else_view other
 else_seen e body None = refl
-else_seen e body (Some x) = ap (λ b. Else b) (rows_seen (else_row (otherwise_in (If e body (Some x)))).1 ∙ ap body_of (else_rows e body x))
+else_seen e body (Some x) = ap (λ b. Else b) (rows_seen (else_row (otherwise_in (If e body (Some x)))).1 ∙ ap stmts_view (else_rows e body x))
 
-pub if_seen : (e : Expr) (body : Vec Stmt Global) (other : Option (Vec Stmt Global)) → statement_of (If e body other) ≡ IfTree (expression_of e) (body_of body.items) (else_of other)
+pub if_seen : (e : Expr) (body : Vec Stmt Global) (other : Option (Vec Stmt Global)) → stmt_form_view (If e body other) ≡ IfTree (expr_view e) (stmts_view body.items) (else_view other)
 if_seen e body other =
-    ap (λ b. IfTree (expression_of e) b (otherwise_of (otherwise_in (If e body other)))) (rows_seen (row_in (If e body other)).1 ∙ ap body_of (if_rows e body other))
-    ∙ ap (λ o. IfTree (expression_of e) (body_of body.items) o) (else_seen e body other)
+    ap (λ b. IfTree (expr_view e) b (otherwise_view (otherwise_in (If e body other)))) (rows_seen (row_in (If e body other)).1 ∙ ap stmts_view (if_rows e body other))
+    ∙ ap (λ o. IfTree (expr_view e) (stmts_view body.items) o) (else_seen e body other)
 
 else_walk : (e : Expr) (body : Vec Stmt Global) (other : Option (Vec Stmt Global)) (w : ℕ × (ℕ × List Token)) → walk_otherwise (otherwise_in (If e body other)) w ≡ walk_else other w
 else_walk e body None w = refl
@@ -110,10 +110,10 @@ if_walk e body other n tokens =
 arm_same : (n : Letters) (b c : Statements) (r s : Arms) → b ≡ c → r ≡ s → Arm n b r ≡ Arm n c s
 arm_same n b c r s e f = ap (λ t. Arm n t r) e ∙ ap (λ t. Arm n c t) f
 
-arms_rows : {m : _} (arms : forms.Row_of-StmtForm-Case-1-3 m) → arms_of arms ≡ reading.arms_of (map arm_of (forms.items-the_row-StmtForm-Case-1-3 m arms))
+arms_rows : {m : _} (arms : forms.Row_of-StmtForm-Case-1-3 m) → arms_view arms ≡ reading.arms_of (map arm_view (forms.items-the_row-StmtForm-Case-1-3 m arms))
 arms_rows forms.end_of-StmtForm-Case-1-3 = refl
 arms_rows (forms.more_of-StmtForm-Case-1-3 name shape body others) =
-    arm_same (letters name) (statements_of body) _ (arms_of others) _ (rows_seen body ∙ ap body_of (sym (forms.items_shown-the_row-Stmt-0 shape body))) (arms_rows others)
+    arm_same (name_view name) (stmt_rows_view body) _ (arms_view others) _ (rows_seen body ∙ ap stmts_view (sym (forms.items_shown-the_row-Stmt-0 shape body))) (arms_rows others)
 
 arms_walk_at : {m : _} (arms : forms.Row_of-StmtForm-Case-1-3 m) (w : ℕ × (ℕ × List Token)) → walk_arms arms w ≡ walk_each walk_arm (forms.items-the_row-StmtForm-Case-1-3 m arms) w
 arms_walk_at forms.end_of-StmtForm-Case-1-3 w = refl
@@ -129,8 +129,8 @@ arms_in form = (_, forms.end_of-StmtForm-Case-1-3)
 case_rows : (v : PathForm) (arms : Vec (Name × Vec Stmt Global) Global) → forms.items-the_row-StmtForm-Case-1-3 (arms_in (Case v arms)).0 (arms_in (Case v arms)).1 ≡ arms.items
 case_rows v arms = forms.items_hidden-the_row-StmtForm-Case-1-3-1 arms
 
-pub case_seen : (v : PathForm) (arms : Vec (Name × Vec Stmt Global) Global) → statement_of (Case v arms) ≡ CaseTree (path_of v) (reading.arms_of (map arm_of arms.items))
-case_seen v arms = ap (λ a. CaseTree (path_of v) a) (arms_rows (arms_in (Case v arms)).1 ∙ ap (λ list. reading.arms_of (map arm_of list)) (case_rows v arms))
+pub case_seen : (v : PathForm) (arms : Vec (Name × Vec Stmt Global) Global) → stmt_form_view (Case v arms) ≡ CaseTree (path_form_view v) (reading.arms_of (map arm_view arms.items))
+case_seen v arms = ap (λ a. CaseTree (path_form_view v) a) (arms_rows (arms_in (Case v arms)).1 ∙ ap (λ list. reading.arms_of (map arm_view list)) (case_rows v arms))
 
 pub case_walk : (v : PathForm) (arms : Vec (Name × Vec Stmt Global) Global) (n : ℕ) (tokens : List Token) →
     walk_form (Case v arms) n tokens ≡ (past_token tokens >>= λ a. past_path v a >>= λ b. past_token b >>= λ c. walk_each walk_arm arms.items (n, (0, c)) >>= λ w. past_end w.0 w.1.1)
@@ -143,10 +143,10 @@ try_rows body handled = forms.items_hidden-the_row-Stmt-0 body
 handled_rows : (body : Vec Stmt Global) (handled : Vec (Name × Vec Stmt Global) Global) → forms.items-the_row-StmtForm-Case-1-3 (arms_in (Try body handled)).0 (arms_in (Try body handled)).1 ≡ handled.items
 handled_rows body handled = forms.items_hidden-the_row-StmtForm-Case-1-3-1 handled
 
-pub try_seen : (body : Vec Stmt Global) (handled : Vec (Name × Vec Stmt Global) Global) → statement_of (Try body handled) ≡ TryTree (body_of body.items) (reading.arms_of (map arm_of handled.items))
+pub try_seen : (body : Vec Stmt Global) (handled : Vec (Name × Vec Stmt Global) Global) → stmt_form_view (Try body handled) ≡ TryTree (stmts_view body.items) (reading.arms_of (map arm_view handled.items))
 try_seen body handled =
-    ap (λ b. TryTree b (arms_of (arms_in (Try body handled)).1)) (rows_seen (row_in (Try body handled)).1 ∙ ap body_of (try_rows body handled))
-    ∙ ap (λ a. TryTree (body_of body.items) a) (arms_rows (arms_in (Try body handled)).1 ∙ ap (λ list. reading.arms_of (map arm_of list)) (handled_rows body handled))
+    ap (λ b. TryTree b (arms_view (arms_in (Try body handled)).1)) (rows_seen (row_in (Try body handled)).1 ∙ ap stmts_view (try_rows body handled))
+    ∙ ap (λ a. TryTree (stmts_view body.items) a) (arms_rows (arms_in (Try body handled)).1 ∙ ap (λ list. reading.arms_of (map arm_view list)) (handled_rows body handled))
 
 pub try_walk : (body : Vec Stmt Global) (handled : Vec (Name × Vec Stmt Global) Global) (n : ℕ) (tokens : List Token) →
     walk_form (Try body handled) n tokens ≡ (past_token tokens >>= λ a. blocked (walk_body body.items) n a >>= λ w. walk_each walk_arm handled.items w)
@@ -159,10 +159,10 @@ try_walk body handled n tokens =
 port_arm_same : (p t : Path) (b c : Statements) (r s : PortArms) → b ≡ c → r ≡ s → PortArm p t b r ≡ PortArm p t c s
 port_arm_same p t b c r s e f = ap (λ x. PortArm p t x r) e ∙ ap (λ x. PortArm p t c x) f
 
-port_rows : {m : _} (arms : forms.Row_of-StmtForm-Select-0-4 m) → port_arms_of arms ≡ reading.port_arms_of (map port_arm_of (forms.items-the_row-StmtForm-Select-0-4 m arms))
+port_rows : {m : _} (arms : forms.Row_of-StmtForm-Select-0-4 m) → port_arms_view arms ≡ reading.port_arms_of (map port_arm_view (forms.items-the_row-StmtForm-Select-0-4 m arms))
 port_rows forms.end_of-StmtForm-Select-0-4 = refl
 port_rows (forms.more_of-StmtForm-Select-0-4 port target shape body others) =
-    port_arm_same (path_of port) (path_of target) (statements_of body) _ (port_arms_of others) _ (rows_seen body ∙ ap body_of (sym (forms.items_shown-the_row-Stmt-0 shape body))) (port_rows others)
+    port_arm_same (path_form_view port) (path_form_view target) (stmt_rows_view body) _ (port_arms_view others) _ (rows_seen body ∙ ap stmts_view (sym (forms.items_shown-the_row-Stmt-0 shape body))) (port_rows others)
 
 port_walk_at : {m : _} (arms : forms.Row_of-StmtForm-Select-0-4 m) (w : ℕ × (ℕ × List Token)) → walk_port_arms arms w ≡ walk_each walk_port_arm (forms.items-the_row-StmtForm-Select-0-4 m arms) w
 port_walk_at forms.end_of-StmtForm-Select-0-4 w = refl
@@ -177,8 +177,8 @@ ports_in form = (_, forms.end_of-StmtForm-Select-0-4)
 select_rows : (arms : Vec (PathForm × PathForm × Vec Stmt Global) Global) → forms.items-the_row-StmtForm-Select-0-4 (ports_in (Select arms)).0 (ports_in (Select arms)).1 ≡ arms.items
 select_rows arms = forms.items_hidden-the_row-StmtForm-Select-0-4-2 arms
 
-pub select_seen : (arms : Vec (PathForm × PathForm × Vec Stmt Global) Global) → statement_of (Select arms) ≡ SelectTree (reading.port_arms_of (map port_arm_of arms.items))
-select_seen arms = ap (λ a. SelectTree a) (port_rows (ports_in (Select arms)).1 ∙ ap (λ list. reading.port_arms_of (map port_arm_of list)) (select_rows arms))
+pub select_seen : (arms : Vec (PathForm × PathForm × Vec Stmt Global) Global) → stmt_form_view (Select arms) ≡ SelectTree (reading.port_arms_of (map port_arm_view arms.items))
+select_seen arms = ap (λ a. SelectTree a) (port_rows (ports_in (Select arms)).1 ∙ ap (λ list. reading.port_arms_of (map port_arm_view list)) (select_rows arms))
 
 pub select_walk : (arms : Vec (PathForm × PathForm × Vec Stmt Global) Global) (n : ℕ) (tokens : List Token) →
     walk_form (Select arms) n tokens ≡ (past_token tokens >>= λ a. past_token a >>= λ b. walk_each walk_port_arm arms.items (n, (0, b)) >>= λ w. past_end w.0 w.1.1)

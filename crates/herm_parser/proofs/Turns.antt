@@ -3,7 +3,8 @@ use Rattle.std.proofs.Common.{◌≡◌, ℕ, List, [], ◌∷◌, ◌++◌, Opt
 use Rattle.herm_readers.specs.Reader.{Reader}
 use Rattle.herm_alphabet.specs.declared.token.Token.{Token}
 use Rattle.herm_syntax.specs.declared.statements.Stmt.{Stmt}
-use Rattle.herm_syntax.specs.Symbols.{Symbol, is, kw_when, kw_on}
+use Rattle.herm_syntax.specs.Symbols.{Symbol, is}
+use Rattle.herm_syntax.specs.KeywordSymbols.{kw_when, kw_on}
 use Rattle.herm_syntax.specs.Trees.{Statement}
 use Rattle.herm_syntax.specs.ReadExpressions.{read_expression}
 use Rattle.herm_syntax.specs.ReadStatements.{inside, statement_rule, read_statement, read_statements, read_case_arm, read_handler, read_port_arm}

@@ -7,12 +7,13 @@ use Rattle.herm_readers.specs.Brackets.{too_deep}
 use Rattle.herm_readers.proofs.Nesting.{finds_too_deep}
 use Rattle.herm_alphabet.specs.declared.token.Token.{Token}
 use Rattle.herm_syntax.specs.declared.modules.Module.{Module as ModuleForm}
-use Rattle.herm_syntax.specs.Symbols.{Symbol, is, side, kw_definitions, kw_process}
+use Rattle.herm_syntax.specs.Symbols.{Symbol, is, side}
+use Rattle.herm_syntax.specs.KeywordSymbols.{kw_definitions, kw_process}
 use Rattle.herm_syntax.specs.Trees.{Module}
 use Rattle.herm_syntax.specs.ReadExpressions.{read_name, in_parens}
 use Rattle.herm_syntax.specs.ReadStatements.{inside, in_braces, read_statements}
 use Rattle.herm_syntax.specs.ReadModules.{read_module, anything, module_of, read_field, read_item, read_variables}
-use Rattle.herm_syntax.specs.Views as views
+use Rattle.herm_syntax.specs.View as views
 use Rattle.herm_syntax.specs.laws.GrammarLaws.{read_within}
 use Rattle.herm_syntax.proofs.Files.{module_r, module_written}
 use Rattle.herm_syntax.proofs.MendedFits.{fault_begins_source}
@@ -22,8 +23,10 @@ use Rattle.herm_parser.specs.AlongDefinitions.{past_module}
 use Rattle.herm_parser.specs.Blocks.{body_at}
 use Rattle.herm_parser.specs.Modules.{either_module, definitions_at, process_at, module_at}
 use Rattle.herm_parser.specs.Gives.{kinds}
-use Rattle.herm_parser.specs.Parsing.{most_brackets, IsParsed}
-use Rattle.herm_parser.specs.SyntaxFaults.{place_of, IsNested, IsMisspelled}
+use Rattle.herm_parser.specs.OpenBrackets.{most_brackets, IsNested}
+use Rattle.herm_parser.specs.Parsing.{IsParsed}
+use Rattle.herm_parser.specs.TokenPlaces.{place_of}
+use Rattle.herm_parser.specs.SyntaxFaults.{IsMisspelled}
 use Rattle.herm_parser.proofs.Loops.{Goes, goes_by}
 use Rattle.herm_parser.proofs.Numbered.{file_numbered}
 
@@ -63,10 +66,10 @@ no_kinds [] e = refl
 no_kinds (t ∷ tokens) e = absurd (cc)
 
 pub parsed : (tokens rest : List Token) (modules : List ModuleForm) (depth : ℕ) → depth ≡ suc most_brackets → too_deep side (kinds tokens) most_brackets ≡ None →
-    many anything (module_at depth) (kinds tokens) ≡ Read (map views.module_of modules) (kinds rest) → past_each past_module modules tokens ≡ Some rest → IsParsed tokens modules
+    many anything (module_at depth) (kinds tokens) ≡ Read (map views.module_view modules) (kinds rest) → past_each past_module modules tokens ≡ Some rest → IsParsed tokens modules
 parsed tokens rest modules depth deep within read along =
-    let whole : read_within most_brackets (kinds tokens) ≡ Read (map views.module_of modules) (kinds rest) = file_is most_brackets (kinds tokens) ∙ (ap (λ d. many anything (module_at d) (kinds tokens)) (sym deep) ∙ read) in
-    let found = file_is_found most_brackets (kinds tokens) (kinds rest) (map views.module_of modules) whole in
+    let whole : read_within most_brackets (kinds tokens) ≡ Read (map views.module_view modules) (kinds rest) = file_is most_brackets (kinds tokens) ∙ (ap (λ d. many anything (module_at d) (kinds tokens)) (sym deep) ∙ read) in
+    let found = file_is_found most_brackets (kinds tokens) (kinds rest) (map views.module_view modules) whole in
     record {
       within = within;
       program = record { fits = found.0; numbered = file_numbered modules tokens rest along };

@@ -6,23 +6,24 @@ use Rattle.herm_readers.specs.Reader.{Reader}
 use Rattle.herm_readers.specs.Combinators.{mapped, choice}
 use Rattle.herm_syntax.specs.declared.expressions.PathForm.{PathForm}
 use Rattle.herm_syntax.specs.declared.statements.Stmt.{Stmt}
-use Rattle.herm_syntax.specs.Symbols.{Symbol, is, kw_case, kw_for, kw_select, kw_if, kw_while, kw_try}
+use Rattle.herm_syntax.specs.Symbols.{Symbol, is}
+use Rattle.herm_syntax.specs.KeywordSymbols.{kw_case, kw_for, kw_select, kw_if, kw_while, kw_try}
 use Rattle.herm_syntax.specs.Trees.{Letters, Path, Statement, Statements, Otherwise, NoElse, Else, Case, For, Select, If, While, Try, Assign}
 use Rattle.herm_syntax.specs.ReadExpressions.{read_expression}
 use Rattle.herm_syntax.specs.ReadStatements.{read_statements, is_plain, in_braces, read_case_arm, read_port_arm, read_handler, read_otherwise, read_case, read_for, read_select, read_if, read_while, read_try, read_assign}
-use Rattle.herm_syntax.specs.Views.{letters, path_of, body_of}
+use Rattle.herm_syntax.specs.View.{name_view, path_form_view, stmts_view}
 use Rattle.herm_parser.specs.Forms.{either, plain_at}
 
 -- Arms of the code as the grammar's.
-abbrev pub arm_of : Name × Vec Stmt Global → Letters × Statements
-arm_of a = (letters a.0, body_of a.1.items)
+abbrev pub arm_view : Name × Vec Stmt Global → Letters × Statements
+arm_view a = (name_view a.0, stmts_view a.1.items)
 
-abbrev pub port_arm_of : PathForm × PathForm × Vec Stmt Global → Path × (Path × Statements)
-port_arm_of a = (path_of a.0, (path_of a.1, body_of a.2.items))
+abbrev pub port_arm_view : PathForm × PathForm × Vec Stmt Global → Path × (Path × Statements)
+port_arm_view a = (path_form_view a.0, (path_form_view a.1, stmts_view a.2.items))
 
-abbrev pub else_of : Option (Vec Stmt Global) → Otherwise
-else_of None = NoElse
-else_of (Some body) = Else (body_of body.items)
+abbrev pub else_view : Option (Vec Stmt Global) → Otherwise
+else_view None = NoElse
+else_view (Some body) = Else (stmts_view body.items)
 
 -- Statements up to the brace that closes their block.
 unfoldable pub body_at : ℕ → Reader Symbol Statements

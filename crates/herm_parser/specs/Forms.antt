@@ -3,7 +3,8 @@ use Rattle.std.specs.Prelude.{◌⊎◌}
 use mathlib.Core.Logic.{inl, inr}
 use Rattle.herm_readers.specs.Reader.{Reader}
 use Rattle.herm_readers.specs.Combinators.{mapped, choice}
-use Rattle.herm_syntax.specs.Symbols.{Symbol, is, kw_unwrap, kw_call, kw_return, kw_create, kw_raise}
+use Rattle.herm_syntax.specs.Symbols.{Symbol, is}
+use Rattle.herm_syntax.specs.KeywordSymbols.{kw_unwrap, kw_call, kw_return, kw_create, kw_raise}
 use Rattle.herm_syntax.specs.Trees.{Statement, Unwrap, Call, Create, Raise, Leave}
 use Rattle.herm_syntax.specs.Words.{two_paths, one_path, keyed, is_transfer, is_touch, is_find}
 use Rattle.herm_syntax.specs.ReadStatements.{read_two_paths, read_one_path, read_keyed, read_unwrap, read_call, read_return, read_create, read_raise, read_leave, return_of}

@@ -4,10 +4,6 @@ use Rattle.herm_alphabet.specs.declared.token.Token.{Token}
 use Rattle.herm_readers.specs.Reader.{Answer, Read, Fault}
 use Rattle.herm_readers.specs.Combinators.{onward}
 use Rattle.herm_syntax.specs.Symbols.{Symbol}
-use Rattle.std.specs.Option.{option_map}
-use Rattle.herm_syntax.specs.declared.expressions.Unary.{Unary as UnaryForm}
-use Rattle.herm_syntax.specs.Trees.{Expression, Unary}
-use Rattle.herm_syntax.specs.Views.{sign_symbol, primary_of}
 use Rattle.herm_parser.specs.declared.stop.Stop.{Stop}
 use Rattle.herm_parser.specs.declared.stop.Stop.TheVariants.{Syntax, Memory}
 
@@ -28,7 +24,3 @@ Gives view left (Err stop) answer = Fails stop answer
 -- What was found before stands in front of the list that is read.
 abbrev pub with_front : {A : Type 0} → List A → Answer Symbol (List A) → Answer Symbol (List A)
 with_front front answer = onward answer (λ found rest. Read (front ++ found) rest)
-
--- An operand with its sign.
-abbrev pub unary_of : UnaryForm → Expression
-unary_of u = Unary (option_map sign_symbol u.op) (primary_of u.primary)

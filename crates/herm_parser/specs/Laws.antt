@@ -2,7 +2,8 @@
 use Rattle.std.specs.Prelude.{◌≡◌, ◌≢◌, List, map}
 use Rattle.herm_alphabet.specs.declared.token.Token.{Token}
 use Rattle.herm_syntax.specs.declared.modules.Module.{Module}
-use Rattle.herm_syntax.specs.Views.{module_of, module_numbers}
+use Rattle.herm_syntax.specs.View.{module_view}
+use Rattle.herm_syntax.specs.StatementNumbers.{module_numbers}
 use Rattle.herm_parser.specs.Parsing.{IsParsed}
 use Rattle.herm_parser.specs.SyntaxFaults.{IsFault}
 use Rattle.herm_parser.specs.declared.fault.ParseFault.{ParseFault}
@@ -10,7 +11,7 @@ use Rattle.herm_parser.specs.declared.fault.ParseFault.TheVariants.{Memory}
 
 -- Modules with the same tokens are one program, with the same numbers (Language reference, "One tree").
 abbrev pub HasOneParse : Type 0
-HasOneParse = (tokens : List Token) (a b : List Module) → IsParsed tokens a → IsParsed tokens b → (map module_of a ≡ map module_of b) × (map module_numbers a ≡ map module_numbers b)
+HasOneParse = (tokens : List Token) (a b : List Module) → IsParsed tokens a → IsParsed tokens b → (map module_view a ≡ map module_view b) × (map module_numbers a ≡ map module_numbers b)
 
 -- Tokens that modules have are refused for want of memory alone.
 abbrev pub ParsedHasNoFault : Type 0

@@ -3,7 +3,8 @@ use Rattle.std.specs.Prelude.{ℕ, ◌⊎◌}
 use mathlib.Core.Logic.{inl, inr}
 use Rattle.herm_readers.specs.Reader.{Reader}
 use Rattle.herm_readers.specs.Combinators.{mapped, choice, preceded, many, sequence}
-use Rattle.herm_syntax.specs.Symbols.{Symbol, is, kw_definitions, kw_process}
+use Rattle.herm_syntax.specs.Symbols.{Symbol, is}
+use Rattle.herm_syntax.specs.KeywordSymbols.{kw_definitions, kw_process}
 use Rattle.herm_syntax.specs.Trees.{Module}
 use Rattle.herm_syntax.specs.ReadExpressions.{read_name, in_parens}
 use Rattle.herm_syntax.specs.ReadStatements.{inside, in_braces}

@@ -2,7 +2,8 @@
 use Rattle.std.specs.Prelude.{List}
 use Rattle.herm_readers.specs.Reader.{Reader}
 use Rattle.herm_readers.specs.Combinators.{one, sequence, preceded, terminated}
-use Rattle.herm_syntax.specs.Symbols.{Symbol, is, kw_callmessage, kw_enum, kw_exception, kw_full, kw_inport, kw_key, kw_of, kw_outport, kw_record, kw_table, kw_type, kw_variant, paren_close, semicolon, equal}
+use Rattle.herm_syntax.specs.Symbols.{Symbol, is, paren_close, semicolon, equal}
+use Rattle.herm_syntax.specs.KeywordSymbols.{kw_callmessage, kw_enum, kw_exception, kw_full, kw_inport, kw_key, kw_of, kw_outport, kw_record, kw_table, kw_type, kw_variant}
 use Rattle.herm_syntax.specs.Trees.{Letters, Field, Mode, Param, Raising, DeclaredFact, Shape}
 use Rattle.herm_syntax.specs.ReadExpressions.{read_name, read_part, in_parens}
 use Rattle.herm_syntax.specs.ReadStatements.{in_braces, listed}

@@ -1,11 +1,9 @@
 -- The faults of tokens that have no trees, and their places. Language reference, "The place of a syntax fault".
-use Rattle.std.specs.Prelude.{◌≡◌, ◌≢◌, ℕ, zero, suc, ◌-◌, List, [], ◌∷◌, ◌++◌, length, drop}
+use Rattle.std.specs.Prelude.{◌≡◌, ◌≢◌, ℕ, suc, List, ◌∷◌, ◌++◌, length}
 use Rattle.std.specs.List.{AllByRecursion}
 use Rattle.herm_alphabet.specs.Tokens.{IsSourceKind}
 use Rattle.herm_alphabet.specs.declared.token.Token.{Token}
-use Rattle.herm_readers.specs.Brackets.{IsTooDeep}
-use Rattle.herm_syntax.specs.declared.modules.Module.{Module}
-use Rattle.herm_syntax.specs.Symbols.{Symbol, side}
+use Rattle.herm_syntax.specs.Symbols.{Symbol}
 use Rattle.herm_syntax.specs.Trees as trees
 use Rattle.herm_syntax.specs.Spelling.{file}
 use Rattle.herm_syntax.specs.Fitting.{IsFile}
@@ -13,28 +11,8 @@ use Rattle.herm_syntax.specs.laws.GrammarLaws.{IsWithinRoom, BeginsFile, BeginsS
 use Rattle.herm_parser.specs.Gives.{kinds}
 use Rattle.herm_parser.specs.declared.fault.ParseFault.{ParseFault}
 use Rattle.herm_parser.specs.declared.fault.ParseFault.TheVariants as faults
-use Rattle.herm_parser.specs.Parsing.{most_brackets}
-
--- The end of the first of some tokens, and its start.
-abbrev pub end_first : List Token → ℕ
-end_first [] = 0
-end_first (t ∷ tokens) = t.span.end
-
-abbrev pub start_of : List Token → ℕ
-start_of [] = 0
-start_of (t ∷ tokens) = t.span.start
-
--- The place in bytes of the token from which on so many are left, or behind the last one where none is
--- (Language reference, "The place of a syntax fault").
-abbrev pub place_of : List Token → ℕ → ℕ
-place_of tokens zero = end_first (drop (length tokens - 1) tokens)
-place_of tokens (suc left) = start_of (drop (length tokens - suc left) tokens)
-
--- A bracket is open too many, and that is the first, at this place (Language reference, "Open brackets").
-pub record IsNested (tokens : List Token) (offset : ℕ) : Type 0 where
-  pub left : ℕ
-  pub deep : IsTooDeep side most_brackets (kinds tokens) left
-  pub place : offset ≡ place_of tokens left
+use Rattle.herm_parser.specs.OpenBrackets.{most_brackets, IsNested}
+use Rattle.herm_parser.specs.TokenPlaces.{place_of}
 
 -- No modules have these tokens. The tokens before the fault begin a list of modules, one that a source file can have where the
 -- tokens are ones that it can have, and those up to the fault, with it, begin none; or the fault stands behind the last token

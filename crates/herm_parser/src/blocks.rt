@@ -2,10 +2,11 @@
 ghost use Rattle.std.specs.Prelude.{◌≡◌, ◌<◌, ◌-◌, suc, map, None, Some, IfOk, IfErr};
 ghost use Rattle.herm_readers.specs.Reader.{ahead};
 ghost use Rattle.herm_readers.specs.Combinators.{many, passes, skip, sequence};
-ghost use Rattle.herm_syntax.specs.Symbols.{is, brace_close, kw_on, kw_when};
+ghost use Rattle.herm_syntax.specs.Symbols.{is, brace_close};
+ghost use Rattle.herm_syntax.specs.KeywordSymbols.{kw_on, kw_when};
 ghost use Rattle.herm_syntax.specs.ReadStatements.{inside, arms_of, port_arms_of, some_arms_of, some_port_arms_of};
-ghost use Rattle.herm_syntax.specs.Views.{statement_of, body_of};
-ghost use Rattle.herm_parser.specs.Blocks.{arm_of, port_arm_of, else_of, body_at, block_at, case_arm_at, handler_at, port_arm_at, otherwise_at, case_at, for_at, select_at, if_at, while_at, try_at, assign_at, compound_at, statement_at};
+ghost use Rattle.herm_syntax.specs.View.{stmt_form_view, stmts_view};
+ghost use Rattle.herm_parser.specs.Blocks.{arm_view, port_arm_view, else_view, body_at, block_at, case_arm_at, handler_at, port_arm_at, otherwise_at, case_at, for_at, select_at, if_at, while_at, try_at, assign_at, compound_at, statement_at};
 ghost use Rattle.herm_parser.specs.Walk.{past_end, blocked, walk_form, walk_statement, walk_body, walk_each, walk_arm, walk_port_arm, walk_else};
 ghost use Rattle.herm_parser.specs.Gives.{kinds, Gives};
 ghost use Rattle.herm_parser.specs.declared.stop.Stop.TheVariants.{Memory};
@@ -59,7 +60,7 @@ fn brace(tokens: &[Token]) -> Result<(u32, &[Token]), Stop>
 /// `path := expression ;`
 #[tactic(auto, unfolding(crate::specs::Blocks::assign_at))]
 fn assign(alloc: Global, depth: usize, tokens: &[Token]) -> Result<(StmtForm, u32, &[Token]), Stop>
-    ensures read { Gives (λ x. statement_of x.0) (λ x. x.2.now) result (assign_at depth (kinds tokens.now)) }
+    ensures read { Gives (λ x. stmt_form_view x.0) (λ x. x.2.now) result (assign_at depth (kinds tokens.now)) }
     ensures along { IfOk result (λ x. (n : _) → walk_form x.0 n tokens.now ≡ Some (n, (x.1, x.2.now))) }
 {
     let (target, rest) = path(alloc, tokens)?;
@@ -77,7 +78,7 @@ fn further(
     next: u32,
     tokens: &[Token],
 ) -> Result<(Vec<Stmt>, u32, &[Token]), Stop>
-    ensures read { Gives (λ x. map (λ s. statement_of s.form) x.0.items) (λ x. x.2.now) result (many inside (statement_at depth) (kinds tokens.now)) }
+    ensures read { Gives (λ x. map (λ s. stmt_form_view s.form) x.0.items) (λ x. x.2.now) result (many inside (statement_at depth) (kinds tokens.now)) }
     ensures along { IfOk result (λ x. walk_body x.0.items next tokens.now ≡ Some (x.1, x.2.now)) }
 {
     let mut found = Vec::new(alloc);
@@ -101,7 +102,7 @@ pub fn body(
     next: u32,
     tokens: &[Token],
 ) -> Result<(Vec<Stmt>, u32, &[Token]), Stop>
-    ensures read { Gives (λ x. body_of x.0.items) (λ x. x.2.now) result (body_at depth (kinds tokens.now)) }
+    ensures read { Gives (λ x. stmts_view x.0.items) (λ x. x.2.now) result (body_at depth (kinds tokens.now)) }
     ensures along { IfOk result (λ x. walk_body x.0.items next tokens.now ≡ Some (x.1, x.2.now)) }
 {
     if depth == 0 {
@@ -120,7 +121,7 @@ fn block(
     next: u32,
     tokens: &[Token],
 ) -> Result<(Vec<Stmt>, u32, u32, &[Token]), Stop>
-    ensures read { Gives (λ x. body_of x.0.items) (λ x. x.3.now) result (block_at depth (kinds tokens.now)) }
+    ensures read { Gives (λ x. stmts_view x.0.items) (λ x. x.3.now) result (block_at depth (kinds tokens.now)) }
     ensures along { IfOk result (λ x. blocked (walk_body x.0.items) next tokens.now ≡ Some (x.1, (x.2, x.3.now))) }
 {
     let rest = sign(tokens, Mark::BraceOpen)?;
@@ -138,7 +139,7 @@ fn case_arm(
     next: u32,
     tokens: &[Token],
 ) -> Result<((Name, Vec<Stmt>), u32, u32, &[Token]), Stop>
-    ensures read { Gives (λ x. arm_of x.0) (λ x. x.3.now) result (case_arm_at depth (kinds tokens.now)) }
+    ensures read { Gives (λ x. arm_view x.0) (λ x. x.3.now) result (case_arm_at depth (kinds tokens.now)) }
     ensures along { IfOk result (λ x. (e : _) → walk_arm x.0 (next, (e, tokens.now)) ≡ Some (x.1, (x.2, x.3.now))) }
 {
     let rest = key(tokens, Keyword::KwWhen)?;
@@ -156,7 +157,7 @@ fn handler(
     next: u32,
     tokens: &[Token],
 ) -> Result<((Name, Vec<Stmt>), u32, u32, &[Token]), Stop>
-    ensures read { Gives (λ x. arm_of x.0) (λ x. x.3.now) result (handler_at depth (kinds tokens.now)) }
+    ensures read { Gives (λ x. arm_view x.0) (λ x. x.3.now) result (handler_at depth (kinds tokens.now)) }
     ensures along { IfOk result (λ x. (e : _) → walk_arm x.0 (next, (e, tokens.now)) ≡ Some (x.1, (x.2, x.3.now))) }
 {
     let rest = key(tokens, Keyword::KwOn)?;
@@ -174,7 +175,7 @@ fn port_arm(
     next: u32,
     tokens: &[Token],
 ) -> Result<((PathForm, PathForm, Vec<Stmt>), u32, u32, &[Token]), Stop>
-    ensures read { Gives (λ x. port_arm_of x.0) (λ x. x.3.now) result (port_arm_at depth (kinds tokens.now)) }
+    ensures read { Gives (λ x. port_arm_view x.0) (λ x. x.3.now) result (port_arm_at depth (kinds tokens.now)) }
     ensures along { IfOk result (λ x. (e : _) → walk_port_arm x.0 (next, (e, tokens.now)) ≡ Some (x.1, (x.2, x.3.now))) }
 {
     let rest = key(tokens, Keyword::KwWhen)?;
@@ -194,7 +195,7 @@ fn case_arms(
     end: u32,
     tokens: &[Token],
 ) -> Result<(Vec<(Name, Vec<Stmt>)>, u32, u32, &[Token]), Stop>
-    ensures read { Gives (λ x. map arm_of x.0.items) (λ x. x.3.now) result (many (is kw_when) (case_arm_at depth) (kinds tokens.now)) }
+    ensures read { Gives (λ x. map arm_view x.0.items) (λ x. x.3.now) result (many (is kw_when) (case_arm_at depth) (kinds tokens.now)) }
     ensures along { IfOk result (λ x. walk_each walk_arm x.0.items (next, (end, tokens.now)) ≡ Some (x.1, (x.2, x.3.now))) }
 {
     let mut found = Vec::new(alloc);
@@ -220,7 +221,7 @@ fn handlers(
     end: u32,
     tokens: &[Token],
 ) -> Result<(Vec<(Name, Vec<Stmt>)>, u32, u32, &[Token]), Stop>
-    ensures read { Gives (λ x. map arm_of x.0.items) (λ x. x.3.now) result (many (is kw_on) (handler_at depth) (kinds tokens.now)) }
+    ensures read { Gives (λ x. map arm_view x.0.items) (λ x. x.3.now) result (many (is kw_on) (handler_at depth) (kinds tokens.now)) }
     ensures along { IfOk result (λ x. walk_each walk_arm x.0.items (next, (end, tokens.now)) ≡ Some (x.1, (x.2, x.3.now))) }
 {
     let mut found = Vec::new(alloc);
@@ -246,7 +247,7 @@ fn port_arms(
     end: u32,
     tokens: &[Token],
 ) -> Result<(Vec<(PathForm, PathForm, Vec<Stmt>)>, u32, u32, &[Token]), Stop>
-    ensures read { Gives (λ x. map port_arm_of x.0.items) (λ x. x.3.now) result (many (is kw_when) (port_arm_at depth) (kinds tokens.now)) }
+    ensures read { Gives (λ x. map port_arm_view x.0.items) (λ x. x.3.now) result (many (is kw_when) (port_arm_at depth) (kinds tokens.now)) }
     ensures along { IfOk result (λ x. walk_each walk_port_arm x.0.items (next, (end, tokens.now)) ≡ Some (x.1, (x.2, x.3.now))) }
 {
     let mut found = Vec::new(alloc);
@@ -273,7 +274,7 @@ fn otherwise(
     end: u32,
     tokens: &[Token],
 ) -> Result<(Option<Vec<Stmt>>, u32, u32, &[Token]), Stop>
-    ensures read { Gives (λ x. else_of x.0) (λ x. x.3.now) result (otherwise_at depth (kinds tokens.now)) }
+    ensures read { Gives (λ x. else_view x.0) (λ x. x.3.now) result (otherwise_at depth (kinds tokens.now)) }
     ensures along { IfOk result (λ x. walk_else x.0 (next, (end, tokens.now)) ≡ Some (x.1, (x.2, x.3.now))) }
 {
     if key_ahead(tokens, Keyword::KwElse) {
@@ -293,7 +294,7 @@ fn case_form(
     next: u32,
     tokens: &[Token],
 ) -> Result<(StmtForm, u32, u32, &[Token]), Stop>
-    ensures read { Gives (λ x. statement_of x.0) (λ x. x.3.now) result (case_at depth (kinds tokens.now)) }
+    ensures read { Gives (λ x. stmt_form_view x.0) (λ x. x.3.now) result (case_at depth (kinds tokens.now)) }
     ensures along { IfOk result (λ x. walk_form x.0 next tokens.now ≡ Some (x.1, (x.2, x.3.now))) }
 {
     let rest = key(tokens, Keyword::KwCase)?;
@@ -315,7 +316,7 @@ fn for_form(
     next: u32,
     tokens: &[Token],
 ) -> Result<(StmtForm, u32, u32, &[Token]), Stop>
-    ensures read { Gives (λ x. statement_of x.0) (λ x. x.3.now) result (for_at depth (kinds tokens.now)) }
+    ensures read { Gives (λ x. stmt_form_view x.0) (λ x. x.3.now) result (for_at depth (kinds tokens.now)) }
     ensures along { IfOk result (λ x. walk_form x.0 next tokens.now ≡ Some (x.1, (x.2, x.3.now))) }
 {
     let rest = key(tokens, Keyword::KwFor)?;
@@ -335,7 +336,7 @@ fn select_form(
     next: u32,
     tokens: &[Token],
 ) -> Result<(StmtForm, u32, u32, &[Token]), Stop>
-    ensures read { Gives (λ x. statement_of x.0) (λ x. x.3.now) result (select_at depth (kinds tokens.now)) }
+    ensures read { Gives (λ x. stmt_form_view x.0) (λ x. x.3.now) result (select_at depth (kinds tokens.now)) }
     ensures along { IfOk result (λ x. walk_form x.0 next tokens.now ≡ Some (x.1, (x.2, x.3.now))) }
 {
     let rest = key(tokens, Keyword::KwSelect)?;
@@ -356,7 +357,7 @@ fn if_form(
     next: u32,
     tokens: &[Token],
 ) -> Result<(StmtForm, u32, u32, &[Token]), Stop>
-    ensures read { Gives (λ x. statement_of x.0) (λ x. x.3.now) result (if_at depth (kinds tokens.now)) }
+    ensures read { Gives (λ x. stmt_form_view x.0) (λ x. x.3.now) result (if_at depth (kinds tokens.now)) }
     ensures along { IfOk result (λ x. walk_form x.0 next tokens.now ≡ Some (x.1, (x.2, x.3.now))) }
 {
     let rest = key(tokens, Keyword::KwIf)?;
@@ -377,7 +378,7 @@ fn while_form(
     next: u32,
     tokens: &[Token],
 ) -> Result<(StmtForm, u32, u32, &[Token]), Stop>
-    ensures read { Gives (λ x. statement_of x.0) (λ x. x.3.now) result (while_at depth (kinds tokens.now)) }
+    ensures read { Gives (λ x. stmt_form_view x.0) (λ x. x.3.now) result (while_at depth (kinds tokens.now)) }
     ensures along { IfOk result (λ x. walk_form x.0 next tokens.now ≡ Some (x.1, (x.2, x.3.now))) }
 {
     let rest = key(tokens, Keyword::KwWhile)?;
@@ -395,7 +396,7 @@ fn try_form(
     next: u32,
     tokens: &[Token],
 ) -> Result<(StmtForm, u32, u32, &[Token]), Stop>
-    ensures read { Gives (λ x. statement_of x.0) (λ x. x.3.now) result (try_at depth (kinds tokens.now)) }
+    ensures read { Gives (λ x. stmt_form_view x.0) (λ x. x.3.now) result (try_at depth (kinds tokens.now)) }
     ensures along { IfOk result (λ x. walk_form x.0 next tokens.now ≡ Some (x.1, (x.2, x.3.now))) }
 {
     let rest = key(tokens, Keyword::KwTry)?;
@@ -417,7 +418,7 @@ fn compound(
     next: u32,
     tokens: &[Token],
 ) -> Result<(StmtForm, u32, u32, &[Token]), Stop>
-    ensures read { Gives (λ x. statement_of x.0) (λ x. x.3.now) result (compound_at depth (kinds tokens.now)) }
+    ensures read { Gives (λ x. stmt_form_view x.0) (λ x. x.3.now) result (compound_at depth (kinds tokens.now)) }
     ensures along { IfOk result (λ x. walk_form x.0 next tokens.now ≡ Some (x.1, (x.2, x.3.now))) }
 {
     if key_ahead(tokens, Keyword::KwCase) {
@@ -457,7 +458,7 @@ fn form(
     next: u32,
     tokens: &[Token],
 ) -> Result<(StmtForm, u32, u32, &[Token]), Stop>
-    ensures read { Gives (λ x. statement_of x.0) (λ x. x.3.now) result (statement_at depth (kinds tokens.now)) }
+    ensures read { Gives (λ x. stmt_form_view x.0) (λ x. x.3.now) result (statement_at depth (kinds tokens.now)) }
     ensures along { IfOk result (λ x. walk_form x.0 next tokens.now ≡ Some (x.1, (x.2, x.3.now))) }
 {
     if plain_ahead(tokens) {
@@ -477,7 +478,7 @@ fn statement(
     next: u32,
     tokens: &[Token],
 ) -> Result<(Stmt, u32, &[Token]), Stop>
-    ensures read { Gives (λ x. statement_of x.0.form) (λ x. x.2.now) result (statement_at depth (kinds tokens.now)) }
+    ensures read { Gives (λ x. stmt_form_view x.0.form) (λ x. x.2.now) result (statement_at depth (kinds tokens.now)) }
     ensures along { IfOk result (λ x. walk_statement x.0 next tokens.now ≡ Some (x.1, x.2.now)) }
 {
     match tokens {

@@ -3,12 +3,12 @@ ghost use Rattle.std.specs.Prelude.{◌≡◌, ◌≤◌, ◌<◌, ◌^◌, ℕ,
 ghost use Rattle.herm_readers.specs.Brackets.{too_deep, too_deep_step};
 ghost use Rattle.herm_syntax.specs.Symbols.{side};
 ghost use Rattle.herm_parser.specs.Gives.{kinds};
-ghost use Rattle.herm_parser.specs.Parsing.{most_brackets};
+ghost use Rattle.herm_parser.specs.OpenBrackets.{most_brackets};
 
 use herm_alphabet::{Mark, Token, TokenKind};
 
 /// How many brackets may be open at once.
-#[tactic(auto, unfolding(crate::specs::Parsing::most_brackets))]
+#[tactic(auto, unfolding(crate::specs::OpenBrackets::most_brackets))]
 pub fn most_brackets() -> usize
     ensures exact { result ≡ most_brackets }
     ensures small { result ≤ 64 }
@@ -38,7 +38,7 @@ fn room_behind(room: usize, kind: &TokenKind) -> Option<usize>
 }
 
 /// The number of tokens left at the first bracket that is open too many, that one with them.
-#[tactic(auto, unfolding(crate::specs::Parsing::most_brackets))]
+#[tactic(auto, unfolding(crate::specs::OpenBrackets::most_brackets))]
 pub fn too_deep(tokens: &[Token]) -> Option<usize>
     ensures { result ≡ too_deep side (kinds tokens.now) most_brackets }
 {

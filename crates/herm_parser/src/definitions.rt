@@ -5,7 +5,7 @@ ghost use Rattle.herm_syntax.specs.Symbols.{is, comma, paren_close};
 ghost use Rattle.herm_syntax.specs.ReadExpressions.{in_parens};
 ghost use Rattle.herm_syntax.specs.ReadStatements.{listed};
 ghost use Rattle.herm_syntax.specs.ReadModules.{read_field, read_param, read_fact, read_fact_path, read_facts, read_kept, read_raising, read_raisings, read_shape, read_item, read_variables};
-ghost use Rattle.herm_syntax.specs.Views.{letters, mode_of, field_of, param_of, fact_of, raising_of, shape_of, item_of};
+ghost use Rattle.herm_syntax.specs.View.{name_view, mode_form_view, field_view, param_form_view, dfact_view, raise_form_view, shape_form_view, def_item_view};
 ghost use Rattle.herm_parser.specs.Along.{past_each, past_behind, past_list, past_token};
 ghost use Rattle.herm_parser.specs.AlongDefinitions.{past_enclosed, past_field, past_param, past_names, past_fact, past_facts, past_keep, past_kept, past_raising, past_raisings, past_shape, past_definition, past_item, past_variables};
 ghost use Rattle.herm_parser.specs.Shapes.{read_keep, names_at, fields_at, cases_at, rows_at, inport_at, outport_at, callmessage_at, shape_at, type_at, exception_at, read_mode};
@@ -23,7 +23,7 @@ use std::alloc::Global;
 
 /// A part, a colon and the name of its type.
 pub fn field(alloc: Global, tokens: &[Token]) -> Result<(Field, &[Token]), Stop>
-    ensures read { Gives (λ x. field_of x.0) (λ x. x.1.now) result (read_field (kinds tokens.now)) }
+    ensures read { Gives (λ x. field_view x.0) (λ x. x.1.now) result (read_field (kinds tokens.now)) }
     ensures along { IfOk result (λ x. past_field x.0 tokens.now ≡ Some x.1.now) }
 {
     let (name_of_part, rest) = part(alloc, tokens)?;
@@ -40,7 +40,7 @@ pub fn field(alloc: Global, tokens: &[Token]) -> Result<(Field, &[Token]), Stop>
 
 /// Fields, each behind a comma.
 fn fields_behind(alloc: Global, tokens: &[Token]) -> Result<(Vec<Field>, &[Token]), Stop>
-    ensures read { Gives (λ x. map field_of x.0.items) (λ x. x.1.now) result (many (is comma) (preceded (is comma) read_field) (kinds tokens.now)) }
+    ensures read { Gives (λ x. map field_view x.0.items) (λ x. x.1.now) result (many (is comma) (preceded (is comma) read_field) (kinds tokens.now)) }
     ensures along { IfOk result (λ x. past_each (past_behind past_field) x.0.items tokens.now ≡ Some x.1.now) }
 {
     let mut found = Vec::new(alloc);
@@ -55,7 +55,7 @@ fn fields_behind(alloc: Global, tokens: &[Token]) -> Result<(Vec<Field>, &[Token
 
 /// A comma, and then the same.
 fn comma_field(alloc: Global, tokens: &[Token]) -> Result<(Field, &[Token]), Stop>
-    ensures read { Gives (λ x. field_of x.0) (λ x. x.1.now) result (preceded (is comma) read_field (kinds tokens.now)) }
+    ensures read { Gives (λ x. field_view x.0) (λ x. x.1.now) result (preceded (is comma) read_field (kinds tokens.now)) }
     ensures along { IfOk result (λ x. past_behind past_field x.0 tokens.now ≡ Some x.1.now) }
 {
     let rest = sign(tokens, Mark::Comma)?;
@@ -64,7 +64,7 @@ fn comma_field(alloc: Global, tokens: &[Token]) -> Result<(Field, &[Token]), Sto
 
 /// The same with commas, one at least.
 pub fn fields(alloc: Global, tokens: &[Token]) -> Result<(Vec<Field>, &[Token]), Stop>
-    ensures read { Gives (λ x. map field_of x.0.items) (λ x. x.1.now) result (separated (is comma) read_field (kinds tokens.now)) }
+    ensures read { Gives (λ x. map field_view x.0.items) (λ x. x.1.now) result (separated (is comma) read_field (kinds tokens.now)) }
     ensures along { IfOk result (λ x. past_list past_field x.0.items tokens.now ≡ Some x.1.now) }
     ensures some { IfOk result (λ x. (item : _) × (others : _) × (x.0.items ≡ item ∷ others)) }
 {
@@ -75,7 +75,7 @@ pub fn fields(alloc: Global, tokens: &[Token]) -> Result<(Vec<Field>, &[Token]),
 
 /// How a parameter goes.
 fn mode(tokens: &[Token]) -> Result<(ModeForm, &[Token]), Stop>
-    ensures read { Gives (λ x. mode_of x.0) (λ x. x.1.now) result (read_mode (kinds tokens.now)) }
+    ensures read { Gives (λ x. mode_form_view x.0) (λ x. x.1.now) result (read_mode (kinds tokens.now)) }
     ensures along { IfOk result (λ x. past_token tokens.now ≡ Some x.1.now) }
 {
     match tokens {
@@ -91,7 +91,7 @@ fn mode(tokens: &[Token]) -> Result<(ModeForm, &[Token]), Stop>
 
 /// A parameter: how it goes, and a field.
 fn param(alloc: Global, tokens: &[Token]) -> Result<(ParamForm, &[Token]), Stop>
-    ensures read { Gives (λ x. param_of x.0) (λ x. x.1.now) result (read_param (kinds tokens.now)) }
+    ensures read { Gives (λ x. param_form_view x.0) (λ x. x.1.now) result (read_param (kinds tokens.now)) }
     ensures along { IfOk result (λ x. past_param x.0 tokens.now ≡ Some x.1.now) }
 {
     let (mode, rest) = mode(tokens)?;
@@ -101,7 +101,7 @@ fn param(alloc: Global, tokens: &[Token]) -> Result<(ParamForm, &[Token]), Stop>
 
 /// Parameters, each behind a comma.
 fn params_behind(alloc: Global, tokens: &[Token]) -> Result<(Vec<ParamForm>, &[Token]), Stop>
-    ensures read { Gives (λ x. map param_of x.0.items) (λ x. x.1.now) result (many (is comma) (preceded (is comma) read_param) (kinds tokens.now)) }
+    ensures read { Gives (λ x. map param_form_view x.0.items) (λ x. x.1.now) result (many (is comma) (preceded (is comma) read_param) (kinds tokens.now)) }
     ensures along { IfOk result (λ x. past_each (past_behind past_param) x.0.items tokens.now ≡ Some x.1.now) }
 {
     let mut found = Vec::new(alloc);
@@ -116,7 +116,7 @@ fn params_behind(alloc: Global, tokens: &[Token]) -> Result<(Vec<ParamForm>, &[T
 
 /// A comma, and then the same.
 fn comma_param(alloc: Global, tokens: &[Token]) -> Result<(ParamForm, &[Token]), Stop>
-    ensures read { Gives (λ x. param_of x.0) (λ x. x.1.now) result (preceded (is comma) read_param (kinds tokens.now)) }
+    ensures read { Gives (λ x. param_form_view x.0) (λ x. x.1.now) result (preceded (is comma) read_param (kinds tokens.now)) }
     ensures along { IfOk result (λ x. past_behind past_param x.0 tokens.now ≡ Some x.1.now) }
 {
     let rest = sign(tokens, Mark::Comma)?;
@@ -125,7 +125,7 @@ fn comma_param(alloc: Global, tokens: &[Token]) -> Result<(ParamForm, &[Token]),
 
 /// The same with commas, one at least.
 fn params(alloc: Global, tokens: &[Token]) -> Result<(Vec<ParamForm>, &[Token]), Stop>
-    ensures read { Gives (λ x. map param_of x.0.items) (λ x. x.1.now) result (separated (is comma) read_param (kinds tokens.now)) }
+    ensures read { Gives (λ x. map param_form_view x.0.items) (λ x. x.1.now) result (separated (is comma) read_param (kinds tokens.now)) }
     ensures along { IfOk result (λ x. past_list past_param x.0.items tokens.now ≡ Some x.1.now) }
     ensures some { IfOk result (λ x. (item : _) × (others : _) × (x.0.items ≡ item ∷ others)) }
 {
@@ -136,7 +136,7 @@ fn params(alloc: Global, tokens: &[Token]) -> Result<(Vec<ParamForm>, &[Token]),
 
 /// Parameters in parentheses, maybe none.
 fn parameters(alloc: Global, tokens: &[Token]) -> Result<(Vec<ParamForm>, &[Token]), Stop>
-    ensures read { Gives (λ x. map param_of x.0.items) (λ x. x.1.now) result (in_parens (listed paren_close read_param) (kinds tokens.now)) }
+    ensures read { Gives (λ x. map param_form_view x.0.items) (λ x. x.1.now) result (in_parens (listed paren_close read_param) (kinds tokens.now)) }
     ensures along { IfOk result (λ x. past_enclosed (past_list past_param x.0.items) tokens.now ≡ Some x.1.now) }
 {
     let rest = sign(tokens, Mark::ParenOpen)?;
@@ -151,7 +151,7 @@ fn parameters(alloc: Global, tokens: &[Token]) -> Result<(Vec<ParamForm>, &[Toke
 
 /// The path of a declared fact in parentheses.
 fn names_in_parens(alloc: Global, tokens: &[Token]) -> Result<(Vec<Name>, &[Token]), Stop>
-    ensures read { Gives (λ x. map letters x.0.items) (λ x. x.1.now) result (in_parens read_fact_path (kinds tokens.now)) }
+    ensures read { Gives (λ x. map name_view x.0.items) (λ x. x.1.now) result (in_parens read_fact_path (kinds tokens.now)) }
     ensures along { IfOk result (λ x. past_enclosed (past_names x.0.items) tokens.now ≡ Some x.1.now) }
 {
     let rest = sign(tokens, Mark::ParenOpen)?;
@@ -162,7 +162,7 @@ fn names_in_parens(alloc: Global, tokens: &[Token]) -> Result<(Vec<Name>, &[Toke
 
 /// A declared fact.
 fn fact(alloc: Global, tokens: &[Token]) -> Result<(DFact, &[Token]), Stop>
-    ensures read { Gives (λ x. fact_of x.0) (λ x. x.1.now) result (read_fact (kinds tokens.now)) }
+    ensures read { Gives (λ x. dfact_view x.0) (λ x. x.1.now) result (read_fact (kinds tokens.now)) }
     ensures along { IfOk result (λ x. past_fact x.0 tokens.now ≡ Some x.1.now) }
 {
     if key_ahead(tokens, Keyword::KwInit) {
@@ -186,7 +186,7 @@ fn fact(alloc: Global, tokens: &[Token]) -> Result<(DFact, &[Token]), Stop>
 
 /// Declared facts, each behind a comma.
 fn fact_list_behind(alloc: Global, tokens: &[Token]) -> Result<(Vec<DFact>, &[Token]), Stop>
-    ensures read { Gives (λ x. map fact_of x.0.items) (λ x. x.1.now) result (many (is comma) (preceded (is comma) read_fact) (kinds tokens.now)) }
+    ensures read { Gives (λ x. map dfact_view x.0.items) (λ x. x.1.now) result (many (is comma) (preceded (is comma) read_fact) (kinds tokens.now)) }
     ensures along { IfOk result (λ x. past_each (past_behind past_fact) x.0.items tokens.now ≡ Some x.1.now) }
 {
     let mut found = Vec::new(alloc);
@@ -201,7 +201,7 @@ fn fact_list_behind(alloc: Global, tokens: &[Token]) -> Result<(Vec<DFact>, &[To
 
 /// A comma, and then the same.
 fn comma_fact(alloc: Global, tokens: &[Token]) -> Result<(DFact, &[Token]), Stop>
-    ensures read { Gives (λ x. fact_of x.0) (λ x. x.1.now) result (preceded (is comma) read_fact (kinds tokens.now)) }
+    ensures read { Gives (λ x. dfact_view x.0) (λ x. x.1.now) result (preceded (is comma) read_fact (kinds tokens.now)) }
     ensures along { IfOk result (λ x. past_behind past_fact x.0 tokens.now ≡ Some x.1.now) }
 {
     let rest = sign(tokens, Mark::Comma)?;
@@ -210,7 +210,7 @@ fn comma_fact(alloc: Global, tokens: &[Token]) -> Result<(DFact, &[Token]), Stop
 
 /// The same with commas, one at least.
 fn fact_list(alloc: Global, tokens: &[Token]) -> Result<(Vec<DFact>, &[Token]), Stop>
-    ensures read { Gives (λ x. map fact_of x.0.items) (λ x. x.1.now) result (separated (is comma) read_fact (kinds tokens.now)) }
+    ensures read { Gives (λ x. map dfact_view x.0.items) (λ x. x.1.now) result (separated (is comma) read_fact (kinds tokens.now)) }
     ensures along { IfOk result (λ x. past_list past_fact x.0.items tokens.now ≡ Some x.1.now) }
     ensures some { IfOk result (λ x. (item : _) × (others : _) × (x.0.items ≡ item ∷ others)) }
 {
@@ -221,7 +221,7 @@ fn fact_list(alloc: Global, tokens: &[Token]) -> Result<(Vec<DFact>, &[Token]), 
 
 /// Declared facts in braces, or nothing.
 fn facts(alloc: Global, tokens: &[Token]) -> Result<(Vec<DFact>, &[Token]), Stop>
-    ensures read { Gives (λ x. map fact_of x.0.items) (λ x. x.1.now) result (read_facts (kinds tokens.now)) }
+    ensures read { Gives (λ x. map dfact_view x.0.items) (λ x. x.1.now) result (read_facts (kinds tokens.now)) }
     ensures along { IfOk result (λ x. past_facts x.0.items tokens.now ≡ Some x.1.now) }
 {
     if !sign_ahead(tokens, Mark::BraceOpen) {
@@ -235,7 +235,7 @@ fn facts(alloc: Global, tokens: &[Token]) -> Result<(Vec<DFact>, &[Token]), Stop
 
 /// A parameter that is kept: `full` and the part in parentheses.
 fn keep(alloc: Global, tokens: &[Token]) -> Result<(Name, &[Token]), Stop>
-    ensures read { Gives (λ x. letters x.0) (λ x. x.1.now) result (read_keep (kinds tokens.now)) }
+    ensures read { Gives (λ x. name_view x.0) (λ x. x.1.now) result (read_keep (kinds tokens.now)) }
     ensures along { IfOk result (λ x. past_keep x.0 tokens.now ≡ Some x.1.now) }
 {
     let rest = key(tokens, Keyword::KwFull)?;
@@ -247,7 +247,7 @@ fn keep(alloc: Global, tokens: &[Token]) -> Result<(Name, &[Token]), Stop>
 
 /// Kept parameters, each behind a comma.
 fn keep_list_behind(alloc: Global, tokens: &[Token]) -> Result<(Vec<Name>, &[Token]), Stop>
-    ensures read { Gives (λ x. map letters x.0.items) (λ x. x.1.now) result (many (is comma) (preceded (is comma) read_keep) (kinds tokens.now)) }
+    ensures read { Gives (λ x. map name_view x.0.items) (λ x. x.1.now) result (many (is comma) (preceded (is comma) read_keep) (kinds tokens.now)) }
     ensures along { IfOk result (λ x. past_each (past_behind past_keep) x.0.items tokens.now ≡ Some x.1.now) }
 {
     let mut found = Vec::new(alloc);
@@ -262,7 +262,7 @@ fn keep_list_behind(alloc: Global, tokens: &[Token]) -> Result<(Vec<Name>, &[Tok
 
 /// A comma, and then the same.
 fn comma_keep(alloc: Global, tokens: &[Token]) -> Result<(Name, &[Token]), Stop>
-    ensures read { Gives (λ x. letters x.0) (λ x. x.1.now) result (preceded (is comma) read_keep (kinds tokens.now)) }
+    ensures read { Gives (λ x. name_view x.0) (λ x. x.1.now) result (preceded (is comma) read_keep (kinds tokens.now)) }
     ensures along { IfOk result (λ x. past_behind past_keep x.0 tokens.now ≡ Some x.1.now) }
 {
     let rest = sign(tokens, Mark::Comma)?;
@@ -271,7 +271,7 @@ fn comma_keep(alloc: Global, tokens: &[Token]) -> Result<(Name, &[Token]), Stop>
 
 /// The same with commas, one at least.
 fn keep_list(alloc: Global, tokens: &[Token]) -> Result<(Vec<Name>, &[Token]), Stop>
-    ensures read { Gives (λ x. map letters x.0.items) (λ x. x.1.now) result (separated (is comma) read_keep (kinds tokens.now)) }
+    ensures read { Gives (λ x. map name_view x.0.items) (λ x. x.1.now) result (separated (is comma) read_keep (kinds tokens.now)) }
     ensures along { IfOk result (λ x. past_list past_keep x.0.items tokens.now ≡ Some x.1.now) }
     ensures some { IfOk result (λ x. (item : _) × (others : _) × (x.0.items ≡ item ∷ others)) }
 {
@@ -282,7 +282,7 @@ fn keep_list(alloc: Global, tokens: &[Token]) -> Result<(Vec<Name>, &[Token]), S
 
 /// Kept parameters in braces, or nothing.
 fn kept(alloc: Global, tokens: &[Token]) -> Result<(Vec<Name>, &[Token]), Stop>
-    ensures read { Gives (λ x. map letters x.0.items) (λ x. x.1.now) result (read_kept (kinds tokens.now)) }
+    ensures read { Gives (λ x. map name_view x.0.items) (λ x. x.1.now) result (read_kept (kinds tokens.now)) }
     ensures along { IfOk result (λ x. past_kept x.0.items tokens.now ≡ Some x.1.now) }
 {
     if !sign_ahead(tokens, Mark::BraceOpen) {
@@ -296,7 +296,7 @@ fn kept(alloc: Global, tokens: &[Token]) -> Result<(Vec<Name>, &[Token]), Stop>
 
 /// An exception that may be raised, and the parameters that it keeps.
 fn raising(alloc: Global, tokens: &[Token]) -> Result<(RaiseForm, &[Token]), Stop>
-    ensures read { Gives (λ x. raising_of x.0) (λ x. x.1.now) result (read_raising (kinds tokens.now)) }
+    ensures read { Gives (λ x. raise_form_view x.0) (λ x. x.1.now) result (read_raising (kinds tokens.now)) }
     ensures along { IfOk result (λ x. past_raising x.0 tokens.now ≡ Some x.1.now) }
 {
     let (exception, rest) = name(alloc, tokens)?;
@@ -312,7 +312,7 @@ fn raising(alloc: Global, tokens: &[Token]) -> Result<(RaiseForm, &[Token]), Sto
 
 /// Exceptions that may be raised, each behind a comma.
 fn raising_list_behind(alloc: Global, tokens: &[Token]) -> Result<(Vec<RaiseForm>, &[Token]), Stop>
-    ensures read { Gives (λ x. map raising_of x.0.items) (λ x. x.1.now) result (many (is comma) (preceded (is comma) read_raising) (kinds tokens.now)) }
+    ensures read { Gives (λ x. map raise_form_view x.0.items) (λ x. x.1.now) result (many (is comma) (preceded (is comma) read_raising) (kinds tokens.now)) }
     ensures along { IfOk result (λ x. past_each (past_behind past_raising) x.0.items tokens.now ≡ Some x.1.now) }
 {
     let mut found = Vec::new(alloc);
@@ -327,7 +327,7 @@ fn raising_list_behind(alloc: Global, tokens: &[Token]) -> Result<(Vec<RaiseForm
 
 /// A comma, and then the same.
 fn comma_raising(alloc: Global, tokens: &[Token]) -> Result<(RaiseForm, &[Token]), Stop>
-    ensures read { Gives (λ x. raising_of x.0) (λ x. x.1.now) result (preceded (is comma) read_raising (kinds tokens.now)) }
+    ensures read { Gives (λ x. raise_form_view x.0) (λ x. x.1.now) result (preceded (is comma) read_raising (kinds tokens.now)) }
     ensures along { IfOk result (λ x. past_behind past_raising x.0 tokens.now ≡ Some x.1.now) }
 {
     let rest = sign(tokens, Mark::Comma)?;
@@ -336,7 +336,7 @@ fn comma_raising(alloc: Global, tokens: &[Token]) -> Result<(RaiseForm, &[Token]
 
 /// The same with commas, one at least.
 fn raising_list(alloc: Global, tokens: &[Token]) -> Result<(Vec<RaiseForm>, &[Token]), Stop>
-    ensures read { Gives (λ x. map raising_of x.0.items) (λ x. x.1.now) result (separated (is comma) read_raising (kinds tokens.now)) }
+    ensures read { Gives (λ x. map raise_form_view x.0.items) (λ x. x.1.now) result (separated (is comma) read_raising (kinds tokens.now)) }
     ensures along { IfOk result (λ x. past_list past_raising x.0.items tokens.now ≡ Some x.1.now) }
     ensures some { IfOk result (λ x. (item : _) × (others : _) × (x.0.items ≡ item ∷ others)) }
 {
@@ -347,7 +347,7 @@ fn raising_list(alloc: Global, tokens: &[Token]) -> Result<(Vec<RaiseForm>, &[To
 
 /// The exceptions that may be raised, or nothing.
 fn raisings(alloc: Global, tokens: &[Token]) -> Result<(Vec<RaiseForm>, &[Token]), Stop>
-    ensures read { Gives (λ x. map raising_of x.0.items) (λ x. x.1.now) result (read_raisings (kinds tokens.now)) }
+    ensures read { Gives (λ x. map raise_form_view x.0.items) (λ x. x.1.now) result (read_raisings (kinds tokens.now)) }
     ensures along { IfOk result (λ x. past_raisings x.0.items tokens.now ≡ Some x.1.now) }
 {
     if !key_ahead(tokens, Keyword::KwRaises) {
@@ -363,7 +363,7 @@ fn raisings(alloc: Global, tokens: &[Token]) -> Result<(Vec<RaiseForm>, &[Token]
 /// The values of an enumeration.
 #[tactic(auto, unfolding(crate::specs::Shapes::names_at))]
 fn names_shape(alloc: Global, tokens: &[Token]) -> Result<(Vec<Name>, &[Token]), Stop>
-    ensures read { Gives (λ x. map letters x.0.items) (λ x. x.1.now) result (names_at (kinds tokens.now)) }
+    ensures read { Gives (λ x. map name_view x.0.items) (λ x. x.1.now) result (names_at (kinds tokens.now)) }
     ensures along { IfOk result (λ x. past_shape (Names x.0) tokens.now ≡ Some x.1.now) }
 {
     let rest = key(tokens, Keyword::KwEnum)?;
@@ -376,7 +376,7 @@ fn names_shape(alloc: Global, tokens: &[Token]) -> Result<(Vec<Name>, &[Token]),
 /// The fields of a record.
 #[tactic(auto, unfolding(crate::specs::Shapes::fields_at))]
 fn fields_shape(alloc: Global, tokens: &[Token]) -> Result<(Vec<Field>, &[Token]), Stop>
-    ensures read { Gives (λ x. map field_of x.0.items) (λ x. x.1.now) result (fields_at (kinds tokens.now)) }
+    ensures read { Gives (λ x. map field_view x.0.items) (λ x. x.1.now) result (fields_at (kinds tokens.now)) }
     ensures along { IfOk result (λ x. past_shape (Fields x.0) tokens.now ≡ Some x.1.now) }
 {
     let rest = key(tokens, Keyword::KwRecord)?;
@@ -389,7 +389,7 @@ fn fields_shape(alloc: Global, tokens: &[Token]) -> Result<(Vec<Field>, &[Token]
 /// The components of a variant.
 #[tactic(auto, unfolding(crate::specs::Shapes::cases_at))]
 fn cases_shape(alloc: Global, tokens: &[Token]) -> Result<(Vec<Field>, &[Token]), Stop>
-    ensures read { Gives (λ x. map field_of x.0.items) (λ x. x.1.now) result (cases_at (kinds tokens.now)) }
+    ensures read { Gives (λ x. map field_view x.0.items) (λ x. x.1.now) result (cases_at (kinds tokens.now)) }
     ensures along { IfOk result (λ x. past_shape (Cases x.0) tokens.now ≡ Some x.1.now) }
 {
     let rest = key(tokens, Keyword::KwVariant)?;
@@ -402,7 +402,7 @@ fn cases_shape(alloc: Global, tokens: &[Token]) -> Result<(Vec<Field>, &[Token])
 /// The row and the keys of a table.
 #[tactic(auto, unfolding(crate::specs::Shapes::rows_at))]
 fn rows_shape(alloc: Global, tokens: &[Token]) -> Result<((Name, Vec<Name>), &[Token]), Stop>
-    ensures read { Gives (λ x. (letters x.0.0, map letters x.0.1.items)) (λ x. x.1.now) result (rows_at (kinds tokens.now)) }
+    ensures read { Gives (λ x. (name_view x.0.0, map name_view x.0.1.items)) (λ x. x.1.now) result (rows_at (kinds tokens.now)) }
     ensures along { IfOk result (λ x. past_shape (Rows x.0.0 x.0.1) tokens.now ≡ Some x.1.now) }
 {
     let rest = key(tokens, Keyword::KwTable)?;
@@ -418,7 +418,7 @@ fn rows_shape(alloc: Global, tokens: &[Token]) -> Result<((Name, Vec<Name>), &[T
 /// The message of an inport and its declared facts.
 #[tactic(auto, unfolding(crate::specs::Shapes::inport_at))]
 fn inport_shape(alloc: Global, tokens: &[Token]) -> Result<((Name, Vec<DFact>), &[Token]), Stop>
-    ensures read { Gives (λ x. (letters x.0.0, map fact_of x.0.1.items)) (λ x. x.1.now) result (inport_at (kinds tokens.now)) }
+    ensures read { Gives (λ x. (name_view x.0.0, map dfact_view x.0.1.items)) (λ x. x.1.now) result (inport_at (kinds tokens.now)) }
     ensures along { IfOk result (λ x. past_shape (Inport x.0.0 x.0.1) tokens.now ≡ Some x.1.now) }
 {
     let rest = key(tokens, Keyword::KwInport)?;
@@ -431,7 +431,7 @@ fn inport_shape(alloc: Global, tokens: &[Token]) -> Result<((Name, Vec<DFact>), 
 /// The port of an outport.
 #[tactic(auto, unfolding(crate::specs::Shapes::outport_at))]
 fn outport_shape(alloc: Global, tokens: &[Token]) -> Result<(Name, &[Token]), Stop>
-    ensures read { Gives (λ x. letters x.0) (λ x. x.1.now) result (outport_at (kinds tokens.now)) }
+    ensures read { Gives (λ x. name_view x.0) (λ x. x.1.now) result (outport_at (kinds tokens.now)) }
     ensures along { IfOk result (λ x. past_shape (Outport x.0) tokens.now ≡ Some x.1.now) }
 {
     let rest = key(tokens, Keyword::KwOutport)?;
@@ -446,7 +446,7 @@ fn callmessage_shape(
     alloc: Global,
     tokens: &[Token],
 ) -> Result<((Vec<ParamForm>, Vec<RaiseForm>), &[Token]), Stop>
-    ensures read { Gives (λ x. (map param_of x.0.0.items, map raising_of x.0.1.items)) (λ x. x.1.now) result (callmessage_at (kinds tokens.now)) }
+    ensures read { Gives (λ x. (map param_form_view x.0.0.items, map raise_form_view x.0.1.items)) (λ x. x.1.now) result (callmessage_at (kinds tokens.now)) }
     ensures along { IfOk result (λ x. past_shape (CallMessage x.0.0 x.0.1) tokens.now ≡ Some x.1.now) }
 {
     let rest = key(tokens, Keyword::KwCallmessage)?;
@@ -458,7 +458,7 @@ fn callmessage_shape(
 /// The shape of a type.
 #[tactic(auto, unfolding(crate::specs::Shapes::shape_at, crate::specs::Shapes::names_at, crate::specs::Shapes::fields_at, crate::specs::Shapes::cases_at, crate::specs::Shapes::rows_at, crate::specs::Shapes::inport_at, crate::specs::Shapes::outport_at, crate::specs::Shapes::callmessage_at))]
 fn shape(alloc: Global, tokens: &[Token]) -> Result<(ShapeForm, &[Token]), Stop>
-    ensures read { Gives (λ x. shape_of x.0) (λ x. x.1.now) result (shape_at (kinds tokens.now)) }
+    ensures read { Gives (λ x. shape_form_view x.0) (λ x. x.1.now) result (shape_at (kinds tokens.now)) }
     ensures along { IfOk result (λ x. past_shape x.0 tokens.now ≡ Some x.1.now) }
 {
     if key_ahead(tokens, Keyword::KwEnum) {
@@ -492,7 +492,7 @@ fn shape(alloc: Global, tokens: &[Token]) -> Result<(ShapeForm, &[Token]), Stop>
 /// `type`, a name, `=`, a shape and the semicolon.
 #[tactic(auto, unfolding(crate::specs::Shapes::type_at))]
 fn type_item(alloc: Global, tokens: &[Token]) -> Result<((Name, ShapeForm), &[Token]), Stop>
-    ensures read { Gives (λ x. (letters x.0.0, shape_of x.0.1)) (λ x. x.1.now) result (type_at (kinds tokens.now)) }
+    ensures read { Gives (λ x. (name_view x.0.0, shape_form_view x.0.1)) (λ x. x.1.now) result (type_at (kinds tokens.now)) }
     ensures along { IfOk result (λ x. past_definition x.0.0 (Shaped x.0.1) tokens.now ≡ Some x.1.now) }
 {
     let rest = key(tokens, Keyword::KwType)?;
@@ -506,7 +506,7 @@ fn type_item(alloc: Global, tokens: &[Token]) -> Result<((Name, ShapeForm), &[To
 /// `exception`, a name and the semicolon.
 #[tactic(auto, unfolding(crate::specs::Shapes::exception_at))]
 fn exception_item(alloc: Global, tokens: &[Token]) -> Result<(Name, &[Token]), Stop>
-    ensures read { Gives (λ x. letters x.0) (λ x. x.1.now) result (exception_at (kinds tokens.now)) }
+    ensures read { Gives (λ x. name_view x.0) (λ x. x.1.now) result (exception_at (kinds tokens.now)) }
     ensures along { IfOk result (λ x. past_definition x.0 Exception tokens.now ≡ Some x.1.now) }
 {
     let rest = key(tokens, Keyword::KwException)?;
@@ -518,7 +518,7 @@ fn exception_item(alloc: Global, tokens: &[Token]) -> Result<(Name, &[Token]), S
 /// An item of a definitions module.
 #[tactic(auto, unfolding(crate::specs::Shapes::type_at, crate::specs::Shapes::exception_at, crate::specs::Shapes::shape_at))]
 pub fn item(alloc: Global, tokens: &[Token]) -> Result<(DefItem, &[Token]), Stop>
-    ensures read { Gives (λ x. item_of x.0) (λ x. x.1.now) result (read_item (kinds tokens.now)) }
+    ensures read { Gives (λ x. def_item_view x.0) (λ x. x.1.now) result (read_item (kinds tokens.now)) }
     ensures along { IfOk result (λ x. past_item x.0 tokens.now ≡ Some x.1.now) }
 {
     if key_ahead(tokens, Keyword::KwType) {
@@ -533,7 +533,7 @@ pub fn item(alloc: Global, tokens: &[Token]) -> Result<(DefItem, &[Token]), Stop
 
 /// The declarations of a process, or nothing.
 pub fn variables(alloc: Global, tokens: &[Token]) -> Result<(Vec<Field>, &[Token]), Stop>
-    ensures read { Gives (λ x. map field_of x.0.items) (λ x. x.1.now) result (read_variables (kinds tokens.now)) }
+    ensures read { Gives (λ x. map field_view x.0.items) (λ x. x.1.now) result (read_variables (kinds tokens.now)) }
     ensures along { IfOk result (λ x. past_variables x.0.items tokens.now ≡ Some x.1.now) }
 {
     if !key_ahead(tokens, Keyword::KwVar) {

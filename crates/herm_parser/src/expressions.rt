@@ -1,12 +1,13 @@
 //! Expressions, in seven levels. So many brackets may still open in an expression as its depth says.
 ghost use Rattle.std.specs.Prelude.{◌≡◌, ◌<◌, ◌-◌, map, IfOk, Some};
 ghost use Rattle.herm_readers.specs.Combinators.{many, one, sequence};
-ghost use Rattle.herm_syntax.specs.Symbols.{is_operator, kw_and, kw_or};
+ghost use Rattle.herm_syntax.specs.Symbols.{is_operator};
+ghost use Rattle.herm_syntax.specs.KeywordSymbols.{kw_and, kw_or};
 ghost use Rattle.herm_syntax.specs.ReadExpressions.{pick_by, in_parens, read_simple, read_expression};
-ghost use Rattle.herm_syntax.specs.Views.{compare_symbol, sum_symbol, product_symbol, sign_symbol, expression_of, conjunction_of, comparison_of, sum_of, product_of, primary_of};
-ghost use Rattle.herm_parser.specs.Along.{past_behind, past_each, past_expression, past_conjunction, past_comparison, past_sum, past_product, past_unary, past_primary, past_expression, past_parens};
+ghost use Rattle.herm_syntax.specs.View.{comp_op_view, sum_op_view, prod_op_view, unary_op_view, expr_view, conj_view, comp_view, sum_view, prod_view, primary_view, unary_view};
+ghost use Rattle.herm_parser.specs.Along.{past_behind, past_each, past_expression, past_conjunction, past_comparison, past_sum, past_product, past_unary, past_primary, past_parens};
 ghost use Rattle.herm_parser.specs.Levels.{primary_at, unary_at, product_at, sum_at, comparison_at, conjunction_at, expression_at};
-ghost use Rattle.herm_parser.specs.Gives.{kinds, Gives, unary_of};
+ghost use Rattle.herm_parser.specs.Gives.{kinds, Gives};
 
 use crate::operators::{
     and_ahead, and_operator, compare_ahead, compare_operator, or_ahead, or_operator, product_ahead,
@@ -23,7 +24,7 @@ use std::alloc::Global;
 
 /// An operand without an expression in it.
 fn simple(alloc: Global, tokens: &[Token]) -> Result<(Primary, &[Token]), Stop>
-    ensures read { Gives (λ x. primary_of x.0) (λ x. x.1.now) result (read_simple (kinds tokens.now)) }
+    ensures read { Gives (λ x. primary_view x.0) (λ x. x.1.now) result (read_simple (kinds tokens.now)) }
     ensures along { IfOk result (λ x. past_primary x.0 tokens.now ≡ Some x.1.now) }
 {
     if key_ahead(tokens, Keyword::KwSize) {
@@ -47,7 +48,7 @@ fn product_operands(
     depth: usize,
     tokens: &[Token],
 ) -> Result<(Vec<(ProdOp, Unary)>, &[Token]), Stop>
-    ensures read { Gives (λ x. map (λ o. (product_symbol o.0, unary_of o.1)) x.0.items) (λ x. x.1.now) result
+    ensures read { Gives (λ x. map (λ o. (prod_op_view o.0, unary_view o.1)) x.0.items) (λ x. x.1.now) result
         (many (is_operator 1) (sequence (one (pick_by (is_operator 1))) (unary_at depth)) (kinds tokens.now)) }
     ensures along { IfOk result (λ x. past_each (λ o. past_behind past_unary o.1) x.0.items tokens.now ≡ Some x.1.now) }
 {
@@ -66,7 +67,7 @@ fn product_operands(
 #[cycle(expressions)]
 #[tactic(auto, unfolding(crate::specs::Levels::product_at), using(crate::proofs::Seen::product_seen, crate::proofs::Seen::product_along))]
 fn product(alloc: Global, depth: usize, tokens: &[Token]) -> Result<(Prod, &[Token]), Stop>
-    ensures read { Gives (λ x. product_of x.0) (λ x. x.1.now) result (product_at depth (kinds tokens.now)) }
+    ensures read { Gives (λ x. prod_view x.0) (λ x. x.1.now) result (product_at depth (kinds tokens.now)) }
     ensures along { IfOk result (λ x. past_product x.0 tokens.now ≡ Some x.1.now) }
 {
     let (first, rest) = unary(alloc, depth, tokens)?;
@@ -84,7 +85,7 @@ fn product(alloc: Global, depth: usize, tokens: &[Token]) -> Result<(Prod, &[Tok
 #[cycle(expressions)]
 #[tactic(auto, unfolding(crate::specs::Levels::unary_at))]
 fn unary(alloc: Global, depth: usize, tokens: &[Token]) -> Result<(Unary, &[Token]), Stop>
-    ensures read { Gives (λ x. unary_of x.0) (λ x. x.1.now) result (unary_at depth (kinds tokens.now)) }
+    ensures read { Gives (λ x. unary_view x.0) (λ x. x.1.now) result (unary_at depth (kinds tokens.now)) }
     ensures along { IfOk result (λ x. past_unary x.0 tokens.now ≡ Some x.1.now) }
 {
     if unary_ahead(tokens) {
@@ -106,7 +107,7 @@ fn unary(alloc: Global, depth: usize, tokens: &[Token]) -> Result<(Unary, &[Toke
 #[cycle(expressions)]
 fn in_parens(alloc: Global, depth: usize, tokens: &[Token]) -> Result<(Box<Expr>, &[Token]), Stop>
     requires { 0 < depth }
-    ensures read { Gives (λ x. expression_of x.0.value) (λ x. x.1.now) result (in_parens (expression_at (depth - 1)) (kinds tokens.now)) }
+    ensures read { Gives (λ x. expr_view x.0.value) (λ x. x.1.now) result (in_parens (expression_at (depth - 1)) (kinds tokens.now)) }
     ensures along { IfOk result (λ x. past_parens (past_expression x.0.value) tokens.now ≡ Some x.1.now) }
 {
     let rest = sign(tokens, Mark::ParenOpen)?;
@@ -119,7 +120,7 @@ fn in_parens(alloc: Global, depth: usize, tokens: &[Token]) -> Result<(Box<Expr>
 #[cycle(expressions)]
 #[tactic(auto, using(crate::proofs::Depths::primary_none, crate::proofs::Depths::primary_more))]
 fn primary(alloc: Global, depth: usize, tokens: &[Token]) -> Result<(Primary, &[Token]), Stop>
-    ensures read { Gives (λ x. primary_of x.0) (λ x. x.1.now) result (primary_at depth (kinds tokens.now)) }
+    ensures read { Gives (λ x. primary_view x.0) (λ x. x.1.now) result (primary_at depth (kinds tokens.now)) }
     ensures along { IfOk result (λ x. past_primary x.0 tokens.now ≡ Some x.1.now) }
 {
     if depth == 0 {
@@ -151,7 +152,7 @@ fn sum_operands(
     depth: usize,
     tokens: &[Token],
 ) -> Result<(Vec<(SumOp, Prod)>, &[Token]), Stop>
-    ensures read { Gives (λ x. map (λ o. (sum_symbol o.0, product_of o.1)) x.0.items) (λ x. x.1.now) result
+    ensures read { Gives (λ x. map (λ o. (sum_op_view o.0, prod_view o.1)) x.0.items) (λ x. x.1.now) result
         (many (is_operator 2) (sequence (one (pick_by (is_operator 2))) (product_at depth)) (kinds tokens.now)) }
     ensures along { IfOk result (λ x. past_each (λ o. past_behind past_product o.1) x.0.items tokens.now ≡ Some x.1.now) }
 {
@@ -170,7 +171,7 @@ fn sum_operands(
 #[cycle(expressions)]
 #[tactic(auto, unfolding(crate::specs::Levels::sum_at), using(crate::proofs::Seen::sum_seen, crate::proofs::Seen::sum_along))]
 fn sum(alloc: Global, depth: usize, tokens: &[Token]) -> Result<(Sum, &[Token]), Stop>
-    ensures read { Gives (λ x. sum_of x.0) (λ x. x.1.now) result (sum_at depth (kinds tokens.now)) }
+    ensures read { Gives (λ x. sum_view x.0) (λ x. x.1.now) result (sum_at depth (kinds tokens.now)) }
     ensures along { IfOk result (λ x. past_sum x.0 tokens.now ≡ Some x.1.now) }
 {
     let (first, rest) = product(alloc, depth, tokens)?;
@@ -188,7 +189,7 @@ fn sum(alloc: Global, depth: usize, tokens: &[Token]) -> Result<(Sum, &[Token]),
 #[cycle(expressions)]
 #[tactic(auto, unfolding(crate::specs::Levels::comparison_at))]
 fn comparison(alloc: Global, depth: usize, tokens: &[Token]) -> Result<(Comp, &[Token]), Stop>
-    ensures read { Gives (λ x. comparison_of x.0) (λ x. x.1.now) result (comparison_at depth (kinds tokens.now)) }
+    ensures read { Gives (λ x. comp_view x.0) (λ x. x.1.now) result (comparison_at depth (kinds tokens.now)) }
     ensures along { IfOk result (λ x. past_comparison x.0 tokens.now ≡ Some x.1.now) }
 {
     let (left, rest) = sum(alloc, depth, tokens)?;
@@ -214,7 +215,7 @@ fn and_operands(
     depth: usize,
     tokens: &[Token],
 ) -> Result<(Vec<Comp>, &[Token]), Stop>
-    ensures read { Gives (λ x. map (λ o. (kw_and, comparison_of o)) x.0.items) (λ x. x.1.now) result
+    ensures read { Gives (λ x. map (λ o. (kw_and, comp_view o)) x.0.items) (λ x. x.1.now) result
         (many (is_operator 4) (sequence (one (pick_by (is_operator 4))) (comparison_at depth)) (kinds tokens.now)) }
     ensures along { IfOk result (λ x. past_each (past_behind past_comparison) x.0.items tokens.now ≡ Some x.1.now) }
 {
@@ -233,7 +234,7 @@ fn and_operands(
 #[cycle(expressions)]
 #[tactic(auto, unfolding(crate::specs::Levels::conjunction_at), using(crate::proofs::Seen::conjunction_seen, crate::proofs::Seen::conjunction_along))]
 fn conjunction(alloc: Global, depth: usize, tokens: &[Token]) -> Result<(Conj, &[Token]), Stop>
-    ensures read { Gives (λ x. conjunction_of x.0) (λ x. x.1.now) result (conjunction_at depth (kinds tokens.now)) }
+    ensures read { Gives (λ x. conj_view x.0) (λ x. x.1.now) result (conjunction_at depth (kinds tokens.now)) }
     ensures along { IfOk result (λ x. past_conjunction x.0 tokens.now ≡ Some x.1.now) }
 {
     let (first, rest) = comparison(alloc, depth, tokens)?;
@@ -250,7 +251,7 @@ fn conjunction(alloc: Global, depth: usize, tokens: &[Token]) -> Result<(Conj, &
 /// Operands of `or` behind it.
 #[cycle(expressions)]
 fn or_operands(alloc: Global, depth: usize, tokens: &[Token]) -> Result<(Vec<Conj>, &[Token]), Stop>
-    ensures read { Gives (λ x. map (λ o. (kw_or, conjunction_of o)) x.0.items) (λ x. x.1.now) result
+    ensures read { Gives (λ x. map (λ o. (kw_or, conj_view o)) x.0.items) (λ x. x.1.now) result
         (many (is_operator 5) (sequence (one (pick_by (is_operator 5))) (conjunction_at depth)) (kinds tokens.now)) }
     ensures along { IfOk result (λ x. past_each (past_behind past_conjunction) x.0.items tokens.now ≡ Some x.1.now) }
 {
@@ -269,7 +270,7 @@ fn or_operands(alloc: Global, depth: usize, tokens: &[Token]) -> Result<(Vec<Con
 #[cycle(expressions)]
 #[tactic(auto, unfolding(crate::specs::Levels::expression_at), using(crate::proofs::Seen::expression_seen, crate::proofs::Seen::expression_along))]
 fn expression(alloc: Global, depth: usize, tokens: &[Token]) -> Result<(Expr, &[Token]), Stop>
-    ensures read { Gives (λ x. expression_of x.0) (λ x. x.1.now) result (expression_at depth (kinds tokens.now)) }
+    ensures read { Gives (λ x. expr_view x.0) (λ x. x.1.now) result (expression_at depth (kinds tokens.now)) }
     ensures along { IfOk result (λ x. past_expression x.0 tokens.now ≡ Some x.1.now) }
 {
     let (first, rest) = conjunction(alloc, depth, tokens)?;
@@ -290,7 +291,7 @@ pub fn expression_within(
     depth: usize,
     tokens: &[Token],
 ) -> Result<(Expr, &[Token]), Stop>
-    ensures read { Gives (λ x. expression_of x.0) (λ x. x.1.now) result (read_expression depth (kinds tokens.now)) }
+    ensures read { Gives (λ x. expr_view x.0) (λ x. x.1.now) result (read_expression depth (kinds tokens.now)) }
     ensures along { IfOk result (λ x. past_expression x.0 tokens.now ≡ Some x.1.now) }
 {
     let (found, rest) = expression(alloc, depth, tokens)?;

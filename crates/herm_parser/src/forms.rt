@@ -4,7 +4,7 @@ ghost use Rattle.herm_readers.specs.Reader.{ahead};
 ghost use Rattle.herm_readers.specs.Combinators.{passes, mapped};
 ghost use Rattle.herm_syntax.specs.Words.{is_transfer, is_touch, is_find};
 ghost use Rattle.herm_syntax.specs.ReadStatements.{is_plain, plain_of, read_plain};
-ghost use Rattle.herm_syntax.specs.Views.{statement_of};
+ghost use Rattle.herm_syntax.specs.View.{stmt_form_view};
 ghost use Rattle.herm_parser.specs.Forms.{transfer_at, touch_at, find_at, unwrap_at, call_at, return_at, create_at, raise_at, leave_at, other_at, plain_at};
 ghost use Rattle.herm_parser.specs.Walk.{walk_form};
 ghost use Rattle.herm_parser.specs.Gives.{kinds, Gives};
@@ -44,7 +44,7 @@ fn transfer_ahead(tokens: &[Token]) -> bool
 /// A statement with two paths.
 #[tactic(auto, unfolding(crate::specs::Forms::transfer_at))]
 fn transfer(alloc: Global, tokens: &[Token]) -> Result<(StmtForm, u32, &[Token]), Stop>
-    ensures read { Gives (λ x. statement_of x.0) (λ x. x.2.now) result (transfer_at (kinds tokens.now)) }
+    ensures read { Gives (λ x. stmt_form_view x.0) (λ x. x.2.now) result (transfer_at (kinds tokens.now)) }
     ensures along { IfOk result (λ x. (n : _) → walk_form x.0 n tokens.now ≡ Some (n, (x.1, x.2.now))) }
 {
     match tokens {
@@ -103,7 +103,7 @@ fn touch_ahead(tokens: &[Token]) -> bool
 /// `new`, `discard` or `reveal`.
 #[tactic(auto, unfolding(crate::specs::Forms::touch_at))]
 fn touch(alloc: Global, tokens: &[Token]) -> Result<(StmtForm, u32, &[Token]), Stop>
-    ensures read { Gives (λ x. statement_of x.0) (λ x. x.2.now) result (touch_at (kinds tokens.now)) }
+    ensures read { Gives (λ x. stmt_form_view x.0) (λ x. x.2.now) result (touch_at (kinds tokens.now)) }
     ensures along { IfOk result (λ x. (n : _) → walk_form x.0 n tokens.now ≡ Some (n, (x.1, x.2.now))) }
 {
     match tokens {
@@ -142,7 +142,7 @@ fn find_ahead(tokens: &[Token]) -> bool
 /// `remove` or `get`.
 #[tactic(auto, unfolding(crate::specs::Forms::find_at))]
 fn find(alloc: Global, tokens: &[Token]) -> Result<(StmtForm, u32, &[Token]), Stop>
-    ensures read { Gives (λ x. statement_of x.0) (λ x. x.2.now) result (find_at (kinds tokens.now)) }
+    ensures read { Gives (λ x. stmt_form_view x.0) (λ x. x.2.now) result (find_at (kinds tokens.now)) }
     ensures along { IfOk result (λ x. (n : _) → walk_form x.0 n tokens.now ≡ Some (n, (x.1, x.2.now))) }
 {
     match tokens {
@@ -164,7 +164,7 @@ fn find(alloc: Global, tokens: &[Token]) -> Result<(StmtForm, u32, &[Token]), St
 /// `unwrap`, the path, `as` and a type, `into` and the target.
 #[tactic(auto, unfolding(crate::specs::Forms::unwrap_at))]
 fn unwrap(alloc: Global, tokens: &[Token]) -> Result<(StmtForm, u32, &[Token]), Stop>
-    ensures read { Gives (λ x. statement_of x.0) (λ x. x.2.now) result (unwrap_at (kinds tokens.now)) }
+    ensures read { Gives (λ x. stmt_form_view x.0) (λ x. x.2.now) result (unwrap_at (kinds tokens.now)) }
     ensures along { IfOk result (λ x. (n : _) → walk_form x.0 n tokens.now ≡ Some (n, (x.1, x.2.now))) }
 {
     let rest = key(tokens, Keyword::KwUnwrap)?;
@@ -179,7 +179,7 @@ fn unwrap(alloc: Global, tokens: &[Token]) -> Result<(StmtForm, u32, &[Token]), 
 /// `call`, the port and the arguments in parentheses.
 #[tactic(auto, unfolding(crate::specs::Forms::call_at))]
 fn call(alloc: Global, tokens: &[Token]) -> Result<(StmtForm, u32, &[Token]), Stop>
-    ensures read { Gives (λ x. statement_of x.0) (λ x. x.2.now) result (call_at (kinds tokens.now)) }
+    ensures read { Gives (λ x. stmt_form_view x.0) (λ x. x.2.now) result (call_at (kinds tokens.now)) }
     ensures along { IfOk result (λ x. (n : _) → walk_form x.0 n tokens.now ≡ Some (n, (x.1, x.2.now))) }
 {
     let rest = key(tokens, Keyword::KwCall)?;
@@ -194,7 +194,7 @@ fn call(alloc: Global, tokens: &[Token]) -> Result<(StmtForm, u32, &[Token]), St
 /// `return`, with an exception or without one.
 #[tactic(auto, unfolding(crate::specs::Forms::return_at))]
 fn back(alloc: Global, tokens: &[Token]) -> Result<(StmtForm, u32, &[Token]), Stop>
-    ensures read { Gives (λ x. statement_of x.0) (λ x. x.2.now) result (return_at (kinds tokens.now)) }
+    ensures read { Gives (λ x. stmt_form_view x.0) (λ x. x.2.now) result (return_at (kinds tokens.now)) }
     ensures along { IfOk result (λ x. (n : _) → walk_form x.0 n tokens.now ≡ Some (n, (x.1, x.2.now))) }
 {
     let rest = key(tokens, Keyword::KwReturn)?;
@@ -211,7 +211,7 @@ fn back(alloc: Global, tokens: &[Token]) -> Result<(StmtForm, u32, &[Token]), St
 /// `create`, the port, `of` and the process.
 #[tactic(auto, unfolding(crate::specs::Forms::create_at))]
 fn create(alloc: Global, tokens: &[Token]) -> Result<(StmtForm, u32, &[Token]), Stop>
-    ensures read { Gives (λ x. statement_of x.0) (λ x. x.2.now) result (create_at (kinds tokens.now)) }
+    ensures read { Gives (λ x. stmt_form_view x.0) (λ x. x.2.now) result (create_at (kinds tokens.now)) }
     ensures along { IfOk result (λ x. (n : _) → walk_form x.0 n tokens.now ≡ Some (n, (x.1, x.2.now))) }
 {
     let rest = key(tokens, Keyword::KwCreate)?;
@@ -224,7 +224,7 @@ fn create(alloc: Global, tokens: &[Token]) -> Result<(StmtForm, u32, &[Token]), 
 /// `raise` and the exception.
 #[tactic(auto, unfolding(crate::specs::Forms::raise_at))]
 fn raise(alloc: Global, tokens: &[Token]) -> Result<(StmtForm, u32, &[Token]), Stop>
-    ensures read { Gives (λ x. statement_of x.0) (λ x. x.2.now) result (raise_at (kinds tokens.now)) }
+    ensures read { Gives (λ x. stmt_form_view x.0) (λ x. x.2.now) result (raise_at (kinds tokens.now)) }
     ensures along { IfOk result (λ x. (n : _) → walk_form x.0 n tokens.now ≡ Some (n, (x.1, x.2.now))) }
 {
     let rest = key(tokens, Keyword::KwRaise)?;
@@ -235,7 +235,7 @@ fn raise(alloc: Global, tokens: &[Token]) -> Result<(StmtForm, u32, &[Token]), S
 /// `leave`.
 #[tactic(auto, unfolding(crate::specs::Forms::leave_at))]
 fn leave(tokens: &[Token]) -> Result<(StmtForm, u32, &[Token]), Stop>
-    ensures read { Gives (λ x. statement_of x.0) (λ x. x.2.now) result (leave_at (kinds tokens.now)) }
+    ensures read { Gives (λ x. stmt_form_view x.0) (λ x. x.2.now) result (leave_at (kinds tokens.now)) }
     ensures along { IfOk result (λ x. (n : _) → walk_form x.0 n tokens.now ≡ Some (n, (x.1, x.2.now))) }
 {
     let rest = key(tokens, Keyword::KwLeave)?;
@@ -246,7 +246,7 @@ fn leave(tokens: &[Token]) -> Result<(StmtForm, u32, &[Token]), Stop>
 /// A statement that begins with a keyword of its own.
 #[tactic(auto, unfolding(crate::specs::Forms::other_at))]
 fn other(alloc: Global, tokens: &[Token]) -> Result<(StmtForm, u32, &[Token]), Stop>
-    ensures read { Gives (λ x. statement_of x.0) (λ x. x.2.now) result (other_at (kinds tokens.now)) }
+    ensures read { Gives (λ x. stmt_form_view x.0) (λ x. x.2.now) result (other_at (kinds tokens.now)) }
     ensures along { IfOk result (λ x. (n : _) → walk_form x.0 n tokens.now ≡ Some (n, (x.1, x.2.now))) }
 {
     if key_ahead(tokens, Keyword::KwUnwrap) {
@@ -292,7 +292,7 @@ pub fn plain_ahead(tokens: &[Token]) -> bool
 /// A statement without statements in it, other than an assignment.
 #[tactic(auto, unfolding(crate::specs::Forms::plain_at))]
 pub fn plain(alloc: Global, tokens: &[Token]) -> Result<(StmtForm, u32, &[Token]), Stop>
-    ensures read { Gives (λ x. statement_of x.0) (λ x. x.2.now) result (plain_at (kinds tokens.now)) }
+    ensures read { Gives (λ x. stmt_form_view x.0) (λ x. x.2.now) result (plain_at (kinds tokens.now)) }
     ensures along { IfOk result (λ x. (n : _) → walk_form x.0 n tokens.now ≡ Some (n, (x.1, x.2.now))) }
 {
     if transfer_ahead(tokens) {

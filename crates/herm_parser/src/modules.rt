@@ -4,7 +4,7 @@ ghost use Rattle.herm_readers.specs.Reader.{ahead};
 ghost use Rattle.herm_readers.specs.Combinators.{many, passes};
 ghost use Rattle.herm_syntax.specs.ReadStatements.{inside};
 ghost use Rattle.herm_syntax.specs.ReadModules.{read_item, anything};
-ghost use Rattle.herm_syntax.specs.Views.{item_of, module_of};
+ghost use Rattle.herm_syntax.specs.View.{def_item_view, module_view};
 ghost use Rattle.herm_parser.specs.Along.{past_each};
 ghost use Rattle.herm_parser.specs.AlongDefinitions.{past_item, past_module};
 ghost use Rattle.herm_parser.specs.Modules.{definitions_at, process_at, module_at};
@@ -20,7 +20,7 @@ use std::alloc::Global;
 
 /// Items up to the brace that closes their module.
 fn items(alloc: Global, tokens: &[Token]) -> Result<(Vec<DefItem>, &[Token]), Stop>
-    ensures read { Gives (λ x. map item_of x.0.items) (λ x. x.1.now) result (many inside read_item (kinds tokens.now)) }
+    ensures read { Gives (λ x. map def_item_view x.0.items) (λ x. x.1.now) result (many inside read_item (kinds tokens.now)) }
     ensures along { IfOk result (λ x. past_each past_item x.0.items tokens.now ≡ Some x.1.now) }
 {
     let mut found = Vec::new(alloc);
@@ -36,7 +36,7 @@ fn items(alloc: Global, tokens: &[Token]) -> Result<(Vec<DefItem>, &[Token]), St
 /// A definitions module.
 #[tactic(auto, unfolding(crate::specs::Modules::definitions_at))]
 fn definitions(alloc: Global, tokens: &[Token]) -> Result<(Module, &[Token]), Stop>
-    ensures read { Gives (λ x. module_of x.0) (λ x. x.1.now) result (definitions_at (kinds tokens.now)) }
+    ensures read { Gives (λ x. module_view x.0) (λ x. x.1.now) result (definitions_at (kinds tokens.now)) }
     ensures along { IfOk result (λ x. past_module x.0 tokens.now ≡ Some x.1.now) }
 {
     let rest = key(tokens, Keyword::KwDefinitions)?;
@@ -50,7 +50,7 @@ fn definitions(alloc: Global, tokens: &[Token]) -> Result<(Module, &[Token]), St
 /// A process module.
 #[tactic(auto, unfolding(crate::specs::Modules::process_at))]
 fn process(alloc: Global, depth: usize, tokens: &[Token]) -> Result<(Module, &[Token]), Stop>
-    ensures read { Gives (λ x. module_of x.0) (λ x. x.1.now) result (process_at depth (kinds tokens.now)) }
+    ensures read { Gives (λ x. module_view x.0) (λ x. x.1.now) result (process_at depth (kinds tokens.now)) }
     ensures along { IfOk result (λ x. past_module x.0 tokens.now ≡ Some x.1.now) }
 {
     let rest = key(tokens, Keyword::KwProcess)?;
@@ -76,7 +76,7 @@ fn process(alloc: Global, depth: usize, tokens: &[Token]) -> Result<(Module, &[T
 /// A module.
 #[tactic(auto, unfolding(crate::specs::Modules::module_at))]
 fn module(alloc: Global, depth: usize, tokens: &[Token]) -> Result<(Module, &[Token]), Stop>
-    ensures read { Gives (λ x. module_of x.0) (λ x. x.1.now) result (module_at depth (kinds tokens.now)) }
+    ensures read { Gives (λ x. module_view x.0) (λ x. x.1.now) result (module_at depth (kinds tokens.now)) }
     ensures along { IfOk result (λ x. past_module x.0 tokens.now ≡ Some x.1.now) }
 {
     if key_ahead(tokens, Keyword::KwDefinitions) {
@@ -103,7 +103,7 @@ pub fn modules(
     depth: usize,
     tokens: &[Token],
 ) -> Result<(Vec<Module>, &[Token]), Stop>
-    ensures read { Gives (λ x. map module_of x.0.items) (λ x. x.1.now) result (many anything (module_at depth) (kinds tokens.now)) }
+    ensures read { Gives (λ x. map module_view x.0.items) (λ x. x.1.now) result (many anything (module_at depth) (kinds tokens.now)) }
     ensures along { IfOk result (λ x. past_each past_module x.0.items tokens.now ≡ Some x.1.now) }
 {
     let mut found = Vec::new(alloc);

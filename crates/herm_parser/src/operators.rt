@@ -2,10 +2,11 @@
 ghost use Rattle.std.specs.Prelude.{◌≡◌, None, Some, IfOk};
 ghost use Rattle.herm_readers.specs.Reader.{ahead};
 ghost use Rattle.herm_readers.specs.Combinators.{one, passes};
-ghost use Rattle.herm_syntax.specs.Symbols.{is_operator, kw_and, kw_or};
+ghost use Rattle.herm_syntax.specs.Symbols.{is_operator};
+ghost use Rattle.herm_syntax.specs.KeywordSymbols.{kw_and, kw_or};
 ghost use Rattle.herm_syntax.specs.Fitting.{is_sign};
 ghost use Rattle.herm_syntax.specs.ReadExpressions.{pick_by};
-ghost use Rattle.herm_syntax.specs.Views.{compare_symbol, sum_symbol, product_symbol, sign_symbol};
+ghost use Rattle.herm_syntax.specs.View.{comp_op_view, sum_op_view, prod_op_view, unary_op_view};
 ghost use Rattle.herm_parser.specs.Along.{past_token};
 ghost use Rattle.herm_parser.specs.Gives.{kinds, Gives};
 
@@ -83,7 +84,7 @@ pub fn compare_ahead(tokens: &[Token]) -> bool
 
 /// An operator of comparisons.
 pub fn compare_operator(tokens: &[Token]) -> Result<(CompOp, &[Token]), Stop>
-    ensures read { Gives (λ x. compare_symbol x.0) (λ x. x.1.now) result (one (pick_by (is_operator 3)) (kinds tokens.now)) }
+    ensures read { Gives (λ x. comp_op_view x.0) (λ x. x.1.now) result (one (pick_by (is_operator 3)) (kinds tokens.now)) }
     ensures along { IfOk result (λ x. past_token tokens.now ≡ Some x.1.now) }
 {
     match tokens {
@@ -115,7 +116,7 @@ pub fn sum_ahead(tokens: &[Token]) -> bool
 
 /// An operator of sums.
 pub fn sum_operator(tokens: &[Token]) -> Result<(SumOp, &[Token]), Stop>
-    ensures read { Gives (λ x. sum_symbol x.0) (λ x. x.1.now) result (one (pick_by (is_operator 2)) (kinds tokens.now)) }
+    ensures read { Gives (λ x. sum_op_view x.0) (λ x. x.1.now) result (one (pick_by (is_operator 2)) (kinds tokens.now)) }
     ensures along { IfOk result (λ x. past_token tokens.now ≡ Some x.1.now) }
 {
     match tokens {
@@ -144,7 +145,7 @@ pub fn product_ahead(tokens: &[Token]) -> bool
 
 /// An operator of products.
 pub fn product_operator(tokens: &[Token]) -> Result<(ProdOp, &[Token]), Stop>
-    ensures read { Gives (λ x. product_symbol x.0) (λ x. x.1.now) result (one (pick_by (is_operator 1)) (kinds tokens.now)) }
+    ensures read { Gives (λ x. prod_op_view x.0) (λ x. x.1.now) result (one (pick_by (is_operator 1)) (kinds tokens.now)) }
     ensures along { IfOk result (λ x. past_token tokens.now ≡ Some x.1.now) }
 {
     match tokens {
@@ -173,7 +174,7 @@ pub fn unary_ahead(tokens: &[Token]) -> bool
 
 /// `-` or `not`.
 pub fn unary_operator(tokens: &[Token]) -> Result<(UnaryOp, &[Token]), Stop>
-    ensures read { Gives (λ x. sign_symbol x.0) (λ x. x.1.now) result (one (pick_by is_sign) (kinds tokens.now)) }
+    ensures read { Gives (λ x. unary_op_view x.0) (λ x. x.1.now) result (one (pick_by is_sign) (kinds tokens.now)) }
     ensures along { IfOk result (λ x. past_token tokens.now ≡ Some x.1.now) }
 {
     match tokens {

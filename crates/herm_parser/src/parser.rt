@@ -2,8 +2,10 @@
 ghost use Rattle.std.specs.Prelude.{◌≡◌, drop, IfOk, IfErr};
 ghost use Rattle.herm_syntax.specs.laws.GrammarLaws.{IsWithinRoom};
 ghost use Rattle.herm_parser.specs.Gives.{kinds};
-ghost use Rattle.herm_parser.specs.Parsing.{most_brackets, IsParsed};
-ghost use Rattle.herm_parser.specs.SyntaxFaults.{IsFault, place_of, end_first, start_of};
+ghost use Rattle.herm_parser.specs.OpenBrackets.{most_brackets};
+ghost use Rattle.herm_parser.specs.Parsing.{IsParsed};
+ghost use Rattle.herm_parser.specs.SyntaxFaults.{IsFault};
+ghost use Rattle.herm_parser.specs.TokenPlaces.{place_of, end_first, start_of};
 
 use crate::brackets::{most_brackets, too_deep};
 use crate::fault::ParseFault;

@@ -8,7 +8,7 @@ ghost use Rattle.herm_syntax.specs.Symbols.{Key, Sign, is, comma, paren_close, s
 ghost use Rattle.herm_syntax.specs.ReadExpressions.{read_name, read_path, read_component_path, read_atom};
 ghost use Rattle.herm_syntax.specs.Words.{is_transfer, is_touch, is_find};
 ghost use Rattle.herm_syntax.specs.ReadStatements.{is_plain, listed, plain_of, read_two_paths, read_one_path, read_keyed, read_plain, read_end};
-ghost use Rattle.herm_syntax.specs.Views.{letters, path_of, atom_of, statement_of};
+ghost use Rattle.herm_syntax.specs.View.{name_view, path_form_view, atom_view, stmt_form_view};
 ghost use Rattle.herm_parser.specs.Along.{past_name, past_token, past_list, past_each, past_behind, past_atom, past_path};
 ghost use Rattle.herm_parser.specs.Walk.{past_end, ended, past_pair, past_path_name, past_atoms, past_keyed};
 ghost use Rattle.herm_parser.specs.Gives.{kinds, Gives};
@@ -41,7 +41,7 @@ pub fn pair(
     between: Keyword,
     tokens: &[Token],
 ) -> Result<(PathForm, PathForm, u32, &[Token]), Stop>
-    ensures read { Gives (λ x. (path_of x.0, path_of x.1)) (λ x. x.3.now) result
+    ensures read { Gives (λ x. (path_form_view x.0, path_form_view x.1)) (λ x. x.3.now) result
         (sequence read_path (preceded (is (Key between)) (terminated (is semicolon) read_path)) (kinds tokens.now)) }
     ensures along { IfOk result (λ x. (n : _) → ended n (past_pair x.0 x.1 tokens.now) ≡ Some (n, (x.2, x.3.now))) }
 {
@@ -58,7 +58,7 @@ pub fn component_pair(
     between: Keyword,
     tokens: &[Token],
 ) -> Result<(PathForm, PathForm, u32, &[Token]), Stop>
-    ensures read { Gives (λ x. (path_of x.0, path_of x.1)) (λ x. x.3.now) result
+    ensures read { Gives (λ x. (path_form_view x.0, path_form_view x.1)) (λ x. x.3.now) result
         (sequence read_component_path (preceded (is (Key between)) (terminated (is semicolon) read_path)) (kinds tokens.now)) }
     ensures along { IfOk result (λ x. (n : _) → ended n (past_pair x.0 x.1 tokens.now) ≡ Some (n, (x.2, x.3.now))) }
 {
@@ -71,7 +71,7 @@ pub fn component_pair(
 
 /// A path and the semicolon.
 pub fn one_path(alloc: Global, tokens: &[Token]) -> Result<(PathForm, u32, &[Token]), Stop>
-    ensures read { Gives (λ x. path_of x.0) (λ x. x.2.now) result (terminated (is semicolon) read_path (kinds tokens.now)) }
+    ensures read { Gives (λ x. path_form_view x.0) (λ x. x.2.now) result (terminated (is semicolon) read_path (kinds tokens.now)) }
     ensures along { IfOk result (λ x. (n : _) → ended n (past_path x.0 tokens.now) ≡ Some (n, (x.1, x.2.now))) }
 {
     let (path, rest) = path(alloc, tokens)?;
@@ -84,7 +84,7 @@ pub fn one_component_path(
     alloc: Global,
     tokens: &[Token],
 ) -> Result<(PathForm, u32, &[Token]), Stop>
-    ensures read { Gives (λ x. path_of x.0) (λ x. x.2.now) result (terminated (is semicolon) read_component_path (kinds tokens.now)) }
+    ensures read { Gives (λ x. path_form_view x.0) (λ x. x.2.now) result (terminated (is semicolon) read_component_path (kinds tokens.now)) }
     ensures along { IfOk result (λ x. (n : _) → ended n (past_path x.0 tokens.now) ≡ Some (n, (x.1, x.2.now))) }
 {
     let (path, rest) = component_path(alloc, tokens)?;
@@ -94,7 +94,7 @@ pub fn one_component_path(
 
 /// A name and the semicolon.
 pub fn one_name(alloc: Global, tokens: &[Token]) -> Result<(Name, u32, &[Token]), Stop>
-    ensures read { Gives (λ x. letters x.0) (λ x. x.2.now) result (terminated (is semicolon) read_name (kinds tokens.now)) }
+    ensures read { Gives (λ x. name_view x.0) (λ x. x.2.now) result (terminated (is semicolon) read_name (kinds tokens.now)) }
     ensures along { IfOk result (λ x. (n : _) → ended n (past_name x.0 tokens.now) ≡ Some (n, (x.1, x.2.now))) }
 {
     let (name, rest) = name(alloc, tokens)?;
@@ -104,7 +104,7 @@ pub fn one_name(alloc: Global, tokens: &[Token]) -> Result<(Name, u32, &[Token])
 
 /// A comma, and then a key or an argument.
 fn comma_atom(alloc: Global, tokens: &[Token]) -> Result<(Atom, &[Token]), Stop>
-    ensures read { Gives (λ x. atom_of x.0) (λ x. x.1.now) result (preceded (is comma) read_atom (kinds tokens.now)) }
+    ensures read { Gives (λ x. atom_view x.0) (λ x. x.1.now) result (preceded (is comma) read_atom (kinds tokens.now)) }
     ensures along { IfOk result (λ x. past_behind past_atom x.0 tokens.now ≡ Some x.1.now) }
 {
     let rest = sign(tokens, Mark::Comma)?;
@@ -113,7 +113,7 @@ fn comma_atom(alloc: Global, tokens: &[Token]) -> Result<(Atom, &[Token]), Stop>
 
 /// Keys or arguments, each behind a comma.
 fn atoms_behind(alloc: Global, tokens: &[Token]) -> Result<(Vec<Atom>, &[Token]), Stop>
-    ensures read { Gives (λ x. map atom_of x.0.items) (λ x. x.1.now) result (many (is comma) (preceded (is comma) read_atom) (kinds tokens.now)) }
+    ensures read { Gives (λ x. map atom_view x.0.items) (λ x. x.1.now) result (many (is comma) (preceded (is comma) read_atom) (kinds tokens.now)) }
     ensures along { IfOk result (λ x. past_each (past_behind past_atom) x.0.items tokens.now ≡ Some x.1.now) }
 {
     let mut found = Vec::new(alloc);
@@ -128,7 +128,7 @@ fn atoms_behind(alloc: Global, tokens: &[Token]) -> Result<(Vec<Atom>, &[Token])
 
 /// Keys or arguments with commas, one at least.
 fn atoms(alloc: Global, tokens: &[Token]) -> Result<(Vec<Atom>, &[Token]), Stop>
-    ensures read { Gives (λ x. map atom_of x.0.items) (λ x. x.1.now) result (separated (is comma) read_atom (kinds tokens.now)) }
+    ensures read { Gives (λ x. map atom_view x.0.items) (λ x. x.1.now) result (separated (is comma) read_atom (kinds tokens.now)) }
     ensures along { IfOk result (λ x. past_list past_atom x.0.items tokens.now ≡ Some x.1.now) }
 {
     let (first, rest) = atom(alloc, tokens)?;
@@ -138,7 +138,7 @@ fn atoms(alloc: Global, tokens: &[Token]) -> Result<(Vec<Atom>, &[Token]), Stop>
 
 /// Arguments with commas, none where the parenthesis closes at once.
 pub fn arguments(alloc: Global, tokens: &[Token]) -> Result<(Vec<Atom>, &[Token]), Stop>
-    ensures read { Gives (λ x. map atom_of x.0.items) (λ x. x.1.now) result (listed paren_close read_atom (kinds tokens.now)) }
+    ensures read { Gives (λ x. map atom_view x.0.items) (λ x. x.1.now) result (listed paren_close read_atom (kinds tokens.now)) }
     ensures along { IfOk result (λ x. past_list past_atom x.0.items tokens.now ≡ Some x.1.now) }
 {
     if sign_ahead(tokens, Mark::ParenClose) {
@@ -153,7 +153,7 @@ pub fn keyed(
     alloc: Global,
     tokens: &[Token],
 ) -> Result<(PathForm, PathForm, Vec<Atom>, u32, &[Token]), Stop>
-    ensures read { Gives (λ x. (path_of x.0, (path_of x.1, (map atom_of x.2.items, tt)))) (λ x. x.4.now) result
+    ensures read { Gives (λ x. (path_form_view x.0, (path_form_view x.1, (map atom_view x.2.items, tt)))) (λ x. x.4.now) result
         (sequence read_path (preceded (is (Key KwFrom)) (sequence read_path (preceded (is (Sign BracketOpen)) (sequence (separated (is comma) read_atom) (preceded (is (Sign BracketClose)) read_end))))) (kinds tokens.now)) }
     ensures along { IfOk result (λ x. (n : _) → ended n (past_keyed x.0 x.1 x.2.items tokens.now) ≡ Some (n, (x.3, x.4.now))) }
 {

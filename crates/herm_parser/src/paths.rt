@@ -3,7 +3,7 @@ ghost use Rattle.std.specs.Prelude.{◌≡◌, ◌∷◌, map, IfOk, Some};
 ghost use Rattle.herm_readers.specs.Combinators.{mapped, preceded, many, separated};
 ghost use Rattle.herm_syntax.specs.Symbols.{Sign, is};
 ghost use Rattle.herm_syntax.specs.ReadExpressions.{read_part, read_path, read_component_path, behind_name, named, read_atom};
-ghost use Rattle.herm_syntax.specs.Views.{letters, path_of, atom_of};
+ghost use Rattle.herm_syntax.specs.View.{name_view, path_form_view, atom_view};
 ghost use Rattle.herm_parser.specs.Along.{past_name, past_behind, past_each, past_list, past_path, past_atom};
 ghost use Rattle.herm_parser.specs.Gives.{kinds, Gives};
 
@@ -30,7 +30,7 @@ pub fn with_first<T: Drop>(
 
 /// A sign, and then a part.
 fn signed_part(alloc: Global, before: Mark, tokens: &[Token]) -> Result<(Name, &[Token]), Stop>
-    ensures read { Gives (λ x. letters x.0) (λ x. x.1.now) result (preceded (is (Sign before)) read_part (kinds tokens.now)) }
+    ensures read { Gives (λ x. name_view x.0) (λ x. x.1.now) result (preceded (is (Sign before)) read_part (kinds tokens.now)) }
     ensures along { IfOk result (λ x. past_behind past_name x.0 tokens.now ≡ Some x.1.now) }
 {
     let rest = sign(tokens, before)?;
@@ -43,7 +43,7 @@ fn parts_behind(
     before: Mark,
     tokens: &[Token],
 ) -> Result<(Vec<Name>, &[Token]), Stop>
-    ensures read { Gives (λ x. map letters x.0.items) (λ x. x.1.now) result (many (is (Sign before)) (preceded (is (Sign before)) read_part) (kinds tokens.now)) }
+    ensures read { Gives (λ x. map name_view x.0.items) (λ x. x.1.now) result (many (is (Sign before)) (preceded (is (Sign before)) read_part) (kinds tokens.now)) }
     ensures along { IfOk result (λ x. past_each (past_behind past_name) x.0.items tokens.now ≡ Some x.1.now) }
 {
     let mut found = Vec::new(alloc);
@@ -58,7 +58,7 @@ fn parts_behind(
 
 /// Parts with a sign between two.
 pub fn parts(alloc: Global, between: Mark, tokens: &[Token]) -> Result<(Vec<Name>, &[Token]), Stop>
-    ensures read { Gives (λ x. map letters x.0.items) (λ x. x.1.now) result (separated (is (Sign between)) read_part (kinds tokens.now)) }
+    ensures read { Gives (λ x. map name_view x.0.items) (λ x. x.1.now) result (separated (is (Sign between)) read_part (kinds tokens.now)) }
     ensures along { IfOk result (λ x. past_list past_name x.0.items tokens.now ≡ Some x.1.now) }
 {
     let (first, rest) = part(alloc, tokens)?;
@@ -68,7 +68,7 @@ pub fn parts(alloc: Global, between: Mark, tokens: &[Token]) -> Result<(Vec<Name
 
 /// A variable and the parts behind it.
 pub fn path(alloc: Global, tokens: &[Token]) -> Result<(PathForm, &[Token]), Stop>
-    ensures read { Gives (λ x. path_of x.0) (λ x. x.1.now) result (read_path (kinds tokens.now)) }
+    ensures read { Gives (λ x. path_form_view x.0) (λ x. x.1.now) result (read_path (kinds tokens.now)) }
     ensures along { IfOk result (λ x. past_path x.0 tokens.now ≡ Some x.1.now) }
 {
     let (variable, rest) = name(alloc, tokens)?;
@@ -79,7 +79,7 @@ pub fn path(alloc: Global, tokens: &[Token]) -> Result<(PathForm, &[Token]), Sto
 
 /// A path to a component: a variable, and at least one part behind it.
 pub fn component_path(alloc: Global, tokens: &[Token]) -> Result<(PathForm, &[Token]), Stop>
-    ensures read { Gives (λ x. path_of x.0) (λ x. x.1.now) result (read_component_path (kinds tokens.now)) }
+    ensures read { Gives (λ x. path_form_view x.0) (λ x. x.1.now) result (read_component_path (kinds tokens.now)) }
     ensures along { IfOk result (λ x. past_path x.0 tokens.now ≡ Some x.1.now) }
 {
     let (variable, rest) = name(alloc, tokens)?;
@@ -91,7 +91,7 @@ pub fn component_path(alloc: Global, tokens: &[Token]) -> Result<(PathForm, &[To
 
 /// What goes on behind a name: a value of the enumeration with that name, or the parts of a path.
 fn named(alloc: Global, name: Name, tokens: &[Token]) -> Result<(Atom, &[Token]), Stop>
-    ensures read { Gives (λ x. atom_of x.0) (λ x. x.1.now) result (mapped (named (letters name)) behind_name (kinds tokens.now)) }
+    ensures read { Gives (λ x. atom_view x.0) (λ x. x.1.now) result (mapped (named (name_view name)) behind_name (kinds tokens.now)) }
     ensures along { IfOk result (λ x. (before : _) → past_name name before ≡ Some tokens.now → past_atom x.0 before ≡ Some x.1.now) }
 {
     if sign_ahead(tokens, Mark::Hash) {
@@ -105,7 +105,7 @@ fn named(alloc: Global, name: Name, tokens: &[Token]) -> Result<(Atom, &[Token])
 
 /// A literal or a path.
 pub fn atom(alloc: Global, tokens: &[Token]) -> Result<(Atom, &[Token]), Stop>
-    ensures read { Gives (λ x. atom_of x.0) (λ x. x.1.now) result (read_atom (kinds tokens.now)) }
+    ensures read { Gives (λ x. atom_view x.0) (λ x. x.1.now) result (read_atom (kinds tokens.now)) }
     ensures along { IfOk result (λ x. past_atom x.0 tokens.now ≡ Some x.1.now) }
 {
     if is_constant_ahead(tokens) {

@@ -4,7 +4,7 @@ ghost use Rattle.herm_readers.specs.Reader.{ahead};
 ghost use Rattle.herm_readers.specs.Combinators.{one, passes, skip};
 ghost use Rattle.herm_syntax.specs.Symbols.{Key, Sign, is, is_keyword};
 ghost use Rattle.herm_syntax.specs.ReadExpressions.{read_name, read_part, pick_constant, is_constant};
-ghost use Rattle.herm_syntax.specs.Views.{letters, literal_of};
+ghost use Rattle.herm_syntax.specs.View.{name_view, literal_view};
 ghost use Rattle.herm_parser.specs.Gives.{kinds, Gives};
 ghost use Rattle.herm_parser.specs.Along.{past_token, past_name, past_literal};
 
@@ -92,7 +92,7 @@ fn is_keyword(text: &Word) -> bool
 
 /// A name, which is no keyword.
 pub fn name(alloc: Global, tokens: &[Token]) -> Result<(Name, &[Token]), Stop>
-    ensures read { Gives (λ x. letters x.0) (λ x. x.1.now) result (read_name (kinds tokens.now)) }
+    ensures read { Gives (λ x. name_view x.0) (λ x. x.1.now) result (read_name (kinds tokens.now)) }
     ensures along { IfOk result (λ x. past_name x.0 tokens.now ≡ Some x.1.now) }
 {
     match tokens {
@@ -113,7 +113,7 @@ pub fn name(alloc: Global, tokens: &[Token]) -> Result<(Name, &[Token]), Stop>
 
 /// A part: a name, or a keyword's letters.
 pub fn part(alloc: Global, tokens: &[Token]) -> Result<(Name, &[Token]), Stop>
-    ensures read { Gives (λ x. letters x.0) (λ x. x.1.now) result (read_part (kinds tokens.now)) }
+    ensures read { Gives (λ x. name_view x.0) (λ x. x.1.now) result (read_part (kinds tokens.now)) }
     ensures along { IfOk result (λ x. past_name x.0 tokens.now ≡ Some x.1.now) }
 {
     match tokens {
@@ -155,7 +155,7 @@ pub fn is_constant_ahead(tokens: &[Token]) -> bool
 
 /// A literal of one token: an integer, a string or a boolean.
 pub fn constant(alloc: Global, tokens: &[Token]) -> Result<(Literal, &[Token]), Stop>
-    ensures read { Gives (λ x. literal_of x.0) (λ x. x.1.now) result (one pick_constant (kinds tokens.now)) }
+    ensures read { Gives (λ x. literal_view x.0) (λ x. x.1.now) result (one pick_constant (kinds tokens.now)) }
     ensures along { IfOk result (λ x. past_literal x.0 tokens.now ≡ Some x.1.now) }
 {
     match tokens {

@@ -12,7 +12,7 @@ use Rattle.herm_journal.specs.Actions.{close}
 use Rattle.herm_journal.specs.Entries.{Text}
 use Rattle.herm_journal.specs.Messages.{CellAction}
 use Rattle.herm_journal.specs.Renaming.{forget_name}
-use Rattle.herm_system.specs.DiaryStates.{IsToldBy}
+use Rattle.herm_system.specs.PutAside.{IsToldBy}
 use Rattle.herm_runs.specs.examples.Countdowns.{counting_down}
 use Rattle.herm_runs.specs.examples.Closes.{closing, closed_with, Tells}
 use Rattle.herm_runs.proofs.OneState.{texts_left}

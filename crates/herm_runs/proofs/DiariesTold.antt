@@ -25,7 +25,8 @@ use Rattle.herm_model.specs.Values.{cell, an_inport, no_parts}
 use Rattle.herm_system.specs.Machines.{Machine, is_local, is_acting, inport_of}
 use Rattle.herm_system.specs.Systems.{System, Moved, Event, steps, acts, Run, run, run_on, step, start, opening, main_port, with_entry, with_made, set_process, set_holding, local_event, action_event, can, can_be_done, standing, stands, numbered_from_one, places_for, done_at, number_of}
 use Rattle.herm_system.specs.Suiting.{Suits, has_local_step, local_steps, Answers}
-use Rattle.herm_system.specs.DiaryStates.{IsToldBy, IsBehind, IsAfter, after_steps, after_entry}
+use Rattle.herm_system.specs.PutAside.{IsToldBy, IsBehind}
+use Rattle.herm_system.specs.DiaryStates.{IsAfter, after_steps, after_entry}
 use Rattle.herm_runs.specs.laws.ProcessLaws.{KeepsNumbers, ForgetsNames}
 use Rattle.herm_runs.specs.laws.DiaryLaws.{EventSuits, SuitsAlong, IsBorn, IsToldByDiary, DiariesTell}
 use Rattle.herm_runs.proofs.Numbered.{set-found_from_one, step-numbered, opening-numbered}

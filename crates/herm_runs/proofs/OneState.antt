@@ -14,7 +14,8 @@ use Rattle.herm_journal.specs.Messages.{CellReply, CellWant, CellAction, OfType,
 use Rattle.herm_system.specs.Machines.{Machine, OpenCall}
 use Rattle.herm_system.specs.Systems.{number_of}
 use Rattle.herm_system.specs.Suiting.{has_local_step, local_steps, Answers, Suits}
-use Rattle.herm_system.specs.DiaryStates.{IsBehind, IsAfter, after_steps, after_entry}
+use Rattle.herm_system.specs.PutAside.{IsBehind}
+use Rattle.herm_system.specs.DiaryStates.{IsAfter, after_steps, after_entry}
 use Rattle.herm_runs.specs.laws.DiaryLaws.{EntriesTellOneAction, DiariesLeadToOneState}
 use Rattle.herm_runs.proofs.ActionParts.{cond-both}
 

@@ -5,7 +5,8 @@ ghost use Rattle.herm_model.specs.Statements.{block, no_blocks, no_statements};
 ghost use Rattle.herm_model.specs.Values.{an_inport};
 ghost use Rattle.herm_source.specs.examples.CheckedExamples.{CanBeChecked, choosing_code, component_target, is_stuck_behind, IsTypedAt, nested_loops, other_port, stands_behind, Stand};
 ghost use Rattle.herm_source.specs.examples.ComponentPrograms.{taken_apart};
-ghost use Rattle.herm_source.specs.examples.Programs.{kept_parameter, two_senders};
+ghost use Rattle.herm_source.specs.examples.CallPrograms.{kept_parameter};
+ghost use Rattle.herm_source.specs.examples.Programs.{two_senders};
 
 /// The two senders, a call with a parameter that an exception keeps, nested loops that are left, and a program that takes values apart
 /// are typed and accepted: so their processes stay sound in every state.

@@ -3,7 +3,8 @@
 ghost use Rattle.std.specs.Prelude.{◌≡◌, [], ◌∷◌, Some};
 ghost use Rattle.herm_source.specs.examples.CheckedExamples.{nested_loops};
 ghost use Rattle.herm_source.specs.examples.CountExamples.{closed_with, counted_behind, no_call, open_with, with_callmessage, with_reply};
-ghost use Rattle.herm_source.specs.examples.Programs.{kept_parameter, left_loop, two_senders};
+ghost use Rattle.herm_source.specs.examples.CallPrograms.{kept_parameter};
+ghost use Rattle.herm_source.specs.examples.Programs.{left_loop, two_senders};
 ghost use Rattle.herm_source.specs.laws.CountLaws.{TypedProgramsKeepCounts};
 
 /// Of a typed and accepted program a process keeps its inports and callmessages accounted for, of each port and each call:

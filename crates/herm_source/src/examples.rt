@@ -2,7 +2,8 @@
 
 ghost use Rattle.std.specs.Prelude.{◌≡◌, List, [], ◌∷◌, Some, codes};
 ghost use Rattle.herm_system.specs.RunTexts.{plainly, with_summary, the_journal};
-ghost use Rattle.herm_source.specs.examples.Programs.{calls_both_ways, deep_polymorph, discarded_call, empty_body, greeting, idle_process, kept_parameter, left_loop, one_branch, one_too_many, own_queue, port_in_message, ports_until_full, refused_insert, returned_call, two_senders, untaken_call, waiting_select};
+ghost use Rattle.herm_source.specs.examples.CallPrograms.{calls_both_ways, discarded_call, kept_parameter, returned_call, untaken_call};
+ghost use Rattle.herm_source.specs.examples.Programs.{deep_polymorph, empty_body, greeting, idle_process, left_loop, one_branch, one_too_many, own_queue, port_in_message, ports_until_full, refused_insert, two_senders, waiting_select};
 ghost use Rattle.std.specs.Prelude.{ℤ};
 ghost use Rattle.herm_source.specs.examples.ComponentPrograms.{taken_apart};
 ghost use Rattle.herm_source.specs.examples.RunExamples.{console_with, ending, limited, in_lines, ready_program};

@@ -6,7 +6,8 @@ ghost use Rattle.herm_journal.specs.Actions.{raised, to_answer, to_close, to_hea
 ghost use Rattle.herm_system.specs.Machines.{acting, local};
 ghost use Rattle.herm_source.specs.examples.CheckedExamples.{nested_loops};
 ghost use Rattle.herm_source.specs.examples.MiddleExamples.{middle_of};
-ghost use Rattle.herm_source.specs.examples.Programs.{busy, kept_parameter, two_senders};
+ghost use Rattle.herm_source.specs.examples.CallPrograms.{busy, kept_parameter};
+ghost use Rattle.herm_source.specs.examples.Programs.{two_senders};
 
 /// Two senders: main has a message for the second one, a full record with an outport to its own port; the first one steps. Both have
 /// values where their facts say, and their ports stand at places of their types.

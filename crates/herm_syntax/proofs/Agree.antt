@@ -9,7 +9,8 @@ use Rattle.herm_alphabet.specs.declared.keyword.Keyword.{Keyword}
 use Rattle.herm_alphabet.specs.declared.sign.Mark.{Mark}
 use Rattle.herm_alphabet.specs.declared.keyword.Keyword.TheVariants.{KwAs, KwCall, KwCallmessage, KwCase, KwCreate, KwDefinitions, KwElse, KwEnum, KwException, KwFor, KwFrom, KwFull, KwIf, KwIn, KwInit, KwInport, KwInto, KwKey, KwLeave, KwLength, KwNot, KwOf, KwOn, KwOutport, KwProcess, KwRaise, KwRaises, KwReceive, KwRecord, KwReturn, KwSelect, KwSize, KwTable, KwText, KwTo, KwTry, KwType, KwUnwrap, KwVar, KwVariant, KwWhen, KwWhile}
 use Rattle.herm_alphabet.specs.declared.sign.Mark.TheVariants.{ParenOpen, ParenClose, BraceOpen, BraceClose, BracketOpen, BracketClose, Comma, Semicolon, Colon, Becomes, Dot, Hash, Equal, Minus}
-use Rattle.herm_syntax.specs.Symbols.{Symbol, Key, Sign, Identifier, Number, Quoted, bracket_side, side, is, is_operator, sign_level, minus, kw_not, kw_exception, paren_open, paren_close, brace_open, brace_close, bracket_open, bracket_close, comma, semicolon, colon, becomes, dot, hash, equal}
+use Rattle.herm_syntax.specs.Symbols.{Symbol, Key, Sign, Identifier, Number, Quoted, bracket_side, side, is, is_operator, sign_level, minus, paren_open, paren_close, brace_open, brace_close, bracket_open, bracket_close, comma, semicolon, colon, becomes, dot, hash, equal}
+use Rattle.herm_syntax.specs.KeywordSymbols.{kw_not, kw_exception}
 use Rattle.herm_syntax.specs.Trees.{Letters, Literal, Integer, Text, Boolean, Tag, Expression, Primary, Statements, Mode, In, Inout, Out}
 use Rattle.herm_syntax.specs.Words.{Transfer, Moving, Uniting, Dissolving, Wrapping, Inserting, Connecting, Sending, Receiving, Touch, Making, Discarding, Revealing, Find, Removing, Getting, transfer, between, touch, find, pick_transfer, pick_touch, pick_find, is_transfer, is_touch, is_find, read_first_path, read_touched}
 use Rattle.herm_syntax.specs.Spelling.{part_at, mode}

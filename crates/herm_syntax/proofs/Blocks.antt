@@ -11,13 +11,14 @@ use Rattle.herm_readers.proofs.Lists.{many_reads}
 use Rattle.herm_readers.proofs.Readings.{Reading, nothing_more, turned, both, either_of, separated_end}
 use Rattle.herm_alphabet.specs.declared.keyword.Keyword.TheVariants.{KwCase, KwElse, KwFor, KwIf, KwIn, KwOn, KwReceive, KwSelect, KwTry, KwWhen, KwWhile}
 use Rattle.herm_alphabet.specs.declared.sign.Mark.TheVariants.{ParenClose, BraceOpen, BraceClose, Comma, Semicolon, Becomes}
-use Rattle.herm_syntax.specs.Symbols.{Symbol, Key, is, kw_as, kw_exception, kw_from, kw_in, kw_into, kw_of, kw_receive, kw_to, paren_open, paren_close, brace_open, bracket_open, bracket_close, comma, semicolon, becomes}
+use Rattle.herm_syntax.specs.Symbols.{Symbol, Key, is, paren_open, paren_close, brace_open, bracket_open, bracket_close, comma, semicolon, becomes}
+use Rattle.herm_syntax.specs.KeywordSymbols.{kw_as, kw_exception, kw_from, kw_in, kw_into, kw_of, kw_receive, kw_to}
 use Rattle.herm_syntax.specs.Trees.{Letters, Path, Integer, Text, Boolean, Tag, Atom, Constant, Place, Expression, Move, Unite, Dissolve, Wrap, Insert, Connect, Send, Receive, New, Discard, Reveal, Remove, Get, Statement, Assign, Unwrap, Call, Return, ReturnBy, Create, Raise, Leave, Case, For, Select, If, While, Try, Statements, NoStatement, Further, Arms, NoArm, Arm, PortArms, NoPortArm, PortArm, Otherwise, NoElse, Else}
 use Rattle.herm_syntax.specs.Words.{Moving, Uniting, Dissolving, Wrapping, Inserting, Connecting, Sending, Receiving, Making, Discarding, Revealing, Removing, Getting}
 use Rattle.herm_syntax.specs.Spelling.{atom, statement, statements, case_arms, port_arms, handlers, otherwise}
 use Rattle.herm_syntax.specs.Fitting.{is_name, path_fits, atom_fits, expression_fits, has_arm, has_port_arm, statement_fits, statements_fit, case_arms_fit, port_arms_fit, handlers_fit, otherwise_fits}
 use Rattle.herm_syntax.specs.ReadExpressions.{path_ends, expression_rule, atom_rule, read_expression}
-use Rattle.herm_syntax.specs.ReadStatements.{arms_of, port_arms_of, otherwise_of, Plain, Compound, plain_of, compound_of, statement_of, is_plain, inside, statements_of, no_statement, read_statement, read_statements, if_ends, statement_ends, further_end, statement_rule, statements_rule}
+use Rattle.herm_syntax.specs.ReadStatements.{arms_of, port_arms_of, otherwise_of, PlainStatement, CompoundStatement, plain_of, compound_of, statement_of, is_plain, inside, statements_of, no_statement, read_statement, read_statements, if_ends, statement_ends, further_end, statement_rule, statements_rule}
 use Rattle.herm_syntax.proofs.Names.{sign_test}
 use Rattle.herm_syntax.proofs.Paths.{path_stops, component_path_stops, atom_stops}
 use Rattle.herm_syntax.proofs.Stops.{expression_stops}
@@ -46,7 +47,7 @@ pub arguments_stop : (arguments : List Atom) → many_fits atom_fits arguments �
 arguments_stop arguments f = listed_end ParenClose atom_r refl atom_leads (λ a g. atom_stops a (Some comma) refl refl) (λ a g. atom_stops a (Some paren_close) refl refl) arguments f
 
 -- A plain statement.
-pub plain_fits : (levels : ℕ) (x : Plain) → plain_r.rule.fits x ≡ true → statement_fits (plain_of x) levels ≡ true
+pub plain_fits : (levels : ℕ) (x : PlainStatement) → plain_r.rule.fits x ≡ true → statement_fits (plain_of x) levels ≡ true
 plain_fits levels (inl (Moving, x)) f = f
 plain_fits levels (inl (Uniting, x)) f = f
 plain_fits levels (inl (Dissolving, x)) f = f
@@ -68,7 +69,7 @@ plain_fits levels (inr (inr (inr (inr (inr (inr (inl x))))))) f = f
 plain_fits levels (inr (inr (inr (inr (inr (inr (inr (inl name)))))))) f = f
 plain_fits levels (inr (inr (inr (inr (inr (inr (inr (inr none)))))))) f = refl
 
-pub plain_spelled : (x : Plain) → statement (plain_of x) ≡ plain_r.rule.spelling x
+pub plain_spelled : (x : PlainStatement) → statement (plain_of x) ≡ plain_r.rule.spelling x
 plain_spelled (inl (Moving, x)) = refl
 plain_spelled (inl (Uniting, x)) = refl
 plain_spelled (inl (Dissolving, x)) = refl
@@ -97,7 +98,7 @@ keyed_stop r t keys f =
     let fit_keys = and_parts (separated_fits atom_fits keys) true (and_parts (path_fits t) (separated_fits atom_fits keys && true) fit.1).1 in
     both_true (path_stops r (Some kw_from) refl) (both_true (path_stops t (Some bracket_open) refl) (both_true (atoms_stop keys fit_keys.0) refl))
 
-pub plain_ended : (x : Plain) (beyond : Option Symbol) → plain_r.rule.fits x ≡ true → statement_ends (plain_of x) beyond ≡ (passes is_plain (ahead (plain_r.rule.spelling x) beyond) && plain_r.rule.ends x beyond)
+pub plain_ended : (x : PlainStatement) (beyond : Option Symbol) → plain_r.rule.fits x ≡ true → statement_ends (plain_of x) beyond ≡ (passes is_plain (ahead (plain_r.rule.spelling x) beyond) && plain_r.rule.ends x beyond)
 plain_ended (inl (Moving, (p, q))) beyond f = sym (both_true (path_stops p (Some kw_to) refl) (path_stops q (Some semicolon) refl))
 plain_ended (inl (Uniting, (p, q))) beyond f = sym (both_true (component_path_stops p (Some kw_from) refl) (path_stops q (Some semicolon) refl))
 plain_ended (inl (Dissolving, (p, q))) beyond f = sym (both_true (component_path_stops p (Some kw_into) refl) (path_stops q (Some semicolon) refl))
@@ -262,14 +263,14 @@ module _ (levels : ℕ) (read_e : Reader Symbol Expression) (read_s : Reader Sym
   abbrev pub assign_r : Reading Symbol (Path × Expression)
   assign_r = both path_r (sign_then Becomes (then_sign Semicolon expression_r))
 
-  abbrev pub compound_r : Reading Symbol Compound
+  abbrev pub compound_r : Reading Symbol CompoundStatement
   compound_r = either_of (is (Key KwCase)) case_r (either_of (is (Key KwFor)) for_r (either_of (is (Key KwSelect)) select_r
       (either_of (is (Key KwIf)) if_r (either_of (is (Key KwWhile)) while_r (either_of (is (Key KwTry)) try_r assign_r)))))
 
-  abbrev pub statement_parts : Reading Symbol (Plain ⊎ Compound)
+  abbrev pub statement_parts : Reading Symbol (PlainStatement ⊎ CompoundStatement)
   statement_parts = either_of is_plain plain_r compound_r
 
-  pub compound_fits : (x : Compound) → compound_r.rule.fits x ≡ true → statement_fits (compound_of x) levels ≡ true
+  pub compound_fits : (x : CompoundStatement) → compound_r.rule.fits x ≡ true → statement_fits (compound_of x) levels ≡ true
   compound_fits (inl x) f = f
   compound_fits (inr (inl x)) f = f
   compound_fits (inr (inr (inl x))) f = f
@@ -278,7 +279,7 @@ module _ (levels : ℕ) (read_e : Reader Symbol Expression) (read_s : Reader Sym
   compound_fits (inr (inr (inr (inr (inr (inl x)))))) f = f
   compound_fits (inr (inr (inr (inr (inr (inr x)))))) f = f
 
-  pub compound_spelled : (x : Compound) → statement (compound_of x) ≡ compound_r.rule.spelling x
+  pub compound_spelled : (x : CompoundStatement) → statement (compound_of x) ≡ compound_r.rule.spelling x
   compound_spelled (inl x) = refl
   compound_spelled (inr (inl x)) = refl
   compound_spelled (inr (inr (inl x))) = refl
@@ -287,7 +288,7 @@ module _ (levels : ℕ) (read_e : Reader Symbol Expression) (read_s : Reader Sym
   compound_spelled (inr (inr (inr (inr (inr (inl x)))))) = refl
   compound_spelled (inr (inr (inr (inr (inr (inr x)))))) = refl
 
-  pub compound_ended : (x : Compound) (beyond : Option Symbol) → compound_r.rule.fits x ≡ true → statement_ends (compound_of x) beyond ≡ (not (passes is_plain (ahead (compound_r.rule.spelling x) beyond)) && compound_r.rule.ends x beyond)
+  pub compound_ended : (x : CompoundStatement) (beyond : Option Symbol) → compound_r.rule.fits x ≡ true → statement_ends (compound_of x) beyond ≡ (not (passes is_plain (ahead (compound_r.rule.spelling x) beyond)) && compound_r.rule.ends x beyond)
   compound_ended (inl (v, arms)) beyond f = sym (both_true (path_stops v (Some brace_open) refl) refl)
   compound_ended (inr (inl (r, (t, body)))) beyond f =
       let fit = and_parts (path_fits r) (path_fits t && statements_fit body levels) f in
@@ -308,19 +309,19 @@ module _ (levels : ℕ) (read_e : Reader Symbol Expression) (read_s : Reader Sym
       let fit = and_parts (path_fits (variable ∷ parts)) (expression_fits e 5 levels) f in
       sym (both_true (path_stops (variable ∷ parts) (Some becomes) refl) (expression_stops e 5 levels (Some semicolon) fit.1 refl))
 
-  pub statement_fits_of : (found : Plain ⊎ Compound) → statement_parts.rule.fits found ≡ true → statement_fits (statement_of found) levels ≡ true
+  pub statement_fits_of : (found : PlainStatement ⊎ CompoundStatement) → statement_parts.rule.fits found ≡ true → statement_fits (statement_of found) levels ≡ true
   statement_fits_of (inl x) f = plain_fits levels x f
   statement_fits_of (inr x) f = compound_fits x f
 
-  pub statement_spelled : (found : Plain ⊎ Compound) → statement_parts.rule.fits found ≡ true → statement (statement_of found) ≡ statement_parts.rule.spelling found
+  pub statement_spelled : (found : PlainStatement ⊎ CompoundStatement) → statement_parts.rule.fits found ≡ true → statement (statement_of found) ≡ statement_parts.rule.spelling found
   statement_spelled (inl x) f = plain_spelled x
   statement_spelled (inr x) f = compound_spelled x
 
-  pub statement_ended : (found : Plain ⊎ Compound) (beyond : Option Symbol) → statement_parts.rule.fits found ≡ true → statement_ends (statement_of found) beyond ≡ statement_parts.rule.ends found beyond
+  pub statement_ended : (found : PlainStatement ⊎ CompoundStatement) (beyond : Option Symbol) → statement_parts.rule.fits found ≡ true → statement_ends (statement_of found) beyond ≡ statement_parts.rule.ends found beyond
   statement_ended (inl x) beyond f = plain_ended x beyond f
   statement_ended (inr x) beyond f = compound_ended x beyond f
 
-  pub statement_back : (s : Statement) → statement_fits s levels ≡ true → (found : Plain ⊎ Compound) × (statement_parts.rule.fits found ≡ true) × (statement_of found ≡ s)
+  pub statement_back : (s : Statement) → statement_fits s levels ≡ true → (found : PlainStatement ⊎ CompoundStatement) × (statement_parts.rule.fits found ≡ true) × (statement_of found ≡ s)
   statement_back (Assign x e) f = (inr (inr (inr (inr (inr (inr (inr (x, e))))))), f, refl)
   statement_back (Move y x) f = (inl (inl (Moving, (y, x))), f, refl)
   statement_back (Unite v y) f = (inl (inl (Uniting, (v, y))), f, refl)

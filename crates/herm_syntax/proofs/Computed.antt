@@ -1,7 +1,8 @@
 -- The computed examples.
 use Rattle.std.proofs.Common.{refl}
 use Rattle.herm_alphabet.specs.KeywordLetters.{keyword_of}
-use Rattle.herm_syntax.specs.examples.ExampleTrees.{Expressions, Plain, Compound, Items, Files, Fitting, Words}
+use Rattle.herm_syntax.specs.examples.ExampleTrees.{Expressions, Plain, Compound, Files, Fitting, Words}
+use Rattle.herm_syntax.specs.examples.ExampleItems.{Items}
 
 pub expressions_hold : Expressions
 unfolding keyword_of

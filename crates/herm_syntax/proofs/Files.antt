@@ -10,7 +10,8 @@ use Rattle.herm_readers.proofs.Simple.{one_reads}
 use Rattle.herm_readers.proofs.Readings.{Reading, nothing_more, turned, refit, refit_reads, both, either_of, many_of, many_end, separated_by, separated_end}
 use Rattle.herm_alphabet.specs.declared.keyword.Keyword.TheVariants.{KwCallmessage, KwCase, KwDefinitions, KwEnum, KwException, KwFull, KwIn, KwInit, KwInout, KwInport, KwKey, KwOf, KwOut, KwOutport, KwProcess, KwRaises, KwRecord, KwTable, KwType, KwVar, KwVariant}
 use Rattle.herm_alphabet.specs.declared.sign.Mark.TheVariants.{ParenClose, Comma, Semicolon, Colon, Dot, Equal}
-use Rattle.herm_syntax.specs.Symbols.{Symbol, Key, is, kw_var, paren_close, brace_open, brace_close, comma, semicolon, dot}
+use Rattle.herm_syntax.specs.Symbols.{Symbol, Key, is, paren_close, brace_open, brace_close, comma, semicolon, dot}
+use Rattle.herm_syntax.specs.KeywordSymbols.{kw_var}
 use Rattle.herm_syntax.specs.Trees.{Letters, Statements, Field, Mode, In, Inout, Out, Param, Raising, DeclaredFact, InitFact, FullFact, CaseFact, Shape, Names, Fields, Cases, Rows, Inport, Outport, CallMessage, Item, TypeItem, ExceptionItem, Module, Definitions, Process}
 use Rattle.herm_syntax.specs.Spelling.{mode, statements, declared_fact, declared_facts, kept, raising, raisings, shape, item, variables, module_symbols}
 use Rattle.herm_syntax.specs.Fitting.{is_name, any_part, field_fits, param_fits, declared_fact_fits, raising_fits, shape_fits, item_fits, statements_fit, module_fits}

@@ -3,7 +3,8 @@ use Rattle.std.proofs.Common.{◌≡◌, ◌≢◌, ℕ, zero, suc, Bool, true, 
 use Rattle.std.proofs.lemmas.Bool.{and_parts, and_from}
 use Rattle.herm_readers.specs.Reader.{ahead}
 use Rattle.herm_readers.specs.Combinators.{passes}
-use Rattle.herm_syntax.specs.Symbols.{Symbol, Identifier, is, kw_call, kw_case, kw_create, kw_else, kw_for, kw_if, kw_leave, kw_on, kw_raise, kw_return, kw_select, kw_try, kw_unwrap, kw_var, kw_while, brace_close, comma, kw_move, kw_unite, kw_dissolve, kw_wrap, kw_insert, kw_connect, kw_send, kw_receive, kw_new, kw_discard, kw_reveal, kw_remove, kw_get}
+use Rattle.herm_syntax.specs.Symbols.{Symbol, Identifier, is, brace_close, comma}
+use Rattle.herm_syntax.specs.KeywordSymbols.{kw_call, kw_case, kw_create, kw_else, kw_for, kw_if, kw_leave, kw_on, kw_raise, kw_return, kw_select, kw_try, kw_unwrap, kw_var, kw_while, kw_move, kw_unite, kw_dissolve, kw_wrap, kw_insert, kw_connect, kw_send, kw_receive, kw_new, kw_discard, kw_reveal, kw_remove, kw_get}
 use Rattle.herm_syntax.specs.Trees.{Path, Move, Unite, Dissolve, Wrap, Insert, Connect, Send, Receive, New, Discard, Reveal, Remove, Get, Statement, Assign, Unwrap, Call, Return, ReturnBy, Create, Raise, Leave, Case, For, Select, If, While, Try, Statements, NoStatement, Further, Otherwise, NoElse, Else}
 use Rattle.herm_syntax.specs.Spelling.{statement, statements}
 use Rattle.herm_syntax.specs.Fitting.{statement_fits, statements_fit}

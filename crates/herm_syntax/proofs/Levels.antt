@@ -11,7 +11,8 @@ use Rattle.herm_readers.proofs.Choices.{choice_reads}
 use Rattle.herm_readers.proofs.Lists.{many_reads}
 use Rattle.herm_alphabet.specs.declared.keyword.Keyword.TheVariants.{KwLength, KwSize, KwText}
 use Rattle.herm_alphabet.specs.declared.sign.Mark.TheVariants.{ParenOpen, ParenClose}
-use Rattle.herm_syntax.specs.Symbols.{Symbol, is, is_operator, kw_size, kw_text, kw_length, minus, star, plus, equal, kw_and, kw_or, paren_open, paren_close}
+use Rattle.herm_syntax.specs.Symbols.{Symbol, is, is_operator, minus, star, plus, equal, paren_open, paren_close}
+use Rattle.herm_syntax.specs.KeywordSymbols.{kw_size, kw_text, kw_length, kw_and, kw_or}
 use Rattle.herm_syntax.specs.Trees.{Path, Integer, Text, Boolean, Tag, Atom, Constant, Place, Expression, Chain, Compare, Unary, Operands, NoOperand, Operand, NoComparison, With, Primary, Simple, Size, Paren, TextOf, LengthOf}
 use Rattle.herm_syntax.specs.Spelling.{expression, operands, primary}
 use Rattle.herm_syntax.specs.Fitting.{is_sign, expression_fits, operands_fit, comparison_fits, primary_fits}

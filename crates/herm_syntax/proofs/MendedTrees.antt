@@ -3,7 +3,8 @@
 use Rattle.std.proofs.Common.{◌≡◌, ℕ, zero, suc, Bool, true, false, not, ◌&&◌, List, [], ◌∷◌, ◌++◌, map, Option, Some, None, nat_eq, refl, sym, ap, ap₂, ◌∙◌}
 use Rattle.std.proofs.lemmas.Bool.{and_parts, and_from}
 use Rattle.herm_readers.specs.Combinators.{separated_spelling, many_fits, separated_fits}
-use Rattle.herm_syntax.specs.Symbols.{Symbol, Key, Sign, Identifier, Number, Quoted, is_operator, semicolon, becomes, brace_close, brace_open, bracket_open, colon, comma, equal, hash, kw_as, kw_call, kw_callmessage, kw_case, kw_connect, kw_create, kw_definitions, kw_discard, kw_dissolve, kw_else, kw_enum, kw_for, kw_from, kw_full, kw_get, kw_if, kw_in, kw_init, kw_inout, kw_inport, kw_insert, kw_into, kw_key, kw_length, kw_move, kw_new, kw_of, kw_on, kw_out, kw_process, kw_raises, kw_receive, kw_record, kw_remove, kw_return, kw_reveal, kw_select, kw_send, kw_size, kw_table, kw_text, kw_to, kw_try, kw_type, kw_unite, kw_unwrap, kw_var, kw_variant, kw_when, kw_while, kw_wrap, paren_close, paren_open}
+use Rattle.herm_syntax.specs.Symbols.{Symbol, Key, Sign, Identifier, Number, Quoted, is_operator, semicolon, becomes, brace_close, brace_open, bracket_open, colon, comma, equal, hash, paren_close, paren_open}
+use Rattle.herm_syntax.specs.KeywordSymbols.{kw_as, kw_call, kw_callmessage, kw_case, kw_connect, kw_create, kw_definitions, kw_discard, kw_dissolve, kw_else, kw_enum, kw_for, kw_from, kw_full, kw_get, kw_if, kw_in, kw_init, kw_inout, kw_inport, kw_insert, kw_into, kw_key, kw_length, kw_move, kw_new, kw_of, kw_on, kw_out, kw_process, kw_raises, kw_receive, kw_record, kw_remove, kw_return, kw_reveal, kw_select, kw_send, kw_size, kw_table, kw_text, kw_to, kw_try, kw_type, kw_unite, kw_unwrap, kw_var, kw_variant, kw_when, kw_while, kw_wrap}
 use Rattle.herm_syntax.specs.Trees.{Letters, Path, Literal, Integer, Text, Boolean, Tag, Atom, Constant, Place, Expression, Chain, Compare, Unary, Operands, NoOperand, Operand, Comparison, NoComparison, With, Primary, Simple, Size, Paren, TextOf, LengthOf, Statement, Assign, Move, Unite, Dissolve, Wrap, Insert, Connect, Send, Receive, New, Discard, Reveal, Remove, Get, Unwrap, Call, Return, ReturnBy, Create, Raise, Leave, Case, For, Select, If, While, Try, Statements, NoStatement, Further, Arms, NoArm, Arm, PortArms, NoPortArm, PortArm, Otherwise, NoElse, Else, Field, Mode, In, Inout, Out, Param, Raising, DeclaredFact, InitFact, FullFact, CaseFact, Shape, Names, Fields, Cases, Rows, Inport, Outport, CallMessage, Item, TypeItem, ExceptionItem, Module, Definitions, Process}
 use Rattle.herm_syntax.specs.Spelling.{dotted, path, literal, atom, atoms, expression, operands, comparison, primary, statement, statements, case_arms, port_arms, handlers, otherwise, part, parts, field, fields, param, fact_path, declared_fact, declared_facts, kept, raising, raisings, shape, item, variables, module_symbols, file}
 use Rattle.herm_syntax.specs.Fitting.{is_name, any_part, path_fits, component_path_fits, literal_fits, atom_fits, is_sign, sign_fits, expression_fits, operands_fit, comparison_fits, primary_fits, has_arm, has_port_arm, statement_fits, statements_fit, case_arms_fit, port_arms_fit, handlers_fit, otherwise_fits, field_fits, param_fits, declared_fact_fits, raising_fits, shape_fits, item_fits, module_fits, file_fits}

@@ -10,7 +10,8 @@ use Rattle.herm_alphabet.specs.KeywordLetters.{letters, keyword_of}
 use Rattle.herm_alphabet.specs.declared.keyword.Keyword.{Keyword}
 use Rattle.herm_alphabet.specs.declared.sign.Mark.{Mark}
 use Rattle.herm_alphabet.proofs.Keywords.{keyword_of-letters, keyword_of-some, one_keyword, own_keyword, one_mark, own_mark}
-use Rattle.herm_syntax.specs.Symbols.{Symbol, Key, Sign, Identifier, Number, Quoted, is_keyword, is, kw_true, kw_false}
+use Rattle.herm_syntax.specs.Symbols.{Symbol, Key, Sign, Identifier, Number, Quoted, is_keyword, is}
+use Rattle.herm_syntax.specs.KeywordSymbols.{kw_true, kw_false}
 use Rattle.herm_syntax.specs.Trees.{Letters, Literal, Integer, Text, Boolean, Tag}
 use Rattle.herm_syntax.specs.Spelling.{part_at, part}
 use Rattle.herm_syntax.specs.Fitting.{is_name, any_part}

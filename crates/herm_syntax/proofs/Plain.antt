@@ -11,13 +11,14 @@ use Rattle.herm_alphabet.specs.declared.keyword.Keyword.{Keyword}
 use Rattle.herm_alphabet.specs.declared.sign.Mark.{Mark}
 use Rattle.herm_alphabet.specs.declared.keyword.Keyword.TheVariants.{KwAs, KwCall, KwConnect, KwCreate, KwDiscard, KwDissolve, KwException, KwFrom, KwGet, KwInsert, KwInto, KwLeave, KwMove, KwNew, KwOf, KwRaise, KwReceive, KwRemove, KwReturn, KwReveal, KwSend, KwTo, KwUnite, KwUnwrap, KwWrap}
 use Rattle.herm_alphabet.specs.declared.sign.Mark.TheVariants.{ParenOpen, ParenClose, BraceOpen, BraceClose, BracketOpen, BracketClose, Comma, Semicolon}
-use Rattle.herm_syntax.specs.Symbols.{Symbol, Key, Sign, is, kw_exception, comma}
+use Rattle.herm_syntax.specs.Symbols.{Symbol, Key, Sign, is, comma}
+use Rattle.herm_syntax.specs.KeywordSymbols.{kw_exception}
 use Rattle.herm_syntax.specs.Trees.{Letters, Path, Atom}
 use Rattle.herm_syntax.specs.Words.{Transfer, Moving, Uniting, Dissolving, Wrapping, Inserting, Connecting, Sending, Receiving, Touch, Making, Discarding, Revealing, Find, Removing, Getting, transfer, between, touch, find, pick_transfer, pick_touch, pick_find, is_transfer, is_touch, is_find, read_first_path, read_touched}
 use Rattle.herm_syntax.specs.Spelling.{path}
 use Rattle.herm_syntax.specs.Fitting.{path_fits, component_path_fits}
 use Rattle.herm_syntax.specs.ReadExpressions.{name_rule, read_name, part_rule, read_part, path_rule, path_ends, read_path, component_path_ends, atom_rule, read_atom}
-use Rattle.herm_syntax.specs.ReadStatements.{listed_of, Plain}
+use Rattle.herm_syntax.specs.ReadStatements.{listed_of, PlainStatement}
 use Rattle.herm_syntax.proofs.Names.{keyword_test, sign_test, name_reads, part_reads}
 use Rattle.herm_syntax.proofs.Paths.{path_reads, component_path_reads, atom_reads}
 
@@ -267,6 +268,6 @@ raise_r = keyword_then KwRaise (then_sign Semicolon name_r)
 abbrev pub leave_r : Reading Symbol (Unit {0})
 leave_r = keyword_then KwLeave end_r
 
-abbrev pub plain_r : Reading Symbol Plain
+abbrev pub plain_r : Reading Symbol PlainStatement
 plain_r = either_of is_transfer two_paths_r (either_of is_touch one_path_r (either_of is_find keyed_r (either_of (is (Key KwUnwrap)) unwrap_r (either_of (is (Key KwCall)) call_r
     (either_of (is (Key KwReturn)) return_r (either_of (is (Key KwCreate)) create_r (either_of (is (Key KwRaise)) raise_r leave_r)))))))

@@ -4,7 +4,8 @@
 -- in a block, stand one deeper than what holds them.
 use Rattle.std.specs.Prelude.{◌≡◌, ℕ, zero, suc, Bool, true, false, not, ◌&&◌, if◌then◌else◌, List, [], ◌∷◌, Option, Some, None, nat_eq}
 use Rattle.herm_readers.specs.Combinators.{many_fits, separated_fits}
-use Rattle.herm_syntax.specs.Symbols.{Symbol, is, is_operator, is_keyword, minus, kw_not}
+use Rattle.herm_syntax.specs.Symbols.{Symbol, is, is_operator, is_keyword, minus}
+use Rattle.herm_syntax.specs.KeywordSymbols.{kw_not}
 use Rattle.herm_syntax.specs.Trees.{Letters, Path, Literal, Integer, Text, Boolean, Tag, Atom, Constant, Place, Expression, Chain, Compare, Unary, Operands, NoOperand, Operand, Comparison, NoComparison, With, Primary, Simple, Size, Paren, TextOf, LengthOf, Move, Unite, Dissolve, Wrap, Insert, Connect, Send, Receive, New, Discard, Reveal, Statement, Assign, Remove, Get, Unwrap, Call, Return, ReturnBy, Create, Raise, Leave, Case, For, Select, If, While, Try, Statements, NoStatement, Further, Arms, NoArm, Arm, PortArms, NoPortArm, PortArm, Otherwise, NoElse, Else, Field, Param, Raising, DeclaredFact, InitFact, FullFact, CaseFact, Shape, Names, Fields, Cases, Rows, Inport, Outport, CallMessage, Item, TypeItem, ExceptionItem, Module, Definitions, Process}
 
 -- A name has no keyword's letters: language reference, "Names, parts and paths".

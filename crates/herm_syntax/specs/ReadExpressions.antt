@@ -4,7 +4,8 @@ use mathlib.Core.Logic.{inl, inr}
 use Rattle.herm_readers.specs.Reader.{Reader, Rule, ahead}
 use Rattle.herm_readers.specs.Combinators.{passes, nothing, one, one_rule, mapped, sequence, preceded, preceded_rule, terminated, choice, choice_rule, many, many_rule, separated}
 use Rattle.herm_alphabet.specs.KeywordLetters.{letters}
-use Rattle.herm_syntax.specs.Symbols.{Symbol, Key, Sign, Identifier, Number, Quoted, is, is_operator, is_keyword, kw_true, kw_false, kw_size, kw_text, kw_length, paren_open, paren_close, dot, hash}
+use Rattle.herm_syntax.specs.Symbols.{Symbol, Key, Sign, Identifier, Number, Quoted, is, is_operator, is_keyword, paren_open, paren_close, dot, hash}
+use Rattle.herm_syntax.specs.KeywordSymbols.{kw_true, kw_false, kw_size, kw_text, kw_length}
 use Rattle.herm_syntax.specs.Trees.{Letters, Path, Literal, Integer, Text, Boolean, Tag, Atom, Constant, Place, Expression, Chain, Compare, Unary, Operands, NoOperand, Operand, Comparison, NoComparison, With, Primary, Simple, Size, Paren, TextOf, LengthOf}
 use Rattle.herm_syntax.specs.Spelling.{part, path, atom, expression, operands, comparison, primary}
 use Rattle.herm_syntax.specs.Fitting.{is_name, any_part, path_fits, component_path_fits, atom_fits, is_sign, expression_fits, primary_fits}

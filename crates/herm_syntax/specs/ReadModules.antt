@@ -3,7 +3,8 @@ use Rattle.std.specs.Prelude.{ℕ, Bool, true, not, ◌⊎◌, if◌then◌else�
 use mathlib.Core.Logic.{inl, inr}
 use Rattle.herm_readers.specs.Reader.{Reader, Rule}
 use Rattle.herm_readers.specs.Combinators.{passes, nothing, one, mapped, sequence, preceded, terminated, choice, many, separated}
-use Rattle.herm_syntax.specs.Symbols.{Symbol, is, kw_callmessage, kw_case, kw_definitions, kw_enum, kw_exception, kw_full, kw_in, kw_init, kw_inout, kw_inport, kw_key, kw_of, kw_out, kw_outport, kw_process, kw_raises, kw_record, kw_table, kw_type, kw_var, kw_variant, paren_close, brace_open, comma, semicolon, colon, dot, equal}
+use Rattle.herm_syntax.specs.Symbols.{Symbol, is, paren_close, brace_open, comma, semicolon, colon, dot, equal}
+use Rattle.herm_syntax.specs.KeywordSymbols.{kw_callmessage, kw_case, kw_definitions, kw_enum, kw_exception, kw_full, kw_in, kw_init, kw_inout, kw_inport, kw_key, kw_of, kw_out, kw_outport, kw_process, kw_raises, kw_record, kw_table, kw_type, kw_var, kw_variant}
 use Rattle.herm_syntax.specs.Trees.{Letters, Statements, Field, Mode, In, Inout, Out, Param, Raising, DeclaredFact, InitFact, FullFact, CaseFact, Shape, Names, Fields, Cases, Rows, Inport, Outport, CallMessage, Item, TypeItem, ExceptionItem, Module, Definitions, Process}
 use Rattle.herm_syntax.specs.Spelling.{file}
 use Rattle.herm_syntax.specs.Fitting.{file_fits}

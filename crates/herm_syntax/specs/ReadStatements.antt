@@ -3,7 +3,8 @@ use Rattle.std.specs.Prelude.{ℕ, zero, suc, Bool, true, not, ◌&&◌, ◌⊎�
 use mathlib.Core.Logic.{inl, inr}
 use Rattle.herm_readers.specs.Reader.{Reader, Rule, ahead}
 use Rattle.herm_readers.specs.Combinators.{passes, nothing, one, mapped, and_then, sequence, preceded, terminated, choice, many, separated}
-use Rattle.herm_syntax.specs.Symbols.{Symbol, is, kw_as, kw_call, kw_case, kw_create, kw_else, kw_exception, kw_for, kw_from, kw_if, kw_in, kw_into, kw_leave, kw_of, kw_on, kw_raise, kw_receive, kw_return, kw_select, kw_try, kw_unwrap, kw_when, kw_while, paren_open, paren_close, brace_open, brace_close, bracket_open, bracket_close, comma, semicolon, becomes}
+use Rattle.herm_syntax.specs.Symbols.{Symbol, is, paren_open, paren_close, brace_open, brace_close, bracket_open, bracket_close, comma, semicolon, becomes}
+use Rattle.herm_syntax.specs.KeywordSymbols.{kw_as, kw_call, kw_case, kw_create, kw_else, kw_exception, kw_for, kw_from, kw_if, kw_in, kw_into, kw_leave, kw_of, kw_on, kw_raise, kw_receive, kw_return, kw_select, kw_try, kw_unwrap, kw_when, kw_while}
 use Rattle.herm_syntax.specs.Trees.{Letters, Path, Atom, Expression, Move, Unite, Dissolve, Wrap, Insert, Connect, Send, Receive, New, Discard, Reveal, Remove, Get, Statement, Assign, Unwrap, Call, Return, ReturnBy, Create, Raise, Leave, Case, For, Select, If, While, Try, Statements, NoStatement, Further, Arms, NoArm, Arm, PortArms, NoPortArm, PortArm, Otherwise, NoElse, Else}
 use Rattle.herm_syntax.specs.Spelling.{statement, statements}
 use Rattle.herm_syntax.specs.Fitting.{statement_fits, statements_fit}
@@ -117,18 +118,18 @@ abbrev pub read_try : Reader Symbol Statements → Reader Symbol (Statements × 
 read_try read = preceded (is kw_try) (preceded (is brace_open) (sequence read (preceded (is brace_close) (read_handlers read))))
 
 -- A statement, by its first symbol. What begins with no keyword of these is an assignment.
-abbrev pub Plain : Type 0
-Plain = (Transfer × (Path × Path)) ⊎ ((Touch × Path) ⊎ ((Find × (Path × (Path × (List Atom × Unit {0})))) ⊎ ((Path × (Letters × Path)) ⊎ ((Path × (List Atom × Unit {0})) ⊎
+abbrev pub PlainStatement : Type 0
+PlainStatement = (Transfer × (Path × Path)) ⊎ ((Touch × Path) ⊎ ((Find × (Path × (Path × (List Atom × Unit {0})))) ⊎ ((Path × (Letters × Path)) ⊎ ((Path × (List Atom × Unit {0})) ⊎
     ((Path × (Letters ⊎ Unit {0})) ⊎ ((Path × Letters) ⊎ (Letters ⊎ Unit {0})))))))
 
-abbrev pub Compound : Type 0
-Compound = (Path × Arms) ⊎ ((Path × (Path × Statements)) ⊎ (PortArms ⊎ ((Expression × (Statements × Otherwise)) ⊎ ((Expression × Statements) ⊎ ((Statements × Arms) ⊎ (Path × Expression))))))
+abbrev pub CompoundStatement : Type 0
+CompoundStatement = (Path × Arms) ⊎ ((Path × (Path × Statements)) ⊎ (PortArms ⊎ ((Expression × (Statements × Otherwise)) ⊎ ((Expression × Statements) ⊎ ((Statements × Arms) ⊎ (Path × Expression))))))
 
 abbrev pub return_of : Path → Letters ⊎ Unit {0} → Statement
 return_of m (inl name) = ReturnBy m name
 return_of m (inr none) = Return m
 
-abbrev pub plain_of : Plain → Statement
+abbrev pub plain_of : PlainStatement → Statement
 plain_of (inl x) = two_paths x.0 x.1.0 x.1.1
 plain_of (inr (inl x)) = one_path x.0 x.1
 plain_of (inr (inr (inl x))) = keyed x.0 x.1.0 x.1.1.0 x.1.1.1.0
@@ -139,7 +140,7 @@ plain_of (inr (inr (inr (inr (inr (inr (inl x))))))) = Create x.0 x.1
 plain_of (inr (inr (inr (inr (inr (inr (inr (inl name)))))))) = Raise name
 plain_of (inr (inr (inr (inr (inr (inr (inr (inr none)))))))) = Leave
 
-abbrev pub compound_of : Compound → Statement
+abbrev pub compound_of : CompoundStatement → Statement
 compound_of (inl x) = Case x.0 x.1
 compound_of (inr (inl x)) = For x.0 x.1.0 x.1.1
 compound_of (inr (inr (inl x))) = Select x
@@ -159,15 +160,15 @@ is_plain x =
     if is kw_create x then true else
     if is kw_raise x then true else is kw_leave x
 
-abbrev pub read_plain : Reader Symbol Plain
+abbrev pub read_plain : Reader Symbol PlainStatement
 read_plain = choice is_transfer read_two_paths (choice is_touch read_one_path (choice is_find read_keyed (choice (is kw_unwrap) read_unwrap (choice (is kw_call) read_call
     (choice (is kw_return) read_return (choice (is kw_create) read_create (choice (is kw_raise) read_raise read_leave)))))))
 
-abbrev pub read_compound : Reader Symbol Expression → Reader Symbol Statements → Reader Symbol Compound
+abbrev pub read_compound : Reader Symbol Expression → Reader Symbol Statements → Reader Symbol CompoundStatement
 read_compound read_expression read = choice (is kw_case) (read_case read) (choice (is kw_for) (read_for read) (choice (is kw_select) (read_select read)
     (choice (is kw_if) (read_if read_expression read) (choice (is kw_while) (read_while read_expression read) (choice (is kw_try) (read_try read) (read_assign read_expression))))))
 
-abbrev pub statement_of : Plain ⊎ Compound → Statement
+abbrev pub statement_of : PlainStatement ⊎ CompoundStatement → Statement
 statement_of (inl x) = plain_of x
 statement_of (inr x) = compound_of x
 

@@ -3,7 +3,8 @@ use Rattle.std.specs.Prelude.{true, false, List, [], ◌∷◌, ◌++◌, Option
 use Rattle.herm_readers.specs.Combinators.{many_spelling, separated_spelling}
 use Rattle.herm_alphabet.specs.KeywordLetters.{keyword_of}
 use Rattle.herm_alphabet.specs.declared.keyword.Keyword.{Keyword}
-use Rattle.herm_syntax.specs.Symbols.{Symbol, Key, Identifier, Number, Quoted, kw_as, kw_call, kw_callmessage, kw_case, kw_connect, kw_create, kw_definitions, kw_discard, kw_dissolve, kw_else, kw_enum, kw_exception, kw_false, kw_for, kw_from, kw_full, kw_get, kw_if, kw_in, kw_init, kw_inout, kw_inport, kw_insert, kw_into, kw_key, kw_leave, kw_length, kw_move, kw_new, kw_of, kw_on, kw_out, kw_outport, kw_process, kw_raise, kw_raises, kw_receive, kw_record, kw_remove, kw_return, kw_reveal, kw_select, kw_send, kw_size, kw_table, kw_text, kw_to, kw_true, kw_try, kw_type, kw_unite, kw_unwrap, kw_var, kw_variant, kw_when, kw_while, kw_wrap, paren_open, paren_close, brace_open, brace_close, bracket_open, bracket_close, comma, semicolon, colon, becomes, dot, hash, equal}
+use Rattle.herm_syntax.specs.Symbols.{Symbol, Key, Identifier, Number, Quoted, paren_open, paren_close, brace_open, brace_close, bracket_open, bracket_close, comma, semicolon, colon, becomes, dot, hash, equal}
+use Rattle.herm_syntax.specs.KeywordSymbols.{kw_as, kw_call, kw_callmessage, kw_case, kw_connect, kw_create, kw_definitions, kw_discard, kw_dissolve, kw_else, kw_enum, kw_exception, kw_false, kw_for, kw_from, kw_full, kw_get, kw_if, kw_in, kw_init, kw_inout, kw_inport, kw_insert, kw_into, kw_key, kw_leave, kw_length, kw_move, kw_new, kw_of, kw_on, kw_out, kw_outport, kw_process, kw_raise, kw_raises, kw_receive, kw_record, kw_remove, kw_return, kw_reveal, kw_select, kw_send, kw_size, kw_table, kw_text, kw_to, kw_true, kw_try, kw_type, kw_unite, kw_unwrap, kw_var, kw_variant, kw_when, kw_while, kw_wrap}
 use Rattle.herm_syntax.specs.Trees.{Letters, Path, Literal, Integer, Text, Boolean, Tag, Atom, Constant, Place, Expression, Chain, Compare, Unary, Operands, NoOperand, Operand, Comparison, NoComparison, With, Primary, Simple, Size, Paren, TextOf, LengthOf, Move, Unite, Dissolve, Wrap, Insert, Connect, Send, Receive, New, Discard, Reveal, Remove, Get, Statement, Assign, Unwrap, Call, Return, ReturnBy, Create, Raise, Leave, Case, For, Select, If, While, Try, Statements, NoStatement, Further, Arms, NoArm, Arm, PortArms, NoPortArm, PortArm, Otherwise, NoElse, Else, Field, Mode, In, Inout, Out, Param, Raising, DeclaredFact, InitFact, FullFact, CaseFact, Shape, Names, Fields, Cases, Rows, Inport, Outport, CallMessage, Item, TypeItem, ExceptionItem, Module, Definitions, Process}
 
 -- A part is a name, or a keyword with the same letters.

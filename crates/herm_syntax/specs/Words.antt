@@ -2,7 +2,8 @@
 -- reference, "Statements".
 use Rattle.std.specs.Prelude.{Bool, if◌then◌else◌, List, Option, Some, None, is_some}
 use Rattle.herm_readers.specs.Reader.{Reader}
-use Rattle.herm_syntax.specs.Symbols.{Symbol, is, kw_as, kw_connect, kw_discard, kw_dissolve, kw_from, kw_get, kw_insert, kw_into, kw_move, kw_new, kw_receive, kw_remove, kw_reveal, kw_send, kw_to, kw_unite, kw_wrap}
+use Rattle.herm_syntax.specs.Symbols.{Symbol, is}
+use Rattle.herm_syntax.specs.KeywordSymbols.{kw_as, kw_connect, kw_discard, kw_dissolve, kw_from, kw_get, kw_insert, kw_into, kw_move, kw_new, kw_receive, kw_remove, kw_reveal, kw_send, kw_to, kw_unite, kw_wrap}
 use Rattle.herm_syntax.specs.Trees.{Path, Atom, Statement, Move, Unite, Dissolve, Wrap, Insert, Connect, Send, Receive, New, Discard, Reveal, Remove, Get}
 use Rattle.herm_syntax.specs.ReadExpressions.{read_path, read_component_path}
 

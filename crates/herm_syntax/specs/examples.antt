@@ -1,1 +1,3 @@
 pub mod ExampleTrees
+pub mod ExampleItems
+pub mod ExampleNames

@@ -1,5 +1,6 @@
 //! Laws of the grammar. No function here does any work: each states a law, which the check proves.
-ghost use Rattle.herm_syntax.specs.examples.ExampleTrees.{Expressions, Plain, Compound, Items, Files, Fitting, Words};
+ghost use Rattle.herm_syntax.specs.examples.ExampleTrees.{Expressions, Plain, Compound, Files, Fitting, Words};
+ghost use Rattle.herm_syntax.specs.examples.ExampleItems.{Items};
 ghost use Rattle.herm_syntax.specs.laws.GrammarLaws.{ExpressionsAreRead, StatementsAreRead, FilesAreRead, FileIsFound, FileIsAgain, FaultBegins, FaultBeginsSource, FaultIsFirst, FaultHasNoFile, HasOneFile, HasOneProgram};
 
 /// The readers of expressions read the rules of expressions, all seven levels, however deep they

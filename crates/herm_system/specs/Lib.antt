@@ -10,5 +10,6 @@ pub mod Lines
 pub mod Summary
 pub mod RunTexts
 pub mod DiaryStates
+pub mod PutAside
 pub mod Suiting
 pub mod ProcessFates

@@ -12,8 +12,8 @@ use Rattle.herm_syntax.specs.declared.expressions.UnaryOp.{UnaryOp}
 use Rattle.herm_syntax.specs.declared.expressions.UnaryOp.TheVariants.{Neg, Not}
 use Rattle.herm_typed.specs.declared.expressions.TypedPrimary.TheBlock as expressions
 use Rattle.herm_typed.specs.declared.raises.Raises.{Raises}
-use Rattle.herm_typed.specs.Views.{sum_view, product_view, signed_view, expression_view, either_view, conjunction_view, both_view, comparison_view, sum_expression_view, added_view, product_expression_view, multiplied_view, primary_view}
-use Rattle.herm_typed.specs.Raising.{raised_together, raised_each, raises_of, raises_behind, raised_signed, unary_view, chained}
+use Rattle.herm_typed.specs.View.{typed_sum_op_view, typed_prod_op_view, signed_view, typed_expr_view, typed_conjs_view, typed_conj_view, typed_comps_view, typed_comp_view, typed_sum_view, typed_prods_view, typed_prod_view, typed_unaries_view, typed_primary_view, typed_unary_view}
+use Rattle.herm_typed.specs.Raising.{raised_together, raised_each, raises_of, raises_behind, raised_signed, chained}
 
 -- operands from the left and operands one by one can raise the same
 or-behind : (a l e : Bool) → (a || (l || e)) ≡ (l || (a || e))
@@ -34,49 +34,49 @@ signed_is None e = refl
 signed_is (Some Neg) e = refl
 signed_is (Some Not) e = refl
 
-pub signed_raises : (u : TypedUnary) (r : Raises) → r ≡ raises_of (primary_view u.primary) → raised_signed u.op r ≡ raises_of (unary_view u)
-signed_raises u r e = ap (raised_signed u.op) e ∙ signed_is u.op (primary_view u.primary)
+pub signed_raises : (u : TypedUnary) (r : Raises) → r ≡ raises_of (typed_primary_view u.primary) → raised_signed u.op r ≡ raises_of (typed_unary_view u)
+signed_raises u r e = ap (raised_signed u.op) e ∙ signed_is u.op (typed_primary_view u.primary)
 
 -- the lists of the code
-product_rows : {m : _} (rest : expressions.Row_of-TypedProd-rest-2 m) (left : Expression) → multiplied_view rest left ≡ chained left (map (λ o. (product_view o.0, unary_view o.1)) (expressions.items-the_row-TypedProd-rest-2 m rest))
+product_rows : {m : _} (rest : expressions.Row_of-TypedProd-rest-2 m) (left : Expression) → typed_unaries_view rest left ≡ chained left (map (λ o. (typed_prod_op_view o.0, typed_unary_view o.1)) (expressions.items-the_row-TypedProd-rest-2 m rest))
 product_rows expressions.end_of-TypedProd-rest-2 left = refl
-product_rows (expressions.more_of-TypedProd-rest-2 operator sign p rest) left = product_rows rest (operation (product_view operator) left (signed_view sign (primary_view p)))
+product_rows (expressions.more_of-TypedProd-rest-2 operator sign p rest) left = product_rows rest (operation (typed_prod_op_view operator) left (signed_view sign (typed_primary_view p)))
 
-pub product_chain : (n : TypedProd) → product_expression_view n ≡ chained (unary_view (out-TypedProd n).first) (map (λ o. (product_view o.0, unary_view o.1)) (out-TypedProd n).rest.items)
+pub product_chain : (n : TypedProd) → typed_prod_view n ≡ chained (typed_unary_view (out-TypedProd n).first) (map (λ o. (typed_prod_op_view o.0, typed_unary_view o.1)) (out-TypedProd n).rest.items)
 unfolding out-TypedProd denote.Hole.Carrier.out
 product_chain (expressions.struct-TypedProd sign p shape rest) =
-    product_rows rest (signed_view sign (primary_view p))
-    ∙ ap (λ items. chained (signed_view sign (primary_view p)) (map (λ o. (product_view o.0, unary_view o.1)) items)) (sym (expressions.items_shown-the_row-TypedProd-rest-2-2 shape rest))
+    product_rows rest (signed_view sign (typed_primary_view p))
+    ∙ ap (λ items. chained (signed_view sign (typed_primary_view p)) (map (λ o. (typed_prod_op_view o.0, typed_unary_view o.1)) items)) (sym (expressions.items_shown-the_row-TypedProd-rest-2-2 shape rest))
 
-sum_rows : {m : _} (rest : expressions.Row_of-TypedSum-rest-2 m) (left : Expression) → added_view rest left ≡ chained left (map (λ o. (sum_view o.0, product_expression_view o.1)) (expressions.items-the_row-TypedSum-rest-2 m rest))
+sum_rows : {m : _} (rest : expressions.Row_of-TypedSum-rest-2 m) (left : Expression) → typed_prods_view rest left ≡ chained left (map (λ o. (typed_sum_op_view o.0, typed_prod_view o.1)) (expressions.items-the_row-TypedSum-rest-2 m rest))
 sum_rows expressions.end_of-TypedSum-rest-2 left = refl
-sum_rows (expressions.more_of-TypedSum-rest-2 operator p rest) left = sum_rows rest (operation (sum_view operator) left (product_expression_view p))
+sum_rows (expressions.more_of-TypedSum-rest-2 operator p rest) left = sum_rows rest (operation (typed_sum_op_view operator) left (typed_prod_view p))
 
-pub sum_chain : (n : TypedSum) → sum_expression_view n ≡ chained (product_expression_view (out-TypedSum n).first) (map (λ o. (sum_view o.0, product_expression_view o.1)) (out-TypedSum n).rest.items)
+pub sum_chain : (n : TypedSum) → typed_sum_view n ≡ chained (typed_prod_view (out-TypedSum n).first) (map (λ o. (typed_sum_op_view o.0, typed_prod_view o.1)) (out-TypedSum n).rest.items)
 unfolding out-TypedSum denote.Hole.Carrier.out
 sum_chain (expressions.struct-TypedSum first shape rest) =
-    sum_rows rest (product_expression_view first)
-    ∙ ap (λ items. chained (product_expression_view first) (map (λ o. (sum_view o.0, product_expression_view o.1)) items)) (sym (expressions.items_shown-the_row-TypedSum-rest-2-3 shape rest))
+    sum_rows rest (typed_prod_view first)
+    ∙ ap (λ items. chained (typed_prod_view first) (map (λ o. (typed_sum_op_view o.0, typed_prod_view o.1)) items)) (sym (expressions.items_shown-the_row-TypedSum-rest-2-3 shape rest))
 
-both_rows : {m : _} (rest : expressions.Row_of-TypedComp m) (left : Expression) → both_view rest left ≡ chained left (map (λ c. (logical_and, comparison_view c)) (expressions.items-the_row-TypedComp m rest))
+both_rows : {m : _} (rest : expressions.Row_of-TypedComp m) (left : Expression) → typed_comps_view rest left ≡ chained left (map (λ c. (logical_and, typed_comp_view c)) (expressions.items-the_row-TypedComp m rest))
 both_rows expressions.end_of-TypedComp left = refl
-both_rows (expressions.more_of-TypedComp c rest) left = both_rows rest (operation logical_and left (comparison_view c))
+both_rows (expressions.more_of-TypedComp c rest) left = both_rows rest (operation logical_and left (typed_comp_view c))
 
-pub conjunction_chain : (n : TypedConj) → conjunction_view n ≡ chained (comparison_view (out-TypedConj n).first) (map (λ c. (logical_and, comparison_view c)) (out-TypedConj n).rest.items)
+pub conjunction_chain : (n : TypedConj) → typed_conj_view n ≡ chained (typed_comp_view (out-TypedConj n).first) (map (λ c. (logical_and, typed_comp_view c)) (out-TypedConj n).rest.items)
 unfolding out-TypedConj denote.Hole.Carrier.out
 conjunction_chain (expressions.struct-TypedConj first shape rest) =
-    both_rows rest (comparison_view first)
-    ∙ ap (λ items. chained (comparison_view first) (map (λ c. (logical_and, comparison_view c)) items)) (sym (expressions.items_shown-the_row-TypedComp-0 shape rest))
+    both_rows rest (typed_comp_view first)
+    ∙ ap (λ items. chained (typed_comp_view first) (map (λ c. (logical_and, typed_comp_view c)) items)) (sym (expressions.items_shown-the_row-TypedComp-0 shape rest))
 
-either_rows : {m : _} (rest : expressions.Row_of-TypedConj m) (left : Expression) → either_view rest left ≡ chained left (map (λ c. (logical_or, conjunction_view c)) (expressions.items-the_row-TypedConj m rest))
+either_rows : {m : _} (rest : expressions.Row_of-TypedConj m) (left : Expression) → typed_conjs_view rest left ≡ chained left (map (λ c. (logical_or, typed_conj_view c)) (expressions.items-the_row-TypedConj m rest))
 either_rows expressions.end_of-TypedConj left = refl
-either_rows (expressions.more_of-TypedConj c rest) left = either_rows rest (operation logical_or left (conjunction_view c))
+either_rows (expressions.more_of-TypedConj c rest) left = either_rows rest (operation logical_or left (typed_conj_view c))
 
-pub expression_chain : (n : TypedExpr) → expression_view n ≡ chained (conjunction_view (out-TypedExpr n).first) (map (λ c. (logical_or, conjunction_view c)) (out-TypedExpr n).rest.items)
+pub expression_chain : (n : TypedExpr) → typed_expr_view n ≡ chained (typed_conj_view (out-TypedExpr n).first) (map (λ c. (logical_or, typed_conj_view c)) (out-TypedExpr n).rest.items)
 unfolding out-TypedExpr denote.Hole.Carrier.out
 expression_chain (expressions.struct-TypedExpr first shape rest) =
-    either_rows rest (conjunction_view first)
-    ∙ ap (λ items. chained (conjunction_view first) (map (λ c. (logical_or, conjunction_view c)) items)) (sym (expressions.items_shown-the_row-TypedConj-1 shape rest))
+    either_rows rest (typed_conj_view first)
+    ∙ ap (λ items. chained (typed_conj_view first) (map (λ c. (logical_or, typed_conj_view c)) items)) (sym (expressions.items_shown-the_row-TypedConj-1 shape rest))
 
 -- a list of operands goes on one by one
 pub each_step : {X : Type 0} (f : X → Raises) (a : Raises) (xs : List X) (i : ℕ) (d : X) → i < length xs → raised_each a (map f (drop i xs)) ≡ raised_each (raised_together a (f (get_or xs i d))) (map f (drop (i + 1) xs))
@@ -93,14 +93,14 @@ map-twice g f (x ∷ xs) = ap (g (f x) ∷◌) (map-twice g f xs)
 chained-raises : {X : Type 0} (f : X → Operator × Expression) (left : Expression) (xs : List X) → raised_each (raises_of left) (map (λ x. raises_behind (f x).0 (f x).1) xs) ≡ raises_of (chained left (map f xs))
 chained-raises f left xs = sym (chain-raises left (map f xs) ∙ ap (raised_each (raises_of left)) (map-twice (λ o. raises_behind o.0 o.1) f xs))
 
-pub product_raises : (n : TypedProd) → raised_each (raises_of (unary_view (out-TypedProd n).first)) (map (λ o. raises_behind (product_view o.0) (unary_view o.1)) (out-TypedProd n).rest.items) ≡ raises_of (product_expression_view n)
-product_raises n = chained-raises (λ o. (product_view o.0, unary_view o.1)) (unary_view (out-TypedProd n).first) (out-TypedProd n).rest.items ∙ ap raises_of (sym (product_chain n))
+pub product_raises : (n : TypedProd) → raised_each (raises_of (typed_unary_view (out-TypedProd n).first)) (map (λ o. raises_behind (typed_prod_op_view o.0) (typed_unary_view o.1)) (out-TypedProd n).rest.items) ≡ raises_of (typed_prod_view n)
+product_raises n = chained-raises (λ o. (typed_prod_op_view o.0, typed_unary_view o.1)) (typed_unary_view (out-TypedProd n).first) (out-TypedProd n).rest.items ∙ ap raises_of (sym (product_chain n))
 
-pub sum_raises : (n : TypedSum) → raised_each (raises_of (product_expression_view (out-TypedSum n).first)) (map (λ o. raises_behind (sum_view o.0) (product_expression_view o.1)) (out-TypedSum n).rest.items) ≡ raises_of (sum_expression_view n)
-sum_raises n = chained-raises (λ o. (sum_view o.0, product_expression_view o.1)) (product_expression_view (out-TypedSum n).first) (out-TypedSum n).rest.items ∙ ap raises_of (sym (sum_chain n))
+pub sum_raises : (n : TypedSum) → raised_each (raises_of (typed_prod_view (out-TypedSum n).first)) (map (λ o. raises_behind (typed_sum_op_view o.0) (typed_prod_view o.1)) (out-TypedSum n).rest.items) ≡ raises_of (typed_sum_view n)
+sum_raises n = chained-raises (λ o. (typed_sum_op_view o.0, typed_prod_view o.1)) (typed_prod_view (out-TypedSum n).first) (out-TypedSum n).rest.items ∙ ap raises_of (sym (sum_chain n))
 
-pub conjunction_raises : (n : TypedConj) → raised_each (raises_of (comparison_view (out-TypedConj n).first)) (map (λ o. raises_behind logical_and (comparison_view o)) (out-TypedConj n).rest.items) ≡ raises_of (conjunction_view n)
-conjunction_raises n = chained-raises (λ o. (logical_and, comparison_view o)) (comparison_view (out-TypedConj n).first) (out-TypedConj n).rest.items ∙ ap raises_of (sym (conjunction_chain n))
+pub conjunction_raises : (n : TypedConj) → raised_each (raises_of (typed_comp_view (out-TypedConj n).first)) (map (λ o. raises_behind logical_and (typed_comp_view o)) (out-TypedConj n).rest.items) ≡ raises_of (typed_conj_view n)
+conjunction_raises n = chained-raises (λ o. (logical_and, typed_comp_view o)) (typed_comp_view (out-TypedConj n).first) (out-TypedConj n).rest.items ∙ ap raises_of (sym (conjunction_chain n))
 
-pub expression_chain_raises : (n : TypedExpr) → raised_each (raises_of (conjunction_view (out-TypedExpr n).first)) (map (λ o. raises_behind logical_or (conjunction_view o)) (out-TypedExpr n).rest.items) ≡ raises_of (expression_view n)
-expression_chain_raises n = chained-raises (λ o. (logical_or, conjunction_view o)) (conjunction_view (out-TypedExpr n).first) (out-TypedExpr n).rest.items ∙ ap raises_of (sym (expression_chain n))
+pub expression_chain_raises : (n : TypedExpr) → raised_each (raises_of (typed_conj_view (out-TypedExpr n).first)) (map (λ o. raises_behind logical_or (typed_conj_view o)) (out-TypedExpr n).rest.items) ≡ raises_of (typed_expr_view n)
+expression_chain_raises n = chained-raises (λ o. (logical_or, typed_conj_view o)) (typed_conj_view (out-TypedExpr n).first) (out-TypedExpr n).rest.items ∙ ap raises_of (sym (expression_chain n))

@@ -1,4 +1,4 @@
 -- How contracts see the typed trees.
-pub mod Views
+pub mod View
 pub mod Raising
 pub mod Outcomes

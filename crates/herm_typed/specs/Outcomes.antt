@@ -5,22 +5,10 @@ use Rattle.herm_model.specs.Types.{Raised, TypeTable, type_at}
 use Rattle.herm_model.specs.Calls.{led_to, message_type, raises_of}
 use Rattle.herm_model.specs.Outcomes as model
 use Rattle.herm_base.specs.declared.numbers.ExcNo.{ExcNo}
-use Rattle.herm_typed.specs.declared.outcome_list.Outcome.{Outcome}
-use Rattle.herm_typed.specs.declared.outcome_list.Outcome.TheVariants as outcomes
 use Rattle.herm_typed.specs.declared.expressions.TypedPath.{TypedPath}
 use Rattle.herm_typed.specs.declared.statements.TypedForm.{TypedForm}
 use Rattle.herm_typed.specs.declared.statements.TypedForm.TheBlock as forms
-use Rattle.herm_typed.specs.Views.{typed_path_view, arms_view, statement_view, form_of_statement}
-
-abbrev pub outcome_view : Outcome → model.Outcome
-outcome_view outcomes.Ok = model.ok
-outcome_view outcomes.True = model.is_true
-outcome_view outcomes.False = model.is_false
-outcome_view outcomes.Turn = model.turn
-outcome_view outcomes.Done = model.done
-outcome_view (outcomes.Component c) = model.component c
-outcome_view (outcomes.Arm place) = model.arm place
-outcome_view (outcomes.Raised e) = model.raised e.0
+use Rattle.herm_typed.specs.View.{typed_path_view, typed_arms_view, typed_form_view, form_of_statement}
 
 -- The type beside a path is that of the value at the path.
 abbrev pub IsOf : TypeTable → List ℕ → TypedPath → Type 0
@@ -34,13 +22,13 @@ KnowsOutcomes table variables _ = ⊤
 
 -- The normal outcomes, the exceptions and all outcomes of a statement. A `try` has none.
 abbrev pub normal_of : TypedForm → List model.Outcome
-normal_of form = list_of model.normal_outcomes (form_of_statement (statement_view form))
+normal_of form = list_of model.normal_outcomes (form_of_statement (typed_form_view form))
 
 abbrev pub exceptions_of : TypeTable → List ℕ → TypedForm → List ℕ
-exceptions_of table variables form = list_of (model.exceptions table variables) (form_of_statement (statement_view form))
+exceptions_of table variables form = list_of (model.exceptions table variables) (form_of_statement (typed_form_view form))
 
 abbrev pub outcomes_of : TypeTable → List ℕ → TypedForm → List model.Outcome
-outcomes_of table variables form = list_of (model.outcomes table variables) (form_of_statement (statement_view form))
+outcomes_of table variables form = list_of (model.outcomes table variables) (form_of_statement (typed_form_view form))
 
 -- rising numbers with one more are these with it at a place
 abbrev pub IsPlaceFor : List ExcNo → ExcNo → ℕ → Type 0
@@ -52,5 +40,5 @@ raises_from table t = list_of raises_of (option_and_then (slice_get table) (opti
 
 -- the arms of a `select` are fewer than there are numbers
 abbrev pub HasFewArms : TypedForm → Type 0
-HasFewArms (forms.Select' shape arms) = length (arms_view arms) < 2 ^ 32
+HasFewArms (forms.Select' shape arms) = length (typed_arms_view arms) < 2 ^ 32
 HasFewArms _ = ⊤

@@ -3,9 +3,7 @@ use Rattle.std.specs.Prelude.{true, false, ◌||◌, List, [], ◌∷◌, Option
 use Rattle.herm_model.specs.Expressions.{Expression, Operator, operation, is_arithmetic, is_joining, can_overflow, can_deplete}
 use Rattle.herm_syntax.specs.declared.expressions.UnaryOp.{UnaryOp}
 use Rattle.herm_syntax.specs.declared.expressions.UnaryOp.TheVariants.{Neg, Not}
-use Rattle.herm_typed.specs.declared.expressions.TypedUnary.{TypedUnary}
 use Rattle.herm_typed.specs.declared.raises.Raises.{Raises}
-use Rattle.herm_typed.specs.Views.{signed_view, primary_view}
 
 abbrev pub none_raised : Raises
 none_raised = record { overflow = false; depletion = false }
@@ -38,9 +36,6 @@ raised_signed (Some sign) a = raised_by_sign sign a
 -- what an operand behind an operator adds
 abbrev pub raises_behind : Operator → Expression → Raises
 raises_behind o e = raised_together (raises_by o) (raises_of e)
-
-abbrev pub unary_view : TypedUnary → Expression
-unary_view u = signed_view u.op (primary_view u.primary)
 
 -- operands behind operators, taken from the left
 abbrev pub chained : Expression → List (Operator × Expression) → Expression

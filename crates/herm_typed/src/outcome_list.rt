@@ -3,10 +3,10 @@ ghost use Rattle.std.specs.Prelude.{ℕ, ◌≡◌, ◌<◌, ◌^◌, ◌∷◌,
 ghost use Rattle.herm_model.specs.Lists.{range};
 ghost use Rattle.herm_model.specs.Calls.{led_to, message_type, raises_of};
 ghost use Rattle.herm_model.specs.Outcomes.{component, arm, disconnected, with_number, rising, raised, raised_by, raised_by_new};
-ghost use Rattle.herm_types.specs.View.{shape_view, raise_view};
+ghost use Rattle.herm_types.specs.View.{shape_view, raise_decl_view};
 ghost use Rattle.herm_typed.specs.declared.statements.TypedStmt.{out-TypedStmt};
-ghost use Rattle.herm_typed.specs.Views.{expression_view};
-ghost use Rattle.herm_typed.specs.Outcomes.{outcome_view, IsPlaceFor, raises_from, HasFewArms, KnowsOutcomes, normal_of, exceptions_of, outcomes_of};
+ghost use Rattle.herm_typed.specs.View.{typed_expr_view, outcome_view};
+ghost use Rattle.herm_typed.specs.Outcomes.{IsPlaceFor, raises_from, HasFewArms, KnowsOutcomes, normal_of, exceptions_of, outcomes_of};
 
 use crate::expressions::TypedExpr;
 use crate::raises::expression_raises;
@@ -122,7 +122,7 @@ fn select_arms(alloc: Global, count: usize) -> Result<Vec<Outcome>, AllocError>
 
 /// The exceptions that a callmessage declares, with Disconnected, by rising number.
 fn call_numbers(alloc: Global, raises: &[RaiseDecl]) -> Result<Vec<ExcNo>, AllocError>
-    ensures { IfOk result (λ v. map (λ n. n.0) v.items ≡ rising (disconnected ∷ map (λ r. r.exception) (map raise_view raises.now))) }
+    ensures { IfOk result (λ v. map (λ n. n.0) v.items ≡ rising (disconnected ∷ map (λ r. r.exception) (map raise_decl_view raises.now))) }
 {
     let mut found = Vec::new(alloc);
     let mut left = raises.len();
@@ -234,7 +234,7 @@ fn two_numbers(alloc: Global, a: ExcNo, b: ExcNo) -> Result<Vec<ExcNo>, AllocErr
 
 /// The exceptions that an expression can raise.
 fn of_expression(alloc: Global, e: &TypedExpr) -> Result<Vec<ExcNo>, AllocError>
-    ensures { IfOk result (λ v. map (λ n. n.0) v.items ≡ raised_by (expression_view e.now)) }
+    ensures { IfOk result (λ v. map (λ n. n.0) v.items ≡ raised_by (typed_expr_view e.now)) }
 {
     let found = expression_raises(e);
     if found.overflow {

@@ -1,8 +1,8 @@
 //! Which exceptions expressions can raise.
 ghost use Rattle.std.specs.Prelude.{◌≡◌, map};
 ghost use Rattle.herm_model.specs.Expressions.{logical_or, logical_and};
-ghost use Rattle.herm_typed.specs.Views.{sum_view, product_view, signed_view, expression_view, conjunction_view, comparison_view, sum_expression_view, product_expression_view, primary_view};
-ghost use Rattle.herm_typed.specs.Raising.{none_raised, raised_together, raised_each, raises_of, raises_by, raises_behind, raised_signed, unary_view};
+ghost use Rattle.herm_typed.specs.View.{typed_sum_op_view, typed_prod_op_view, signed_view, typed_expr_view, typed_conj_view, typed_comp_view, typed_sum_view, typed_prod_view, typed_primary_view, typed_unary_view};
+ghost use Rattle.herm_typed.specs.Raising.{none_raised, raised_together, raised_each, raises_of, raises_by, raises_behind, raised_signed};
 
 use crate::expressions::{
     TypedComp, TypedConj, TypedExpr, TypedPrimary, TypedProd, TypedSum, TypedUnary,
@@ -38,7 +38,7 @@ fn together(a: Raises, b: Raises) -> Raises
 
 /// What `+`, `-` and `&` can raise by themselves.
 fn sum_operator(op: SumOp) -> Raises
-    ensures { result ≡ raises_by (sum_view op) }
+    ensures { result ≡ raises_by (typed_sum_op_view op) }
 {
     match op {
         SumOp::Add => Raises {
@@ -58,7 +58,7 @@ fn sum_operator(op: SumOp) -> Raises
 
 /// What `*`, `div` and `mod` can raise by themselves.
 fn product_operator(op: ProdOp) -> Raises
-    ensures { result ≡ raises_by (product_view op) }
+    ensures { result ≡ raises_by (typed_prod_op_view op) }
 {
     match op {
         ProdOp::Mul => Raises {
@@ -93,7 +93,7 @@ fn signed(op: Option<UnaryOp>, of: Raises) -> Raises
 /// What an operand can raise.
 #[cycle(raising)]
 fn primary(e: &TypedPrimary) -> Raises
-    ensures { result ≡ raises_of (primary_view e.now) }
+    ensures { result ≡ raises_of (typed_primary_view e.now) }
 {
     match e {
         TypedPrimary::Literal(_) => none(),
@@ -109,7 +109,7 @@ fn primary(e: &TypedPrimary) -> Raises
 #[cycle(raising)]
 #[tactic(auto, using(crate::proofs::Chains::signed_raises))]
 fn unary(e: &TypedUnary) -> Raises
-    ensures { result ≡ raises_of (unary_view e.now) }
+    ensures { result ≡ raises_of (typed_unary_view e.now) }
 {
     signed(e.op, primary(&e.primary))
 }
@@ -117,7 +117,7 @@ fn unary(e: &TypedUnary) -> Raises
 /// What operands of a product add.
 #[cycle(raising)]
 fn product_operands(found: Raises, operands: &[(ProdOp, TypedUnary)]) -> Raises
-    ensures { result ≡ raised_each found (map (λ o. raises_behind (product_view o.0) (unary_view o.1)) operands.now) }
+    ensures { result ≡ raised_each found (map (λ o. raises_behind (typed_prod_op_view o.0) (typed_unary_view o.1)) operands.now) }
 {
     let mut found = found;
     'products: for (op, e) in operands {
@@ -130,7 +130,7 @@ fn product_operands(found: Raises, operands: &[(ProdOp, TypedUnary)]) -> Raises
 #[cycle(raising)]
 #[tactic(auto, using(crate::proofs::Chains::product_raises))]
 fn product(e: &TypedProd) -> Raises
-    ensures { result ≡ raises_of (product_expression_view e.now) }
+    ensures { result ≡ raises_of (typed_prod_view e.now) }
 {
     product_operands(unary(&e.first), e.rest.as_slice())
 }
@@ -138,7 +138,7 @@ fn product(e: &TypedProd) -> Raises
 /// What operands of a sum add.
 #[cycle(raising)]
 fn sum_operands(found: Raises, operands: &[(SumOp, TypedProd)]) -> Raises
-    ensures { result ≡ raised_each found (map (λ o. raises_behind (sum_view o.0) (product_expression_view o.1)) operands.now) }
+    ensures { result ≡ raised_each found (map (λ o. raises_behind (typed_sum_op_view o.0) (typed_prod_view o.1)) operands.now) }
 {
     let mut found = found;
     'sums: for (op, e) in operands {
@@ -151,7 +151,7 @@ fn sum_operands(found: Raises, operands: &[(SumOp, TypedProd)]) -> Raises
 #[cycle(raising)]
 #[tactic(auto, using(crate::proofs::Chains::sum_raises))]
 fn sum(e: &TypedSum) -> Raises
-    ensures { result ≡ raises_of (sum_expression_view e.now) }
+    ensures { result ≡ raises_of (typed_sum_view e.now) }
 {
     sum_operands(product(&e.first), e.rest.as_slice())
 }
@@ -159,7 +159,7 @@ fn sum(e: &TypedSum) -> Raises
 /// What a comparison can raise.
 #[cycle(raising)]
 fn comparison(e: &TypedComp) -> Raises
-    ensures { result ≡ raises_of (comparison_view e.now) }
+    ensures { result ≡ raises_of (typed_comp_view e.now) }
 {
     match &e.right {
         None => sum(&e.left),
@@ -170,7 +170,7 @@ fn comparison(e: &TypedComp) -> Raises
 /// What operands of `and` add.
 #[cycle(raising)]
 fn and_operands(found: Raises, operands: &[TypedComp]) -> Raises
-    ensures { result ≡ raised_each found (map (λ o. raises_behind logical_and (comparison_view o)) operands.now) }
+    ensures { result ≡ raised_each found (map (λ o. raises_behind logical_and (typed_comp_view o)) operands.now) }
 {
     let mut found = found;
     'ands: for e in operands {
@@ -183,7 +183,7 @@ fn and_operands(found: Raises, operands: &[TypedComp]) -> Raises
 #[cycle(raising)]
 #[tactic(auto, using(crate::proofs::Chains::conjunction_raises))]
 fn conjunction(e: &TypedConj) -> Raises
-    ensures { result ≡ raises_of (conjunction_view e.now) }
+    ensures { result ≡ raises_of (typed_conj_view e.now) }
 {
     and_operands(comparison(&e.first), e.rest.as_slice())
 }
@@ -191,7 +191,7 @@ fn conjunction(e: &TypedConj) -> Raises
 /// What operands of `or` add.
 #[cycle(raising)]
 fn or_operands(found: Raises, operands: &[TypedConj]) -> Raises
-    ensures { result ≡ raised_each found (map (λ o. raises_behind logical_or (conjunction_view o)) operands.now) }
+    ensures { result ≡ raised_each found (map (λ o. raises_behind logical_or (typed_conj_view o)) operands.now) }
 {
     let mut found = found;
     'ors: for e in operands {
@@ -204,7 +204,7 @@ fn or_operands(found: Raises, operands: &[TypedConj]) -> Raises
 #[cycle(raising)]
 #[tactic(auto, using(crate::proofs::Chains::expression_chain_raises))]
 pub fn expression_raises(e: &TypedExpr) -> Raises
-    ensures { result ≡ raises_of (expression_view e.now) }
+    ensures { result ≡ raises_of (typed_expr_view e.now) }
 {
     or_operands(conjunction(&e.first), e.rest.as_slice())
 }

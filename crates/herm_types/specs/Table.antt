@@ -21,8 +21,8 @@ table_of names shapes exceptions = record { names = names; shapes = map shape_vi
 abbrev pub defined_table : List (Letters × Shape) → List Letters → NamedTable
 defined_table defined exceptions = behind_predefined (table_of (map (λ d. d.0) defined) (map (λ d. d.1) defined) exceptions)
 
-abbrev pub table_view : Inside → NamedTable
-table_view a = table_of a.names.items a.shapes.items a.exceptions.items
+abbrev pub type_table_view : Inside → NamedTable
+type_table_view a = table_of a.names.items a.shapes.items a.exceptions.items
 
 -- what a list of tests says of a type
 abbrev pub says : List Bool → ℕ → Bool
@@ -43,8 +43,8 @@ pub record IsSized (t : NamedTable) : Type 0 where
 
 -- A table is well formed, its names are found by their bytes, and its tests say which types are copyable.
 pub record IsKept (a : Inside) : Type 0 where
-  pub well_named : IsWellNamed (table_view a)
-  pub sized : IsSized (table_view a)
+  pub well_named : IsWellNamed (type_table_view a)
+  pub sized : IsSized (type_table_view a)
   pub tested : length a.copyable.items ≡ length a.shapes.items
   pub indexed : map (λ k. k.items) a.index.keys ≡ a.names.items
   pub copyable : SayCopyable types.greatest_depth (shapes_view a.shapes.items) a.copyable.items

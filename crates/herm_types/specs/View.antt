@@ -30,8 +30,8 @@ mode_view Out = types.by_out
 abbrev pub param_view : Param → types.Parameter
 param_view p = record { mode = mode_view p.mode; content = p.of.0 }
 
-abbrev pub raise_view : RaiseDecl → types.Raised
-raise_view r = record { exception = r.exc.0; kept = r.keeps.items }
+abbrev pub raise_decl_view : RaiseDecl → types.Raised
+raise_decl_view r = record { exception = r.exc.0; kept = r.keeps.items }
 
 abbrev pub shape_view : Shape → types.Shape
 shape_view Boolean = types.boolean
@@ -44,7 +44,7 @@ shape_view (Rows row keys) = types.rows row.0 keys.items
 shape_view Poly = types.polymorph
 shape_view (Inport message facts) = types.inport message.0 (map fact_view facts.items)
 shape_view (Outport port) = types.outport port.0
-shape_view (CallMessage params raises) = types.callmessage (map param_view params.items) (map raise_view raises.items)
+shape_view (CallMessage params raises) = types.callmessage (map param_view params.items) (map raise_decl_view raises.items)
 
 -- the names of a shape's parts, by place
 abbrev pub parts_view : Shape → List Letters

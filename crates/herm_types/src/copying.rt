@@ -1,6 +1,6 @@
 //! Copies of shapes and facts.
 ghost use Rattle.std.specs.Prelude.{◌≡◌, IfOk, map};
-ghost use Rattle.herm_types.specs.View.{path_view, fact_view, raise_view, shape_view, parts_view};
+ghost use Rattle.herm_types.specs.View.{path_view, fact_view, raise_decl_view, shape_view, parts_view};
 
 use crate::fact::{Fact, Path};
 use crate::shape::{Param, Part, RaiseDecl, Shape};
@@ -80,7 +80,7 @@ fn copy_params(alloc: Global, params: &[Param]) -> Result<Vec<Param>, AllocError
 }
 
 fn copy_raise(alloc: Global, raise: &RaiseDecl) -> Result<RaiseDecl, AllocError>
-    ensures { IfOk result (λ r. raise_view r ≡ raise_view raise.now) }
+    ensures { IfOk result (λ r. raise_decl_view r ≡ raise_decl_view raise.now) }
 {
     let keeps = Vec::from_slice(alloc, raise.keeps.as_slice())?;
     Ok(RaiseDecl {
@@ -90,7 +90,7 @@ fn copy_raise(alloc: Global, raise: &RaiseDecl) -> Result<RaiseDecl, AllocError>
 }
 
 fn copy_raises(alloc: Global, raises: &[RaiseDecl]) -> Result<Vec<RaiseDecl>, AllocError>
-    ensures { IfOk result (λ v. map raise_view v.items ≡ map raise_view raises.now) }
+    ensures { IfOk result (λ v. map raise_decl_view v.items ≡ map raise_decl_view raises.now) }
 {
     let mut copies = Vec::new(alloc);
     for raise in raises {

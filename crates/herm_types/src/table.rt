@@ -27,9 +27,9 @@ impl Model for TypeTable {
 
     ghost Value = { NamedTable };
 
-    ghost use Rattle.herm_types.specs.Table.{table_view, IsKept};
+    ghost use Rattle.herm_types.specs.Table.{type_table_view, IsKept};
 
-    ghost view = { table_view };
+    ghost view = { type_table_view };
 
     ghost invariant = { IsKept };
 }

@@ -5,7 +5,7 @@ ghost use Rattle.std.specs.Prelude.{◌≡◌, ◌++◌, [], ◌∷◌, codes, I
 ghost use Rattle.herm_model.specs.Types as model;
 ghost use Rattle.herm_model.specs.Paths as paths;
 ghost use Rattle.herm_meaning.specs.Names.{behind_predefined};
-ghost use Rattle.herm_types.specs.View.{path_view, fact_view, param_view, raise_view, shape_view, parts_view};
+ghost use Rattle.herm_types.specs.View.{path_view, fact_view, param_view, raise_decl_view, shape_view, parts_view};
 ghost use Rattle.herm_types.specs.Sample.{sample_table};
 
 use super::*;
@@ -105,7 +105,7 @@ fn params(alloc: Global) -> Result<Vec<Param>, AllocError>
 }
 
 fn raises(alloc: Global) -> Result<Vec<RaiseDecl>, AllocError>
-    ensures { IfOk result (λ v. map raise_view v.items ≡ record { exception = 7; kept = 1 ∷ [] } ∷ []) }
+    ensures { IfOk result (λ v. map raise_decl_view v.items ≡ record { exception = 7; kept = 1 ∷ [] } ∷ []) }
 {
     let mut list = Vec::new(alloc);
     let mut keeps = Vec::new(alloc);

@@ -11,7 +11,7 @@ use Rattle.herm_source.specs.AcceptedRuns.{AreAccepted, FindsNeeds}
 use Rattle.herm_system.specs.Reports.{IsAlong}
 use Rattle.herm_source.specs.laws.NeedsLaws.{HasWellFormedBodies}
 use Rattle.herm_source.proofs.reached.RunsReach.{along-finds}
-use Rattle.herm_compile.specs.Straight.{form_of, body_of}
+use Rattle.herm_compile.specs.Straight.{line_view, lines_view}
 use Rattle.herm_compile.specs.declared.compiled.Line.{Line}
 use Rattle.herm_compile.specs.declared.compiled.Line.TheVariants
 use Rattle.herm_world.specs.StraightRuns.{program_of}
@@ -19,13 +19,13 @@ use Rattle.herm_source.specs.States.{State}
 use Rattle.herm_model.specs.Values.{Name}
 
 -- a line has no blocks
-form-goes_on : (line : Line) → branching_of (form_of line) ≡ goes_on
+form-goes_on : (line : Line) → branching_of (line_view line) ≡ goes_on
 form-goes_on TheVariants.Receive = refl
 form-goes_on (TheVariants.Set n bytes) = refl
 form-goes_on (TheVariants.Send n) = refl
 form-goes_on (TheVariants.Discard n) = refl
 
-lines-formed : (lines : List Line) → IsWellFormedBlock (body_of lines)
+lines-formed : (lines : List Line) → IsWellFormedBlock (lines_view lines)
 lines-formed [] = tt
 lines-formed (line ∷ lines) = (form-goes_on line, lines-formed lines)
 

@@ -21,7 +21,7 @@ use Rattle.herm_system.specs.Machines.{greatest_actions}
 use Rattle.herm_forms.specs.Acts.{act, wants, settle, leads_to, is_action}
 use Rattle.herm_source.specs.Modules.{Modules}
 use Rattle.herm_system.specs.Systems.{System, Run, run_on, with_made, set_process, set_holding, behind_action, number_of, Event, steps, acts, main_port, first_message}
-use Rattle.herm_compile.specs.Straight.{variable, console, form_of}
+use Rattle.herm_compile.specs.Straight.{variable, console, line_view}
 use Rattle.herm_compile.specs.declared.compiled.Line.{Line}
 use Rattle.herm_compile.specs.declared.compiled.Line.TheVariants
 use Rattle.herm_world.proofs.Slots.{Made, Slots, string_cell, strings_of, slot_at, set_slot, part-slot, set-some, set-none, within-slots}
@@ -43,7 +43,7 @@ abbrev pub modules_with : Module → Modules
 modules_with c = record { types = predefined; codes = c ∷ []; main = 0 }
 
 abbrev pub node_for : ℕ → Line → Target → Node
-node_for at line next = record { number = suc at; form = form_of line; leads = next ∷ []; catches = [] }
+node_for at line next = record { number = suc at; form = line_view line; leads = next ∷ []; catches = [] }
 
 -- What lines change: the strings, what is queued at the console with how many were, the counts, and the journal.
 pub record Progress : Type 0 where
@@ -191,21 +191,21 @@ module _ (count : ℕ) (nodes : List Node) (label : ℕ → Fact → Bool) (limi
   old-goes (Some x) v s a m f = refl
 
   pub does-set : (k : ℕ) (bytes : Text) (number : ℕ) (p : Progress) → k < length p.slots →
-      act own_name code number (form_of (TheVariants.Set k bytes)) (body_of (variables_with arg p.slots) [] (suc p.steps) p.actions p.serial p.finalised) ≡ goes ok (body_at arg (after_set k bytes p))
+      act own_name code number (line_view (TheVariants.Set k bytes)) (body_of (variables_with arg p.slots) [] (suc p.steps) p.actions p.serial p.finalised) ≡ goes ok (body_at arg (after_set k bytes p))
   does-set k bytes number p h =
       rw (within-slots k p.slots h, part-slot k p.slots, set-some k (p.serial, bytes) p.slots, old-goes (slot_at k p.slots) (variables_with arg (set_slot k (Some (p.serial, bytes)) p.slots)) (suc p.steps) p.actions (p.serial + 1) p.finalised) refl
 
   pub does-discard : (k number : ℕ) (m : Made) (p : Progress) → slot_at k p.slots ≡ Some m →
-      act own_name code number (form_of (TheVariants.Discard k)) (body_of (variables_with arg p.slots) [] (suc p.steps) p.actions p.serial p.finalised) ≡ goes ok (body_at arg (after_discard (Some m) k p))
+      act own_name code number (line_view (TheVariants.Discard k)) (body_of (variables_with arg p.slots) [] (suc p.steps) p.actions p.serial p.finalised) ≡ goes ok (body_at arg (after_discard (Some m) k p))
   does-discard k number m p e = rw (part-slot k p.slots, e, set-none k p.slots) refl
 
   -- a string holds nothing beyond what travels to the console
   pub nothing-beyond : (k : ℕ) (m : Made) (slots : Slots) (s a n : ℕ) (f : List Name) → k < count → slot_at k slots ≡ Some m → excess_over_declared code console (variable k) (body_of (variables_with arg slots) [] s a n f) ≡ []
   nothing-beyond k m slots s a n f l e = rw (all-texts count k l, part-slot k slots, e) refl
 
-  pub wants-send : (k : ℕ) (m : Made) (p : Progress) → k < count → slot_at k p.slots ≡ Some m → wants own_name code (form_of (TheVariants.Send k)) (body_at arg p) ≡ Some (to_put 0 (string_cell m))
+  pub wants-send : (k : ℕ) (m : Made) (p : Progress) → k < count → slot_at k p.slots ≡ Some m → wants own_name code (line_view (TheVariants.Send k)) (body_at arg p) ≡ Some (to_put 0 (string_cell m))
   wants-send k m p l e = rw (nothing-beyond k m p.slots p.steps p.actions p.serial p.finalised l e, part-slot k p.slots, e) refl
 
   pub does-send : (k : ℕ) (m : Made) (p : Progress) (x : Cell Name) → k < count → slot_at k p.slots ≡ Some m →
-      settle own_name code (form_of (TheVariants.Send k)) 0 (put (Some p.placed) x) (body_of (variables_with arg p.slots) [] (suc p.steps) (suc p.actions) p.serial p.finalised) ≡ goes ok (body_at arg (after_send (Some m) k p))
+      settle own_name code (line_view (TheVariants.Send k)) 0 (put (Some p.placed) x) (body_of (variables_with arg p.slots) [] (suc p.steps) (suc p.actions) p.serial p.finalised) ≡ goes ok (body_at arg (after_send (Some m) k p))
   does-send k m p x l e = rw (nothing-beyond k m p.slots (suc p.steps) (suc p.actions) p.serial p.finalised l e, part-slot k p.slots, e, set-none k p.slots) refl

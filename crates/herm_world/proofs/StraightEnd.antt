@@ -18,7 +18,7 @@ use Rattle.herm_forms.specs.Modules.{module_of, loops_in}
 use Rattle.herm_journal.specs.Weights.{weigh_all, weigh_in, weigh_serials}
 use Rattle.herm_system.specs.Summary.{Counts, one, cut}
 use Rattle.herm_compile.specs.Form.{IsLine}
-use Rattle.herm_compile.specs.Straight.{body_of, process_of, ok_hops, IsStep}
+use Rattle.herm_compile.specs.Straight.{lines_view, process_of, ok_hops, IsStep}
 use Rattle.herm_compile.proofs.StraightLaws.{around, nodes_are, straight, at_start, carry, carry_append, hold, walk_over, holds_at}
 use Rattle.herm_compile.specs.declared.compiled.Line.{Line}
 use Rattle.herm_compile.specs.declared.compiled.Line.TheVariants
@@ -33,7 +33,7 @@ use Rattle.herm_world.proofs.StraightFacts.{line-told}
 
 -- ---- the module
 
-no-loops : (lines : List Line) (n : ℕ) → loops_in (body_of lines) n ≡ []
+no-loops : (lines : List Line) (n : ℕ) → loops_in (lines_view lines) n ≡ []
 no-loops [] n = refl
 no-loops (line ∷ lines) n = no-loops lines (n + 1)
 
@@ -41,11 +41,11 @@ get-behind : (front : List Node) (p : Node) (ps : List Node) → slice_get (fron
 get-behind [] p ps = refl
 get-behind (q ∷ front) p ps = get-behind front p ps
 
-pub nodes-from : (nodes front : List Node) (i : ℕ) (lines : List Line) → i ≡ length front → nodes ≡ front ++ nodes_in (body_of lines) (suc i) i around → HaveNodes nodes i lines
+pub nodes-from : (nodes front : List Node) (i : ℕ) (lines : List Line) → i ≡ length front → nodes ≡ front ++ nodes_in (lines_view lines) (suc i) i around → HaveNodes nodes i lines
 nodes-from nodes front i [] l e = tt
 nodes-from nodes front i (line ∷ lines) l e =
     let n = node_for i line (next_of (suc i) lines) in
-    let rest = nodes_in (body_of lines) (suc (suc i)) (suc i) around in
+    let rest = nodes_in (lines_view lines) (suc (suc i)) (suc i) around in
     let whole : nodes ≡ front ++ n ∷ rest = e ∙ ap (λ (ns : List Node). front ++ ns) (nodes_are i line lines) in (
       ap (slice_get nodes) l ∙ ap (λ (ns : List Node). slice_get ns (length front)) whole ∙ get-behind front n rest,
       nodes-from nodes (front ++ n ∷ []) (suc i) lines (omega (arith, length-append front (n ∷ []))) (whole ∙ sym (append_assoc front (n ∷ []) rest)),

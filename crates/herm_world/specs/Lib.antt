@@ -2,4 +2,4 @@ pub mod StringTexts
 pub mod Lines
 pub mod Reports
 pub mod StraightRuns
-pub mod ReportView
+pub mod View

@@ -5,7 +5,7 @@ ghost use Rattle.herm_world.specs.Lines.{held, sent_from, sent};
 ghost use Rattle.herm_world.specs.Reports.{queue_of};
 ghost use Rattle.herm_world.specs.StringTexts.{quoted};
 ghost use Rattle.herm_world.specs.StraightRuns.{IsRunnable, IsReported, an_entry, taken_at, counts_from, sent_at, sent_all, closed_at, journal_of, sets, counts_of, start_text, string_text};
-ghost use Rattle.herm_world.specs.ReportView.{entries_of, fates_of, numbered_queues, numbers_of, report_as, place_of, record_of};
+ghost use Rattle.herm_world.specs.View.{entries_view, proc_ends_view, numbered_queues, counts_view, report_view, place_view, action_view};
 ghost use Rattle.herm_system.specs.Lines.{line};
 ghost use Rattle.herm_system.specs.ProcessFates.{ended_normally};
 ghost use Rattle.std.specs.List.{flat_map};
@@ -95,7 +95,7 @@ impl Run {
         ensures made { OnOk result (self.new.made ≡ self.old.made) }
         ensures steps { OnOk result (self.new.steps ≡ self.old.steps) }
         ensures count { OnOk result (length self.new.entries.items ≡ length self.old.entries.items + 1) }
-        ensures entries { OnOk result (entries_of self.new.entries.items ≡ entries_of self.old.entries.items ++ an_entry (length self.old.entries.items + 1) (place_of place) (record_of action) ∷ []) }
+        ensures entries { OnOk result (entries_view self.new.entries.items ≡ entries_view self.old.entries.items ++ an_entry (length self.old.entries.items + 1) (place_view place) (action_view action) ∷ []) }
     {
         let stamp = self.entries.len() as u64 + 1;
         self.entries.push(Entry {
@@ -114,7 +114,7 @@ impl Run {
         ensures made { OnOk result (self.new.made ≡ self.old.made) }
         ensures steps { OnOk result (self.new.steps ≡ self.old.steps) }
         ensures count { OnOk result (length self.new.entries.items ≡ length self.old.entries.items + 1) }
-        ensures entries { OnOk result (entries_of self.new.entries.items ≡ entries_of self.old.entries.items ++ taken_at (length self.old.entries.items + 1) arg.now ∷ []) }
+        ensures entries { OnOk result (entries_view self.new.entries.items ≡ entries_view self.old.entries.items ++ taken_at (length self.old.entries.items + 1) arg.now ∷ []) }
     {
         let trace = start_message(alloc, arg)?;
         self.record(Place::Port(FIRST_PORT), Action::Take { number: 0, trace })?;
@@ -145,7 +145,7 @@ impl Run {
         ensures made { OnOk result (self.new.made ≡ self.old.made) }
         ensures steps { OnOk result (self.new.steps ≡ self.old.steps) }
         ensures count { OnOk result (length self.new.entries.items ≡ length self.old.entries.items + length (held (slice_get self.old.strings.items number))) }
-        ensures entries { OnOk result (entries_of self.new.entries.items ≡ entries_of self.old.entries.items
+        ensures entries { OnOk result (entries_view self.new.entries.items ≡ entries_view self.old.entries.items
             ++ sent_all (length self.old.entries.items + 1) (length self.old.console) (held (slice_get self.old.strings.items number))) }
     {
         match take_string(&mut self.strings, number) {
@@ -164,7 +164,7 @@ impl Run {
         ensures made { OnOk result (self.new.made ≡ self.old.made) }
         ensures steps { OnOk result (self.new.steps ≡ self.old.steps) }
         ensures count { OnOk result (length self.new.entries.items ≡ length self.old.entries.items + 1) }
-        ensures entries { OnOk result (entries_of self.new.entries.items ≡ entries_of self.old.entries.items ++ sent_at (length self.old.entries.items + 1) (length self.old.console) string.now ∷ []) }
+        ensures entries { OnOk result (entries_view self.new.entries.items ≡ entries_view self.old.entries.items ++ sent_at (length self.old.entries.items + 1) (length self.old.console) string.now ∷ []) }
     {
         let number = self.console.len() as u64;
         let queued = text_of(alloc, string)?;
@@ -201,8 +201,8 @@ impl Run {
         ensures made { OnOk result ((rest : List Line) → self.new.made + sets rest ≡ self.old.made + sets (line.now ∷ rest)) }
         ensures steps { OnOk result (self.new.steps ≡ self.old.steps + 1) }
         ensures entries { OnOk result ((rest : List Line) →
-            entries_of self.new.entries.items ++ sent_all (length self.new.entries.items + 1) (length self.new.console) (sent_from self.new.strings.items rest)
-            ≡ entries_of self.old.entries.items ++ sent_all (length self.old.entries.items + 1) (length self.old.console) (sent_from self.old.strings.items (line.now ∷ rest))) }
+            entries_view self.new.entries.items ++ sent_all (length self.new.entries.items + 1) (length self.new.console) (sent_from self.new.strings.items rest)
+            ≡ entries_view self.old.entries.items ++ sent_all (length self.old.entries.items + 1) (length self.old.console) (sent_from self.old.strings.items (line.now ∷ rest))) }
         ensures count { OnOk result (length self.new.entries.items + length self.old.console ≡ length self.old.entries.items + length self.new.console) }
     {
         self.steps += 1;
@@ -227,9 +227,9 @@ impl Run {
     fn finish(mut self, alloc: Global) -> Result<Report, AllocError>
         ensures console { IfOk result (λ r. queue_of r.queued.items 0 ≡ self.console) }
         ensures queued { IfOk result (λ r. numbered_queues r.queued.items ≡ (0, self.console) ∷ (1, []) ∷ []) }
-        ensures ends { IfOk result (λ r. fates_of r.ends.items ≡ ended_normally ∷ []) }
-        ensures journal { IfOk result (λ r. entries_of r.journal.entries.items ≡ entries_of self.entries.items ++ closed_at (length self.entries.items + 1) ∷ []) }
-        ensures counts { IfOk result (λ r. numbers_of r.counts ≡ counts_from self.steps (length self.entries.items + 1) self.made (length self.console)) }
+        ensures ends { IfOk result (λ r. proc_ends_view r.ends.items ≡ ended_normally ∷ []) }
+        ensures journal { IfOk result (λ r. entries_view r.journal.entries.items ≡ entries_view self.entries.items ++ closed_at (length self.entries.items + 1) ∷ []) }
+        ensures counts { IfOk result (λ r. counts_view r.counts ≡ counts_from self.steps (length self.entries.items + 1) self.made (length self.console)) }
     {
         self.record(
             Place::Port(FIRST_PORT),
@@ -256,7 +256,7 @@ impl Run {
 
     /// The numbers of the summary: the console's own cell is held, what was sent is queued, and all else is finalised.
     fn counts(&self) -> Counts
-        ensures { numbers_of result ≡ counts_from self.now.steps (length self.now.entries.items) self.now.made (length self.now.console) }
+        ensures { counts_view result ≡ counts_from self.now.steps (length self.now.entries.items) self.now.made (length self.now.console) }
     {
         let queued = self.console.len() as u64;
         Counts {
@@ -295,14 +295,14 @@ pub fn run_lines(alloc: Global, compiled: &Compiled, arg: &[u8]) -> Result<Repor
     requires runnable { IsRunnable (length compiled.now.names.items) compiled.now.lines.items }
     ensures console { IfOk result (λ r. queue_of r.queued.items 0
         ≡ map quoted (sent (length compiled.now.names.items) compiled.now.lines.items)) }
-    ensures journal { IfOk result (λ r. entries_of r.journal.entries.items ≡ journal_of arg.now (sent (length compiled.now.names.items) compiled.now.lines.items)) }
-    ensures ends { IfOk result (λ r. fates_of r.ends.items ≡ ended_normally ∷ []) }
+    ensures journal { IfOk result (λ r. entries_view r.journal.entries.items ≡ journal_of arg.now (sent (length compiled.now.names.items) compiled.now.lines.items)) }
+    ensures ends { IfOk result (λ r. proc_ends_view r.ends.items ≡ ended_normally ∷ []) }
     ensures queued { IfOk result (λ r. numbered_queues r.queued.items
         ≡ (0, map quoted (sent (length compiled.now.names.items) compiled.now.lines.items)) ∷ (1, []) ∷ []) }
-    ensures counts { IfOk result (λ r. numbers_of r.counts
+    ensures counts { IfOk result (λ r. counts_view r.counts
         ≡ counts_of compiled.now.lines.items (sent (length compiled.now.names.items) compiled.now.lines.items)) }
     ensures is_run { IfOk result (λ r. IsReported (length compiled.now.names.items) compiled.now.lines.items arg.now
-        (report_as r 0 (flat_map line (sent (length compiled.now.names.items) compiled.now.lines.items)))) }
+        (report_view r 0 (flat_map line (sent (length compiled.now.names.items) compiled.now.lines.items)))) }
 {
     let mut run = Run::begin(alloc, compiled.names.len())?;
     run.receive(alloc, arg)?;

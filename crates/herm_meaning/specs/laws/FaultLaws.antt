@@ -4,7 +4,7 @@ use Rattle.herm_meaning.specs.Names.{NamedTable, IsWellNamed}
 use Rattle.herm_meaning.specs.Items.{Placed}
 use Rattle.herm_meaning.specs.Meaning.{outline, meaning}
 use Rattle.herm_meaning.specs.Marks.{Place}
-use Rattle.herm_meaning.specs.Faults.{Fault, AreFaults, AreFaultsOf}
+use Rattle.herm_meaning.specs.DefinitionFaults.{Fault, AreFaults, AreFaultsOf}
 
 -- Places have one list of faults at most.
 abbrev pub HasOneList : Type 0

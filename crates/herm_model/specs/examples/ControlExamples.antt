@@ -35,8 +35,8 @@ raise e = simple (Raise e)
 abbrev pub loop : List Statement → Statement
 loop body = repeating (While (literal (boolean true))) (in_order body)
 
-abbrev pub if_else : List Statement → List Statement → Statement
-if_else first second = choosing (If (literal (boolean true))) (block (in_order first) (block (in_order second) no_blocks))
+abbrev pub either_branch : List Statement → List Statement → Statement
+either_branch first second = choosing (If (literal (boolean true))) (block (in_order first) (block (in_order second) no_blocks))
 
 abbrev pub try_on : List Statement → ℕ → List Statement → Statement
 try_on body e handling = trying (in_order body) (handler e (in_order handling) no_handlers)
@@ -91,7 +91,7 @@ EmptyLoop = IsRouted (loop [] ∷ []) (node 0) ((1, to is_true (node 0) ∷ to i
 
 -- 1 if { 2 step } else { } 3 step: an empty branch leads behind the `if`
 abbrev pub EmptyBranch : Type 0
-EmptyBranch = IsRouted (if_else (step ∷ []) [] ∷ step ∷ []) (node 0)
+EmptyBranch = IsRouted (either_branch (step ∷ []) [] ∷ step ∷ []) (node 0)
     ((1, to is_true (node 1) ∷ to is_false (node 2) ∷ []) ∷ (2, to ok (node 2) ∷ []) ∷ (3, to ok end ∷ []) ∷ [])
 
 -- 1 while { 2 case { when c1 { } when c0 { 3 step } } }: arms in their order, and behind the last one the loop

@@ -1,9 +1,9 @@
 -- Small processes with what is missing in them. Each comment has the process as it is written.
 use Rattle.std.specs.Prelude.{ℕ, true, pos, List, [], ◌∷◌, ◌++◌, codes}
-use Rattle.herm_model.specs.Paths.{init, case}
-use Rattle.herm_model.specs.Types.{TypeTable, predefined, fields, cases, rows, inport, outport, callmessage, by_in, by_inout, Raised}
+use Rattle.herm_model.specs.Paths.{init}
+use Rattle.herm_model.specs.Types.{TypeTable, predefined, fields, rows, inport, outport, callmessage, by_in, by_inout, Raised}
 use Rattle.herm_model.specs.Expressions.{Expression, literal, copy, operation, equal, decimal, boolean, integer, text, path}
-use Rattle.herm_model.specs.Statements.{Assign, Move, New, Discard, Unite, Dissolve, Reveal, Insert, Receive, Send, If, While, Create, Call, ReturnBy, Statement, simple, choosing, repeating, trying, Block, no_statements, statement, no_blocks, block, Handlers, no_handlers, handler, Process}
+use Rattle.herm_model.specs.Statements.{Assign, New, Discard, Insert, Receive, Send, If, While, Create, Call, ReturnBy, Statement, simple, choosing, repeating, trying, Block, no_statements, statement, no_blocks, block, Handlers, no_handlers, handler, Process}
 use Rattle.herm_model.specs.Outcomes.{ok, is_true, is_false, raised, duplicate_key, disconnected}
 use Rattle.herm_model.specs.ControlPaths.{Hop}
 use Rattle.herm_model.specs.Refusals.{Refusal}
@@ -225,36 +225,3 @@ discard_w = simple (Discard (1 ∷ 1 ∷ []))
 -- needs init(c.w) by start 1:ok 2:ok
 abbrev pub missing_at_return : List Refusal
 missing_at_return = record { number = 3; fact = init (1 ∷ 1 ∷ []); path = normally 1 ∷ normally 2 ∷ [] } ∷ []
-
---   definitions d { type v = variant { a: integer, b: string }; }
-abbrev pub with_variant : TypeTable
-with_variant = predefined ++ cases (1 ∷ 2 ∷ []) ∷ []
-
--- A component that is not known any more behind a move, with these statements after it:
---   process main(start: main_start) {
---     var x: v, z: v, y: integer;
---     y := 7;
---     unite x.a from y;
---     move x to z;
---     ..
---   }
-abbrev pub moves_variant : List Statement → Process
-moves_variant after = record {
-  variables = 7 ∷ 8 ∷ 8 ∷ 1 ∷ [];
-  body = in_order (
-      simple (Assign (3 ∷ []) (literal (integer (pos 7))))
-      ∷ simple (Unite (1 ∷ []) 0 (3 ∷ []))
-      ∷ simple (Move (1 ∷ []) (2 ∷ []))
-      ∷ after);
-}
-
--- `dissolve z.a into y;` and `reveal z.a;`
-abbrev pub dissolve_a : Statement
-dissolve_a = simple (Dissolve (2 ∷ []) 0 (3 ∷ []))
-
-abbrev pub reveal_a : Statement
-reveal_a = simple (Reveal (2 ∷ []) 0)
-
--- needs case(z,a) by start 1:ok 2:ok 3:ok
-abbrev pub missing_after_move : List Refusal
-missing_after_move = record { number = 4; fact = case (2 ∷ []) 0; path = normally 1 ∷ normally 2 ∷ normally 3 ∷ [] } ∷ []

@@ -1,8 +1,9 @@
 -- Statements and the codes at them, in the scope of the examples: for each form a right one and the ways to be wrong.
 use Rattle.std.specs.Prelude.{false, List, [], ◌∷◌, map, codes, Option, Some, None, ◌≡◌}
-use Rattle.herm_syntax.specs.Symbols.{plus, equal, less, ampersand, kw_and, kw_not}
+use Rattle.herm_syntax.specs.Symbols.{plus, equal, less, ampersand}
+use Rattle.herm_syntax.specs.KeywordSymbols.{kw_and, kw_not}
 use Rattle.herm_syntax.specs.Trees.{Tag, Constant, Place, Chain, Compare, Unary, NoOperand, Operand, With, Simple, Size, TextOf, LengthOf, Statement, Assign, Move, Unite, Dissolve, Wrap, Insert, Connect, Send, Receive, New, Discard, Reveal, Remove, Get, Unwrap, Call, Return, ReturnBy, Create, Raise, Leave, Case, For, Select, If, While, Try, NoStatement, NoArm, Arm, NoPortArm, PortArm, NoElse}
-use Rattle.herm_naming.specs.Faults.{Code, unknown, twice, wrong_type, not_copyable, statement_code}
+use Rattle.herm_naming.specs.StatementFaults.{Code, unknown, twice, wrong_type, not_copyable, statement_code}
 use Rattle.herm_naming.specs.examples.ExampleScope.{scope, one, two, three, atom, at, number, string}
 
 abbrev fine : Option Code

@@ -7,7 +7,8 @@ use Rattle.herm_journal.specs.Messages.{CellAction}
 use Rattle.herm_system.specs.Machines.{Machine, is_local}
 use Rattle.herm_system.specs.Systems.{number_of}
 use Rattle.herm_system.specs.Suiting.{has_local_step, local_steps}
-use Rattle.herm_system.specs.DiaryStates.{IsToldBy, IsBehind, after_steps, after_entry}
+use Rattle.herm_system.specs.PutAside.{IsToldBy, IsBehind}
+use Rattle.herm_system.specs.DiaryStates.{after_steps, after_entry}
 use Rattle.herm_runs.specs.Joining.{AreJoined, DiariesTogether}
 use Rattle.herm_runs.proofs.ActionParts.{cond-both}
 use Rattle.herm_runs.proofs.joined.Turned.{shows-turned, suits-same, fulfils-same}

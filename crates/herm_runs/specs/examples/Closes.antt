@@ -4,7 +4,7 @@ use Rattle.herm_model.specs.Values.{a_scalar, an_integer, Kind, Value, cell, no_
 use Rattle.herm_journal.specs.Actions.{close}
 use Rattle.herm_journal.specs.Entries.{Text, port, Entry}
 use Rattle.herm_journal.specs.Renaming.{forget_name}
-use Rattle.herm_system.specs.DiaryStates.{IsToldBy, IsBehind}
+use Rattle.herm_system.specs.PutAside.{IsToldBy, IsBehind}
 use Rattle.herm_runs.specs.examples.Countdowns.{Down, counting_down}
 
 -- a value without parts; and one with an integer as its part

@@ -11,7 +11,8 @@ use Rattle.herm_journal.specs.Messages.{CellReply, CellWant, CellAction}
 use Rattle.herm_system.specs.Machines.{Machine}
 use Rattle.herm_system.specs.Systems.{System, Moved, Event, steps, acts, Run, run, run_on, step, start, main_port, number_of, numbered_from_one, places_for, holding_at, done_at}
 use Rattle.herm_system.specs.Suiting.{Suits}
-use Rattle.herm_system.specs.DiaryStates.{IsToldBy, IsAfter}
+use Rattle.herm_system.specs.PutAside.{IsToldBy}
+use Rattle.herm_system.specs.DiaryStates.{IsAfter}
 
 -- What comes in with an event suits the process: its message or reply is one that it waits for, and what is left with
 -- a close is well made.

@@ -3,36 +3,15 @@ use Rattle.std.specs.Prelude.{◌≡◌, pos, true, List, [], ◌∷◌, Some, N
 use Rattle.herm_readers.specs.Brackets.{Opening, Closing, Neither}
 use Rattle.herm_readers.specs.Reader.{Read, Fault}
 use Rattle.herm_alphabet.specs.KeywordLetters.{keywords as all_keywords, letters as word}
-use Rattle.herm_syntax.specs.Symbols.{Symbol, Identifier, Number, Quoted, kw_and, kw_as, kw_call, kw_callmessage, kw_case, kw_create, kw_definitions, kw_else, kw_enum, kw_exception, kw_for, kw_from, kw_full, kw_get, kw_if, kw_in, kw_init, kw_inout, kw_inport, kw_into, kw_key, kw_leave, kw_length, kw_move, kw_new, kw_of, kw_on, kw_or, kw_out, kw_outport, kw_process, kw_raise, kw_raises, kw_receive, kw_record, kw_return, kw_reveal, kw_select, kw_size, kw_table, kw_text, kw_to, kw_true, kw_try, kw_type, kw_unite, kw_unwrap, kw_var, kw_variant, kw_when, kw_while, kw_wrap, paren_open, paren_close, brace_open, brace_close, bracket_open, bracket_close, comma, semicolon, colon, becomes, dot, hash, equal, plus, minus, star, ampersand, kw_connect, kw_discard, kw_dissolve, kw_div, kw_false, kw_insert, kw_mod, kw_not, kw_remove, kw_send, unequal, less, at_most, greater, at_least, level, side}
-use Rattle.herm_syntax.specs.Trees.{Letters, Path, Integer, Text, Boolean, Tag, Constant, Place, Expression, Chain, Compare, Unary, NoOperand, Operand, NoComparison, With, Primary, Simple, Size, Paren, TextOf, LengthOf, Move, Unite, Wrap, New, Reveal, Get, Statement, Assign, Unwrap, Call, Return, ReturnBy, Create, Raise, Leave, Case, For, Select, If, While, Try, Statements, NoStatement, Further, NoArm, Arm, NoPortArm, PortArm, Else, In, Inout, InitFact, FullFact, CaseFact, Names, Fields, Cases, Rows, Inport, Outport, CallMessage, Item, TypeItem, ExceptionItem, Module, Definitions, Process}
-use Rattle.herm_syntax.specs.Spelling.{part, expression, statement, item, module_symbols, file}
+use Rattle.herm_syntax.specs.Symbols.{Symbol, Number, Quoted, paren_open, paren_close, brace_open, brace_close, bracket_open, bracket_close, comma, semicolon, colon, becomes, dot, hash, equal, plus, minus, star, ampersand, unequal, less, at_most, greater, at_least, level, side}
+use Rattle.herm_syntax.specs.KeywordSymbols.{kw_and, kw_as, kw_call, kw_callmessage, kw_case, kw_create, kw_definitions, kw_else, kw_enum, kw_exception, kw_for, kw_from, kw_full, kw_get, kw_if, kw_in, kw_init, kw_inout, kw_inport, kw_into, kw_key, kw_leave, kw_length, kw_move, kw_new, kw_of, kw_on, kw_or, kw_out, kw_outport, kw_process, kw_raise, kw_raises, kw_receive, kw_record, kw_return, kw_reveal, kw_select, kw_size, kw_table, kw_text, kw_to, kw_true, kw_try, kw_type, kw_unite, kw_unwrap, kw_var, kw_variant, kw_when, kw_while, kw_wrap, kw_connect, kw_discard, kw_dissolve, kw_div, kw_false, kw_insert, kw_mod, kw_not, kw_remove, kw_send}
+use Rattle.herm_syntax.specs.Trees.{Letters, Integer, Text, Boolean, Tag, Constant, Place, Expression, Chain, Compare, Unary, NoOperand, Operand, NoComparison, With, Primary, Simple, Size, Paren, TextOf, LengthOf, Move, Unite, Wrap, New, Reveal, Get, Statement, Assign, Unwrap, Call, Return, ReturnBy, Create, Raise, Case, For, Select, If, While, Try, Statements, NoStatement, Further, NoArm, Arm, NoPortArm, PortArm, Else, Item, Module, Definitions, Process}
+use Rattle.herm_syntax.specs.Spelling.{part, expression, statement, file}
 use Rattle.herm_syntax.specs.Fitting.{is_sign, file_fits}
 use Rattle.herm_syntax.specs.ReadExpressions.{read_expression}
 use Rattle.herm_syntax.specs.laws.GrammarLaws.{read_within}
-
-abbrev pub a : Letters
-a = codes "a"
-
-abbrev pub b : Letters
-b = codes "b"
-
-abbrev pub c : Letters
-c = codes "c"
-
-abbrev pub d : Letters
-d = codes "d"
-
-abbrev pub e : Letters
-e = codes "e"
-
-abbrev pub f : Letters
-f = codes "f"
-
-abbrev pub variable : Letters → Symbol
-variable letters = Identifier letters
-
-abbrev pub one : Letters → Path
-one letters = letters ∷ []
+use Rattle.herm_syntax.specs.examples.ExampleNames.{a, b, c, d, e, f, variable, one, left}
+use Rattle.herm_syntax.specs.examples.ExampleItems.{enum_example, fields_example, cases_example, rows_example, inport_example, facts_example, outport_example, callmessage_example, exception_example, small_process, small_process_symbols}
 
 -- An operand alone, as an expression of each level.
 abbrev pub operand : Letters → Primary
@@ -80,10 +59,6 @@ pub record Expressions : Type 0 where
   pub fault : read_expression 0 (variable a ∷ kw_or ∷ semicolon ∷ []) ≡ Fault 1
   -- a or
   pub fault_at_end : read_expression 0 (variable a ∷ kw_or ∷ []) ≡ Fault 0
-
--- leave;
-abbrev pub left : Statement
-left = Leave
 
 abbrev pub assign_example : Statement
 assign_example = Assign (a ∷ b ∷ []) (as_expression (Simple (Constant (Integer (pos 1)))))
@@ -142,33 +117,6 @@ if_example = If (as_expression (operand a)) (Further left NoStatement) (Else NoS
 abbrev pub while_example : Statement
 while_example = While (as_expression (operand a)) NoStatement
 
-abbrev pub enum_example : Item
-enum_example = TypeItem a (Names (b ∷ codes "out" ∷ []))
-
-abbrev pub fields_example : Item
-fields_example = TypeItem a (Fields ((b, c) ∷ []))
-
-abbrev pub cases_example : Item
-cases_example = TypeItem a (Cases ((b, c) ∷ (d, e) ∷ []))
-
-abbrev pub rows_example : Item
-rows_example = TypeItem a (Rows b (c ∷ []))
-
-abbrev pub inport_example : Item
-inport_example = TypeItem a (Inport b [])
-
-abbrev pub facts_example : Item
-facts_example = TypeItem a (Inport b (InitFact (c ∷ []) ∷ FullFact (c ∷ d ∷ []) ∷ CaseFact (e ∷ []) f ∷ []))
-
-abbrev pub outport_example : Item
-outport_example = TypeItem a (Outport b)
-
-abbrev pub callmessage_example : Item
-callmessage_example = TypeItem a (CallMessage ((In, (b, c)) ∷ (Inout, (d, e)) ∷ []) ((f, d ∷ []) ∷ (a, []) ∷ []))
-
-abbrev pub exception_example : Item
-exception_example = ExceptionItem a
-
 pub record Plain : Type 0 where
   -- a.b := 1;
   pub assign : statement assign_example ≡ variable a ∷ dot ∷ variable b ∷ becomes ∷ Number (pos 1) ∷ semicolon ∷ []
@@ -213,40 +161,6 @@ pub record Compound : Type 0 where
   pub if : statement if_example ≡ kw_if ∷ variable a ∷ brace_open ∷ kw_leave ∷ semicolon ∷ brace_close ∷ kw_else ∷ brace_open ∷ brace_close ∷ []
   -- while a { }
   pub while : statement while_example ≡ kw_while ∷ variable a ∷ brace_open ∷ brace_close ∷ []
-
-abbrev pub small_process : Module
-small_process = Process a (b, c) ((d, e) ∷ []) (Further left NoStatement)
-
-abbrev pub small_process_symbols : List Symbol
-small_process_symbols = kw_process ∷ variable a ∷ paren_open ∷ variable b ∷ colon ∷ variable c ∷ paren_close ∷ brace_open ∷ kw_var ∷ variable d ∷ colon ∷ variable e ∷ semicolon ∷ kw_leave ∷ semicolon ∷ brace_close ∷ []
-
-pub record Items : Type 0 where
-  -- type a = enum { b, out };
-  pub enum : item enum_example ≡ kw_type ∷ variable a ∷ equal ∷ kw_enum ∷ brace_open ∷ variable b ∷ comma ∷ kw_out ∷ brace_close ∷ semicolon ∷ []
-  -- type a = record { b: c };
-  pub fields : item fields_example ≡ kw_type ∷ variable a ∷ equal ∷ kw_record ∷ brace_open ∷ variable b ∷ colon ∷ variable c ∷ brace_close ∷ semicolon ∷ []
-  -- type a = variant { b: c, d: e };
-  pub cases : item cases_example ≡ kw_type ∷ variable a ∷ equal ∷ kw_variant ∷ brace_open ∷ variable b ∷ colon ∷ variable c ∷ comma ∷ variable d ∷ colon ∷ variable e ∷ brace_close ∷ semicolon ∷ []
-  -- type a = table of b key (c);
-  pub rows : item rows_example ≡ kw_type ∷ variable a ∷ equal ∷ kw_table ∷ kw_of ∷ variable b ∷ kw_key ∷ paren_open ∷ variable c ∷ paren_close ∷ semicolon ∷ []
-  -- type a = inport of b;
-  pub inport : item inport_example ≡ kw_type ∷ variable a ∷ equal ∷ kw_inport ∷ kw_of ∷ variable b ∷ semicolon ∷ []
-  -- type a = inport of b { init(c), full(c.d), case(e, f) };
-  pub facts : item facts_example ≡
-      kw_type ∷ variable a ∷ equal ∷ kw_inport ∷ kw_of ∷ variable b ∷ brace_open ∷ kw_init ∷ paren_open ∷ variable c ∷ paren_close ∷ comma ∷ kw_full ∷ paren_open ∷ variable c ∷ dot ∷ variable d ∷ paren_close ∷ comma ∷
-      kw_case ∷ paren_open ∷ variable e ∷ comma ∷ variable f ∷ paren_close ∷ brace_close ∷ semicolon ∷ []
-  -- type a = outport of b;
-  pub outport : item outport_example ≡ kw_type ∷ variable a ∷ equal ∷ kw_outport ∷ kw_of ∷ variable b ∷ semicolon ∷ []
-  -- type a = callmessage (in b: c, inout d: e) raises (f { full(d) }, a);
-  pub callmessage : item callmessage_example ≡
-      kw_type ∷ variable a ∷ equal ∷ kw_callmessage ∷ paren_open ∷ kw_in ∷ variable b ∷ colon ∷ variable c ∷ comma ∷ kw_inout ∷ variable d ∷ colon ∷ variable e ∷ paren_close ∷
-      kw_raises ∷ paren_open ∷ variable f ∷ brace_open ∷ kw_full ∷ paren_open ∷ variable d ∷ paren_close ∷ brace_close ∷ comma ∷ variable a ∷ paren_close ∷ semicolon ∷ []
-  -- exception a;
-  pub exception : item exception_example ≡ kw_exception ∷ variable a ∷ semicolon ∷ []
-  -- definitions a { exception b; }
-  pub definitions : module_symbols (Definitions a (ExceptionItem b ∷ [])) ≡ kw_definitions ∷ variable a ∷ brace_open ∷ kw_exception ∷ variable b ∷ semicolon ∷ brace_close ∷ []
-  -- process a(b: c) { var d: e; leave; }
-  pub process : module_symbols small_process ≡ small_process_symbols
 
 pub record Files : Type 0 where
   pub read : read_within 64 small_process_symbols ≡ Read (small_process ∷ []) []

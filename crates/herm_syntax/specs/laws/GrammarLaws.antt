@@ -12,7 +12,8 @@ use Rattle.herm_syntax.specs.Fitting.{IsFile}
 use Rattle.herm_syntax.specs.ReadExpressions.{expression_rule, read_expression}
 use Rattle.herm_syntax.specs.ReadStatements.{statement_rule, read_statement, read_statements}
 use Rattle.herm_syntax.specs.ReadModules.{file_rule, read_file}
-use Rattle.herm_syntax.specs.Views.{module_of, module_numbers}
+use Rattle.herm_syntax.specs.View.{module_view}
+use Rattle.herm_syntax.specs.StatementNumbers.{module_numbers}
 
 -- The readers read the rules, at any depth.
 abbrev pub ExpressionsAreRead : Type 0
@@ -86,10 +87,10 @@ IsNumbered m = (count : ℕ) × (module_numbers m ≡ counting 1 count)
 
 -- Trees of the program that the grammar can spell, with their statements numbered.
 pub record IsProgram (modules : List ModuleForm) : Type 0 where
-  pub fits : IsFile (map module_of modules)
+  pub fits : IsFile (map module_view modules)
   pub numbered : AllByRecursion IsNumbered modules
 
 -- Two programs with the same symbols are equal but for their places in the text: their views are equal, and
 -- so are the numbers of their statements: language reference, "One tree".
 abbrev pub HasOneProgram : Type 0
-HasOneProgram = (a b : List ModuleForm) → IsProgram a → IsProgram b → file (map module_of a) ≡ file (map module_of b) → (map module_of a ≡ map module_of b) × (map module_numbers a ≡ map module_numbers b)
+HasOneProgram = (a b : List ModuleForm) → IsProgram a → IsProgram b → file (map module_view a) ≡ file (map module_view b) → (map module_view a ≡ map module_view b) × (map module_numbers a ≡ map module_numbers b)

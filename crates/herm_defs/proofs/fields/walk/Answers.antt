@@ -1,6 +1,6 @@
 use Rattle.std.proofs.Common.{◌≡◌, ◌∙◌, ◌++◌, [], ◌∷◌, Some, sym, ap, subst, option_map, List, ℕ}
 use Rattle.herm_meaning.specs.Walks.{walk}
-use Rattle.herm_syntax.specs.Views.{letters}
+use Rattle.herm_syntax.specs.View.{name_view}
 use Rattle.herm_defs.specs.Steps.{end_of, step_from, part_seen}
 use Rattle.herm_defs.proofs.Stepping.{behind, walk-stops, walk-goes}
 use Rattle.herm_defs.proofs.fields.walk.Goals as goal

@@ -1,5 +1,5 @@
 use Rattle.std.proofs.Common.{refl, [], ◌∷◌}
-use Rattle.herm_model.specs.examples.RefusedProcesses.{dissolve_a, missing_after_move, moves_variant, reveal_a, with_variant}
+use Rattle.herm_model.specs.examples.RefusedVariants.{dissolve_a, missing_after_move, moves_variant, reveal_a, with_variant}
 use Rattle.herm_model.proofs.ExampleRefusals.{computed}
 use Rattle.herm_model.proofs.examples.moves_lose_components.Goals as goal
 

@@ -1,9 +1,10 @@
 use Rattle.std.proofs.Common.{◌≡◌, ◌+◌, ◌*◌, length, map, Some}
 use Rattle.herm_readers.specs.Combinators.{many}
-use Rattle.herm_syntax.specs.Symbols.{is, kw_on, kw_when}
+use Rattle.herm_syntax.specs.Symbols.{is}
+use Rattle.herm_syntax.specs.KeywordSymbols.{kw_on, kw_when}
 use Rattle.herm_syntax.specs.ReadStatements.{inside}
-use Rattle.herm_syntax.specs.Views.{statement_of}
-use Rattle.herm_parser.specs.Blocks.{arm_of, port_arm_of, case_arm_at, handler_at, port_arm_at, statement_at}
+use Rattle.herm_syntax.specs.View.{stmt_form_view}
+use Rattle.herm_parser.specs.Blocks.{arm_view, port_arm_view, case_arm_at, handler_at, port_arm_at, statement_at}
 use Rattle.herm_parser.specs.Walk.{walk_body, walk_each, walk_arm, walk_port_arm}
 use Rattle.herm_parser.specs.Gives.{kinds, with_front}
 use Rattle.herm_parser.proofs.blocks.+blocks.Given as goal
@@ -67,7 +68,7 @@ decreases-statement l = 32 * l.depth + 29
 
 abbrev pub invariant-case_arms-list : goal.invariant-case_arms-list
 invariant-case_arms-list l =
-    (with_front (map arm_of l.found.items) (many (is kw_when) (case_arm_at l.depth) (kinds l.rest)) ≡ many (is kw_when) (case_arm_at l.depth) (kinds l.fn.tokens))
+    (with_front (map arm_view l.found.items) (many (is kw_when) (case_arm_at l.depth) (kinds l.rest)) ≡ many (is kw_when) (case_arm_at l.depth) (kinds l.fn.tokens))
     × (walk_each walk_arm l.found.items (l.fn.next, (l.fn.end, l.fn.tokens)) ≡ Some (l.number, (l.last, l.rest)))
 
 abbrev pub decreases-case_arms-list : goal.decreases-case_arms-list
@@ -75,7 +76,7 @@ decreases-case_arms-list l = length l.rest
 
 abbrev pub invariant-handlers-list : goal.invariant-handlers-list
 invariant-handlers-list l =
-    (with_front (map arm_of l.found.items) (many (is kw_on) (handler_at l.depth) (kinds l.rest)) ≡ many (is kw_on) (handler_at l.depth) (kinds l.fn.tokens))
+    (with_front (map arm_view l.found.items) (many (is kw_on) (handler_at l.depth) (kinds l.rest)) ≡ many (is kw_on) (handler_at l.depth) (kinds l.fn.tokens))
     × (walk_each walk_arm l.found.items (l.fn.next, (l.fn.end, l.fn.tokens)) ≡ Some (l.number, (l.last, l.rest)))
 
 abbrev pub decreases-handlers-list : goal.decreases-handlers-list
@@ -83,7 +84,7 @@ decreases-handlers-list l = length l.rest
 
 abbrev pub invariant-port_arms-list : goal.invariant-port_arms-list
 invariant-port_arms-list l =
-    (with_front (map port_arm_of l.found.items) (many (is kw_when) (port_arm_at l.depth) (kinds l.rest)) ≡ many (is kw_when) (port_arm_at l.depth) (kinds l.fn.tokens))
+    (with_front (map port_arm_view l.found.items) (many (is kw_when) (port_arm_at l.depth) (kinds l.rest)) ≡ many (is kw_when) (port_arm_at l.depth) (kinds l.fn.tokens))
     × (walk_each walk_port_arm l.found.items (l.fn.next, (l.fn.end, l.fn.tokens)) ≡ Some (l.number, (l.last, l.rest)))
 
 abbrev pub decreases-port_arms-list : goal.decreases-port_arms-list
@@ -91,7 +92,7 @@ decreases-port_arms-list l = length l.rest
 
 abbrev pub invariant-further-list : goal.invariant-further-list
 invariant-further-list l =
-    (with_front (map (λ s. statement_of s.form) l.found.items) (many inside (statement_at l.depth) (kinds l.rest)) ≡ many inside (statement_at l.depth) (kinds l.fn.tokens))
+    (with_front (map (λ s. stmt_form_view s.form) l.found.items) (many inside (statement_at l.depth) (kinds l.rest)) ≡ many inside (statement_at l.depth) (kinds l.fn.tokens))
     × (walk_body l.found.items l.fn.next l.fn.tokens ≡ Some (l.number, l.rest))
 
 abbrev pub decreases-further-list : goal.decreases-further-list

@@ -2,7 +2,7 @@ use Rattle.std.proofs.Common.{rules, ◌∙◌}
 use Rattle.herm_readers.specs.Combinators.{many, preceded}
 use Rattle.herm_alphabet.specs.declared.sign.Mark.TheVariants.{Comma}
 use Rattle.herm_syntax.specs.Symbols.{is, comma}
-use Rattle.herm_syntax.specs.Views.{letters}
+use Rattle.herm_syntax.specs.View.{name_view}
 use Rattle.herm_syntax.proofs.Files.{kept_item_r}
 use Rattle.herm_parser.specs.AlongDefinitions.{past_keep}
 use Rattle.herm_parser.specs.Shapes.{read_keep}
@@ -13,14 +13,14 @@ use Rattle.herm_parser.proofs.definitions.keep_list_behind.Goals as goal
 
 pub list-init : goal.list-init
 list-init c =
-    (loop_start (letters) c.new-found.result.items (many (is comma) (preceded (is comma) read_keep) (kinds c.args.tokens.now)) (search rules), past_start (past_behind past_keep) c.new-found.result.items c.args.tokens.now (search rules))
+    (loop_start (name_view) c.new-found.result.items (many (is comma) (preceded (is comma) read_keep) (kinds c.args.tokens.now)) (search rules), past_start (past_behind past_keep) c.new-found.result.items c.args.tokens.now (search rules))
 
 pub list-smaller : goal.list-smaller
-list-smaller c = loop_smaller (letters) (is comma) (preceded (is comma) read_keep) (goes_behind Comma kept_item_r.rule read_keep kept_item_r.reads) c.in_ok-item.item c.list.rest.now c.in_ok-item.behind.now c.in_ok-item.ensures.read
+list-smaller c = loop_smaller (name_view) (is comma) (preceded (is comma) read_keep) (goes_behind Comma kept_item_r.rule read_keep kept_item_r.reads) c.in_ok-item.item c.list.rest.now c.in_ok-item.behind.now c.in_ok-item.ensures.read
 
 pub list-preserved : goal.list-preserved
 list-preserved c = (
-  loop_next (letters) (is comma) (preceded (is comma) read_keep) (goes_behind Comma kept_item_r.rule read_keep kept_item_r.reads)
+  loop_next (name_view) (is comma) (preceded (is comma) read_keep) (goes_behind Comma kept_item_r.rule read_keep kept_item_r.reads)
       c.list.found.items c.push.new.self.items c.in_ok-item.item (kinds c.list.rest.now) (kinds c.in_ok-item.behind.now)
       c.in_ok-push.ensures.items (search rules) c.in_ok-item.ensures.read ∙ c.list.invariant.0,
   past_next (past_behind past_keep) c.list.found.items c.push.new.self.items c.in_ok-item.item c.args.tokens.now c.list.rest.now c.in_ok-item.behind.now

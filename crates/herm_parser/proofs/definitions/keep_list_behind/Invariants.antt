@@ -1,7 +1,7 @@
 use Rattle.std.proofs.Common.{◌≡◌, length, map, Some}
 use Rattle.herm_readers.specs.Combinators.{many, preceded}
 use Rattle.herm_syntax.specs.Symbols.{is, comma}
-use Rattle.herm_syntax.specs.Views.{letters}
+use Rattle.herm_syntax.specs.View.{name_view}
 use Rattle.herm_parser.specs.AlongDefinitions.{past_keep}
 use Rattle.herm_parser.specs.Shapes.{read_keep}
 use Rattle.herm_parser.specs.Along.{past_each, past_behind}
@@ -10,7 +10,7 @@ use Rattle.herm_parser.proofs.definitions.keep_list_behind.Given as goal
 
 abbrev pub invariant-list : goal.invariant-list
 invariant-list l =
-    (with_front (map (letters) l.found.items) (many (is comma) (preceded (is comma) read_keep) (kinds l.rest)) ≡ many (is comma) (preceded (is comma) read_keep) (kinds l.fn.tokens))
+    (with_front (map (name_view) l.found.items) (many (is comma) (preceded (is comma) read_keep) (kinds l.rest)) ≡ many (is comma) (preceded (is comma) read_keep) (kinds l.fn.tokens))
     × (past_each (past_behind past_keep) l.found.items l.fn.tokens ≡ Some l.rest)
 
 abbrev pub decreases-list : goal.decreases-list

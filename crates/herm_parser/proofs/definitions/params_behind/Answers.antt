@@ -3,7 +3,7 @@ use Rattle.herm_readers.specs.Combinators.{many, preceded}
 use Rattle.herm_alphabet.specs.declared.sign.Mark.TheVariants.{Comma}
 use Rattle.herm_syntax.specs.Symbols.{is, comma}
 use Rattle.herm_syntax.specs.ReadModules.{read_param}
-use Rattle.herm_syntax.specs.Views.{param_of}
+use Rattle.herm_syntax.specs.View.{param_form_view}
 use Rattle.herm_syntax.proofs.Files.{param_r}
 use Rattle.herm_parser.specs.AlongDefinitions.{past_param}
 use Rattle.herm_parser.specs.Along.{past_behind}
@@ -13,14 +13,14 @@ use Rattle.herm_parser.proofs.definitions.params_behind.Goals as goal
 
 pub list-init : goal.list-init
 list-init c =
-    (loop_start (param_of) c.new-found.result.items (many (is comma) (preceded (is comma) read_param) (kinds c.args.tokens.now)) (search rules), past_start (past_behind past_param) c.new-found.result.items c.args.tokens.now (search rules))
+    (loop_start (param_form_view) c.new-found.result.items (many (is comma) (preceded (is comma) read_param) (kinds c.args.tokens.now)) (search rules), past_start (past_behind past_param) c.new-found.result.items c.args.tokens.now (search rules))
 
 pub list-smaller : goal.list-smaller
-list-smaller c = loop_smaller (param_of) (is comma) (preceded (is comma) read_param) (goes_behind Comma param_r.rule read_param param_r.reads) c.in_ok-item.item c.list.rest.now c.in_ok-item.behind.now c.in_ok-item.ensures.read
+list-smaller c = loop_smaller (param_form_view) (is comma) (preceded (is comma) read_param) (goes_behind Comma param_r.rule read_param param_r.reads) c.in_ok-item.item c.list.rest.now c.in_ok-item.behind.now c.in_ok-item.ensures.read
 
 pub list-preserved : goal.list-preserved
 list-preserved c = (
-  loop_next (param_of) (is comma) (preceded (is comma) read_param) (goes_behind Comma param_r.rule read_param param_r.reads)
+  loop_next (param_form_view) (is comma) (preceded (is comma) read_param) (goes_behind Comma param_r.rule read_param param_r.reads)
       c.list.found.items c.push.new.self.items c.in_ok-item.item (kinds c.list.rest.now) (kinds c.in_ok-item.behind.now)
       c.in_ok-push.ensures.items (search rules) c.in_ok-item.ensures.read ∙ c.list.invariant.0,
   past_next (past_behind past_param) c.list.found.items c.push.new.self.items c.in_ok-item.item c.args.tokens.now c.list.rest.now c.in_ok-item.behind.now

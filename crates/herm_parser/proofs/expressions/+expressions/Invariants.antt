@@ -1,11 +1,12 @@
 use Rattle.std.proofs.Common.{◌≡◌, ◌+◌, ◌*◌, length, map, Some}
 use Rattle.herm_readers.specs.Combinators.{many, one, sequence}
-use Rattle.herm_syntax.specs.Symbols.{is_operator, kw_and, kw_or}
+use Rattle.herm_syntax.specs.Symbols.{is_operator}
+use Rattle.herm_syntax.specs.KeywordSymbols.{kw_and, kw_or}
 use Rattle.herm_syntax.specs.ReadExpressions.{pick_by}
-use Rattle.herm_syntax.specs.Views.{sum_symbol, product_symbol, conjunction_of, comparison_of, product_of}
+use Rattle.herm_syntax.specs.View.{sum_op_view, prod_op_view, conj_view, comp_view, prod_view, unary_view}
 use Rattle.herm_parser.specs.Along.{past_each, past_behind, past_unary, past_product, past_comparison, past_conjunction}
 use Rattle.herm_parser.specs.Levels.{unary_at, product_at, comparison_at, conjunction_at}
-use Rattle.herm_parser.specs.Gives.{kinds, with_front, unary_of}
+use Rattle.herm_parser.specs.Gives.{kinds, with_front}
 use Rattle.herm_parser.proofs.expressions.+expressions.Given as goal
 
 abbrev pub decreases-in_parens : goal.decreases-in_parens
@@ -46,7 +47,7 @@ decreases-expression l = 12 * l.depth + 11
 
 abbrev pub invariant-product_operands-list : goal.invariant-product_operands-list
 invariant-product_operands-list l =
-    (with_front (map (λ o. (product_symbol o.0, unary_of o.1)) l.found.items) (many (is_operator 1) (sequence (one (pick_by (is_operator 1))) (unary_at l.depth)) (kinds l.rest)) ≡ many (is_operator 1) (sequence (one (pick_by (is_operator 1))) (unary_at l.depth)) (kinds l.fn.tokens))
+    (with_front (map (λ o. (prod_op_view o.0, unary_view o.1)) l.found.items) (many (is_operator 1) (sequence (one (pick_by (is_operator 1))) (unary_at l.depth)) (kinds l.rest)) ≡ many (is_operator 1) (sequence (one (pick_by (is_operator 1))) (unary_at l.depth)) (kinds l.fn.tokens))
     × (past_each (λ o. past_behind past_unary o.1) l.found.items l.fn.tokens ≡ Some l.rest)
 
 abbrev pub decreases-product_operands-list : goal.decreases-product_operands-list
@@ -54,7 +55,7 @@ decreases-product_operands-list l = length l.rest
 
 abbrev pub invariant-sum_operands-list : goal.invariant-sum_operands-list
 invariant-sum_operands-list l =
-    (with_front (map (λ o. (sum_symbol o.0, product_of o.1)) l.found.items) (many (is_operator 2) (sequence (one (pick_by (is_operator 2))) (product_at l.depth)) (kinds l.rest)) ≡ many (is_operator 2) (sequence (one (pick_by (is_operator 2))) (product_at l.depth)) (kinds l.fn.tokens))
+    (with_front (map (λ o. (sum_op_view o.0, prod_view o.1)) l.found.items) (many (is_operator 2) (sequence (one (pick_by (is_operator 2))) (product_at l.depth)) (kinds l.rest)) ≡ many (is_operator 2) (sequence (one (pick_by (is_operator 2))) (product_at l.depth)) (kinds l.fn.tokens))
     × (past_each (λ o. past_behind past_product o.1) l.found.items l.fn.tokens ≡ Some l.rest)
 
 abbrev pub decreases-sum_operands-list : goal.decreases-sum_operands-list
@@ -62,7 +63,7 @@ decreases-sum_operands-list l = length l.rest
 
 abbrev pub invariant-and_operands-list : goal.invariant-and_operands-list
 invariant-and_operands-list l =
-    (with_front (map (λ o. (kw_and, comparison_of o)) l.found.items) (many (is_operator 4) (sequence (one (pick_by (is_operator 4))) (comparison_at l.depth)) (kinds l.rest)) ≡ many (is_operator 4) (sequence (one (pick_by (is_operator 4))) (comparison_at l.depth)) (kinds l.fn.tokens))
+    (with_front (map (λ o. (kw_and, comp_view o)) l.found.items) (many (is_operator 4) (sequence (one (pick_by (is_operator 4))) (comparison_at l.depth)) (kinds l.rest)) ≡ many (is_operator 4) (sequence (one (pick_by (is_operator 4))) (comparison_at l.depth)) (kinds l.fn.tokens))
     × (past_each (past_behind past_comparison) l.found.items l.fn.tokens ≡ Some l.rest)
 
 abbrev pub decreases-and_operands-list : goal.decreases-and_operands-list
@@ -70,7 +71,7 @@ decreases-and_operands-list l = length l.rest
 
 abbrev pub invariant-or_operands-list : goal.invariant-or_operands-list
 invariant-or_operands-list l =
-    (with_front (map (λ o. (kw_or, conjunction_of o)) l.found.items) (many (is_operator 5) (sequence (one (pick_by (is_operator 5))) (conjunction_at l.depth)) (kinds l.rest)) ≡ many (is_operator 5) (sequence (one (pick_by (is_operator 5))) (conjunction_at l.depth)) (kinds l.fn.tokens))
+    (with_front (map (λ o. (kw_or, conj_view o)) l.found.items) (many (is_operator 5) (sequence (one (pick_by (is_operator 5))) (conjunction_at l.depth)) (kinds l.rest)) ≡ many (is_operator 5) (sequence (one (pick_by (is_operator 5))) (conjunction_at l.depth)) (kinds l.fn.tokens))
     × (past_each (past_behind past_conjunction) l.found.items l.fn.tokens ≡ Some l.rest)
 
 abbrev pub decreases-or_operands-list : goal.decreases-or_operands-list

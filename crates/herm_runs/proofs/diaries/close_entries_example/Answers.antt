@@ -2,7 +2,7 @@ use Rattle.std.proofs.Common.{refl}
 use Rattle.std.specs.Prelude.{codes}
 use Rattle.herm_model.specs.Values.{an_inport}
 use Rattle.herm_journal.specs.Actions.{to_close}
-use Rattle.herm_system.specs.DiaryStates.{IsBehind}
+use Rattle.herm_system.specs.PutAside.{IsBehind}
 use Rattle.herm_runs.specs.examples.Closes.{alone, integer, with_part}
 use Rattle.herm_runs.proofs.ClosesTold.{not-told, tells-nothing}
 use Rattle.herm_runs.proofs.diaries.close_entries_example.Goals as goal

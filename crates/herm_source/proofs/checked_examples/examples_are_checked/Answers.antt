@@ -1,6 +1,7 @@
 use Rattle.std.proofs.Common.{[], ◌∷◌, refl}
 use Rattle.herm_model.specs.Types.{fields, inport, outport}
-use Rattle.herm_source.specs.examples.Programs.{busy, ask_types, row_types, two_senders, kept_parameter}
+use Rattle.herm_source.specs.examples.CallPrograms.{busy, ask_types, kept_parameter}
+use Rattle.herm_source.specs.examples.Programs.{row_types, two_senders}
 use Rattle.herm_source.specs.examples.ComponentPrograms.{apart_types, taken_apart}
 use Rattle.herm_source.specs.examples.CheckedExamples.{nested_loops}
 use Rattle.herm_source.proofs.sound.CheckedPrograms.{checked-by}

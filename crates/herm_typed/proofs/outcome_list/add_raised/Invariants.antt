@@ -1,6 +1,6 @@
 use Rattle.std.proofs.Common.{◌≡◌, ◌++◌, map, take}
 use Rattle.herm_model.specs.Outcomes.{raised}
-use Rattle.herm_typed.specs.Outcomes.{outcome_view}
+use Rattle.herm_typed.specs.View.{outcome_view}
 use Rattle.herm_typed.proofs.outcome_list.add_raised.Given as goal
 
 abbrev pub invariant-numbers : goal.invariant-numbers

@@ -1,6 +1,6 @@
 use Rattle.std.proofs.Common.{◌≡◌, map, take}
 use Rattle.herm_model.specs.Outcomes.{component}
-use Rattle.herm_typed.specs.Outcomes.{outcome_view}
+use Rattle.herm_typed.specs.View.{outcome_view}
 use Rattle.herm_typed.proofs.outcome_list.components.Given as goal
 
 abbrev pub invariant-loop-c : goal.invariant-loop-c

@@ -2,7 +2,8 @@ use Rattle.std.proofs.Common.{◌≡◌, length, map, sym, ap, subst, ◌∙◌,
 use Rattle.herm_model.specs.Lists.{range}
 use Rattle.herm_model.specs.Outcomes.{component, arm}
 use Rattle.herm_typed.specs.declared.statements.TypedForm.{Select}
-use Rattle.herm_typed.specs.Outcomes.{outcome_view, HasFewArms, normal_of}
+use Rattle.herm_typed.specs.View.{outcome_view}
+use Rattle.herm_typed.specs.Outcomes.{HasFewArms, normal_of}
 use Rattle.herm_typed.proofs.SeenArms.{case_normal, select_normal, select_count}
 use Rattle.herm_typed.proofs.outcome_list.normal.Goals as goal
 

@@ -1,6 +1,6 @@
 use Rattle.std.proofs.Common.{ap, map, ◌∙◌}
 use Rattle.std.proofs.lemmas.List.{map-append}
-use Rattle.herm_typed.specs.Outcomes.{outcome_view}
+use Rattle.herm_typed.specs.View.{outcome_view}
 use Rattle.herm_typed.proofs.Numbered.{arms-next}
 use Rattle.herm_typed.proofs.outcome_list.select_arms.Goals as goal
 

@@ -1,7 +1,7 @@
 use Rattle.std.proofs.Common.{◌≡◌, map}
 use Rattle.herm_model.specs.Lists.{range}
 use Rattle.herm_model.specs.Outcomes.{arm}
-use Rattle.herm_typed.specs.Outcomes.{outcome_view}
+use Rattle.herm_typed.specs.View.{outcome_view}
 use Rattle.herm_typed.proofs.outcome_list.select_arms.Given as goal
 
 abbrev pub invariant-loop-i : goal.invariant-loop-i

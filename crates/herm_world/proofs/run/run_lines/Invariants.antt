@@ -1,7 +1,7 @@
 use Rattle.std.proofs.Common.{◌≡◌, ◌+◌, ◌++◌, ◌∷◌, map, drop, length}
 use Rattle.herm_world.specs.Lines.{sent_from, sent}
 use Rattle.herm_world.specs.StringTexts.{quoted}
-use Rattle.herm_world.specs.ReportView.{entries_of}
+use Rattle.herm_world.specs.View.{entries_view}
 use Rattle.herm_world.specs.StraightRuns.{taken_at, sent_all, sets}
 use Rattle.herm_world.proofs.run.run_lines.Given as goal
 
@@ -9,7 +9,7 @@ use Rattle.herm_world.proofs.run.run_lines.Given as goal
 abbrev pub invariant-loop-line : goal.invariant-loop-line
 invariant-loop-line l = record {
   console : l.run.console ++ map quoted (sent_from l.run.strings.items (drop l.line-index l.line-items)) ≡ map quoted (sent (length l.compiled.names.items) l.line-items);
-  entries : entries_of l.run.entries.items ++ sent_all (length l.run.entries.items + 1) (length l.run.console) (sent_from l.run.strings.items (drop l.line-index l.line-items))
+  entries : entries_view l.run.entries.items ++ sent_all (length l.run.entries.items + 1) (length l.run.console) (sent_from l.run.strings.items (drop l.line-index l.line-items))
       ≡ taken_at 1 l.arg ∷ sent_all 2 0 (sent (length l.compiled.names.items) l.line-items);
   count : length l.run.entries.items ≡ 1 + length l.run.console;
   made : l.run.made + sets (drop l.line-index l.line-items) ≡ 5 + sets l.line-items;

@@ -1,14 +1,14 @@
 use Rattle.std.proofs.Common.{◌∙◌, ap, sym, subst, not}
 use Rattle.herm_meaning.specs.Names.{NamedTable}
-use Rattle.herm_meaning.specs.Faults.{MeetsNoUnknown}
+use Rattle.herm_meaning.specs.DefinitionFaults.{MeetsNoUnknown}
 use Rattle.herm_types.specs.Table.{says}
 use Rattle.herm_graph.specs.Tells.{Tells}
 use Rattle.herm_graph.proofs.Telling.{not-told}
-use Rattle.herm_defs.specs.Known.{known_view}
+use Rattle.herm_defs.specs.View.{context_view}
 use Rattle.herm_defs.proofs.context.Context.meets_no_unknown.Goals as goal
 
 pub returns : goal.returns
 returns c =
     let e = c.says.ensures ∙ ap (λ tests. says tests c.args.t) c.as_slice.ensures.value in
     subst (λ (table : NamedTable). Tells (not c.says.result) (MeetsNoUnknown table c.args.t)) c.self.view_is
-    (subst (λ b. Tells (not b) (MeetsNoUnknown (known_view c.self.inside) c.args.t)) (sym e) (not-told (MeetsNoUnknown (known_view c.self.inside) c.args.t) (says c.self.inside.tests.meets_unknown.items c.args.t) (c.self.invariant.meets_unknown c.args.t)))
+    (subst (λ b. Tells (not b) (MeetsNoUnknown (context_view c.self.inside) c.args.t)) (sym e) (not-told (MeetsNoUnknown (context_view c.self.inside) c.args.t) (says c.self.inside.tests.meets_unknown.items c.args.t) (c.self.invariant.meets_unknown c.args.t)))

@@ -27,55 +27,55 @@ use Rattle.herm_world.specs.declared.report.ProcEnd.TheVariants.{Ended, Waiting,
 use Rattle.herm_world.specs.declared.report.Counts.{Counts}
 use Rattle.herm_world.specs.declared.report.Report.{Report}
 
-abbrev pub place_of : Place → source.Place
-place_of (Port p) = port p.number
-place_of (Reply p) = reply_cell p.number
-place_of Book = book
+abbrev pub place_view : Place → source.Place
+place_view (Port p) = port p.number
+place_view (Reply p) = reply_cell p.number
+place_view Book = book
 
-abbrev pub reply_of : ReplyTrace → actions.Reply Text
-reply_of (Values t) = values t
-reply_of (Raised e t) = raised e.0 t
-reply_of Gone = gone
+abbrev pub reply_trace_view : ReplyTrace → actions.Reply Text
+reply_trace_view (Values t) = values t
+reply_trace_view (Raised e t) = raised e.0 t
+reply_trace_view Gone = gone
 
-abbrev pub record_of : Action → Record
-record_of (MakePort made) = make_port (option_map (λ (p : PortNo). p.number) made)
-record_of (MakeProcess code made) = make_process code (option_map (λ (m : ProcNo × PortNo). (m.0.number, m.1.number)) made)
-record_of (Put number t) = put number t
-record_of (Take number t) = take number t
-record_of (Close count left) = close count left
-record_of (Answer call r) = answer call (reply_of r)
-record_of (Hear call r) = hear call (reply_of r)
+abbrev pub action_view : Action → Record
+action_view (MakePort made) = make_port (option_map (λ (p : PortNo). p.number) made)
+action_view (MakeProcess code made) = make_process code (option_map (λ (m : ProcNo × PortNo). (m.0.number, m.1.number)) made)
+action_view (Put number t) = put number t
+action_view (Take number t) = take number t
+action_view (Close count left) = close count left
+action_view (Answer call r) = answer call (reply_trace_view r)
+action_view (Hear call r) = hear call (reply_trace_view r)
 
-abbrev pub entry_of : Entry → source.Entry
-entry_of e = record { stamp = e.stamp.0; process = e.proc.number; place = place_of e.place; action = record_of e.action }
+abbrev pub entry_view : Entry → source.Entry
+entry_view e = record { stamp = e.stamp.0; process = e.proc.number; place = place_view e.place; action = action_view e.action }
 
 -- the entries of a journal
-abbrev pub entries_of : List Entry → List source.Entry
-entries_of entries = map entry_of entries
+abbrev pub entries_view : List Entry → List source.Entry
+entries_view entries = map entry_view entries
 
-abbrev pub end_of : End → Fate
-end_of Normal = ended_normally
-end_of (By e) = ended_by e.0
+abbrev pub end_view : End → Fate
+end_view Normal = ended_normally
+end_view (By e) = ended_by e.0
 
-abbrev pub limit_of : Spent → Fate
-limit_of (Steps n) = spent_steps n
-limit_of (Actions n) = spent_actions n
+abbrev pub spent_view : Spent → Fate
+spent_view (Steps n) = spent_steps n
+spent_view (Actions n) = spent_actions n
 
-abbrev pub fate_of : ProcEnd → Fate
-fate_of (Ended e) = end_of e
-fate_of (Waiting ports) = waits (map (λ (p : PortNo). p.number) ports.items)
-fate_of (Stopped s) = limit_of s
+abbrev pub proc_end_view : ProcEnd → Fate
+proc_end_view (Ended e) = end_view e
+proc_end_view (Waiting ports) = waits (map (λ (p : PortNo). p.number) ports.items)
+proc_end_view (Stopped s) = spent_view s
 
 -- what became of each process
-abbrev pub fates_of : List ProcEnd → List Fate
-fates_of ends = map fate_of ends
+abbrev pub proc_ends_view : List ProcEnd → List Fate
+proc_ends_view ends = map proc_end_view ends
 
 -- each port's number with the texts of its queue
 abbrev pub numbered_queues : List (PortNo × List Text) → List (ℕ × List Text)
 numbered_queues queued = map (λ (q : PortNo × List Text). (q.0.number, q.1)) queued
 
-abbrev pub numbers_of : Counts → summary.Counts
-numbers_of c = record {
+abbrev pub counts_view : Counts → summary.Counts
+counts_view c = record {
   processes = c.processes;
   ended = c.ended;
   waiting = c.waiting;
@@ -91,12 +91,12 @@ numbers_of c = record {
 }
 
 -- the report of a run that ends with this status and text
-abbrev pub report_as : Report → (status : ℕ) → (text : Text) → headline.Report
-report_as r status text = record {
-  journal = entries_of r.journal.entries.items;
-  ends = fates_of r.ends.items;
+abbrev pub report_view : Report → (status : ℕ) → (text : Text) → headline.Report
+report_view r status text = record {
+  journal = entries_view r.journal.entries.items;
+  ends = proc_ends_view r.ends.items;
   queued = numbered_queues r.queued.items;
-  counts = numbers_of r.counts;
+  counts = counts_view r.counts;
   status = status;
   text = text;
 }
