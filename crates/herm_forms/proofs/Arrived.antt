@@ -11,8 +11,8 @@ use Rattle.herm_model.specs.Types.{TypeTable, part_of, is_variant, is_within_dep
 use Rattle.herm_model.specs.Facts.{facts_from, facts_to, prefixes, IsClosed}
 use Rattle.herm_model.specs.Targets.{Target}
 use Rattle.herm_model.specs.Refusals.{label_at}
-use Rattle.herm_model.specs.Values.{Cell, cell, Parts, no_parts, gap, part, part_at, inside, opens, cell_at, has_value, read_at, set_part, set_at, change_part, change_inside, clear_at}
-use Rattle.herm_model.specs.FactsOfValues.{HasExactly, is_component, satisfies}
+use Rattle.herm_model.specs.Values.{Cell, cell, Parts, no_parts, gap, part, opens, cell_at, has_value, set_part, set_at, change_part, change_inside, clear_at}
+use Rattle.herm_model.specs.FactsOfValues.{HasExactly}
 use Rattle.herm_model.specs.Typed.{partly, a_value, exactly, Fits, HasType, HaveTypes}
 use Rattle.herm_model.specs.Finalising.{is_left, excess_at, excess, clear_all}
 use Rattle.herm_model.proofs.Lists.{and-both, in-append_right, in-map, in-map_from, in-flat_map, in-flat_map_from, in-every, every-in}

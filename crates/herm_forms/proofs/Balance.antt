@@ -10,10 +10,12 @@ use Rattle.herm_forms.specs.Frames.{Name, Frame, Completion, goes, stays, stuck,
 use Rattle.herm_journal.specs.Weights.{weigh_serials}
 use Rattle.herm_journal.specs.Kinds.{HasKinds, HaveKinds}
 use Rattle.herm_forms.specs.Weights.{weight_made}
-use Rattle.herm_forms.proofs.Loads.{load, load_in, load_all, load_option, load_kept}
+use Rattle.herm_model.proofs.Loads.{load, load_in, load_all, load_option}
+use Rattle.herm_forms.proofs.Loads.{load_kept}
 use Rattle.herm_model.proofs.Lists.{total-append}
 use Rattle.herm_model.proofs.Options.{none-not_some}
-use Rattle.herm_forms.proofs.Weights.{SparesPlain, Spares, weigh-set_at, weigh-clear_at, weigh-finalised, weigh-finalised_in, weigh-copy, weigh-copy_in, weigh_serials-add}
+use Rattle.herm_model.proofs.Loads.{SparesPlain, weigh-set_at, weigh-clear_at, weigh-finalised, weigh-finalised_in}
+use Rattle.herm_forms.proofs.Weights.{Spares, weigh-copy, weigh-copy_in, weigh_serials-add}
 
 module _ {N : Type 0} (w : N → ℕ) (extra : Kind → ℕ) (name : Name → N) where
   -- A body in balance with what was made and kept before: what it has made since is what it keeps more, with what it

@@ -1,6 +1,6 @@
 -- What the kinds weigh of the inports and callmessages that an answer makes, and of those that it ends.
 use Rattle.std.proofs.Common.{◌≡◌, ℕ, Option, Some, None, refl}
-use Rattle.herm_forms.proofs.Loads.{none}
+use Rattle.herm_model.proofs.Loads.{weightless}
 use Rattle.herm_model.specs.Paths.{Path}
 use Rattle.herm_model.specs.Statements.{Form, New, Call, Return, ReturnBy, Create}
 use Rattle.herm_model.specs.Values.{Name, Kind, an_inport, kind_of, Cell, cell_at}
@@ -54,7 +54,7 @@ module _ {N : Type 0} (extra : Kind → ℕ) where
 
 -- where kinds weigh nothing
 module _ {N : Type 0} (w : N → ℕ) where
-  none-ported : (action : CellAction N) → port_load (none w) action ≡ 0
+  none-ported : (action : CellAction N) → port_load weightless action ≡ 0
   none-ported (make_port (Some n)) = refl
   none-ported (make_port None) = refl
   none-ported (make_process code (Some made)) = refl
@@ -65,7 +65,7 @@ module _ {N : Type 0} (w : N → ℕ) where
   none-ported (answer call r) = refl
   none-ported (hear call r) = refl
 
-  none-back : (action : CellAction N) → back_load (none w) action ≡ 0
+  none-back : (action : CellAction N) → back_load weightless action ≡ 0
   none-back (put None m) = refl
   none-back (put (Some n) m) = refl
   none-back (make_port made) = refl
@@ -75,25 +75,25 @@ module _ {N : Type 0} (w : N → ℕ) where
   none-back (answer call r) = refl
   none-back (hear call r) = refl
 
-  none-called : (o : Option (Composed N)) → call_load (none w) o ≡ 0
+  none-called : (o : Option (Composed N)) → call_load weightless o ≡ 0
   none-called None = refl
   none-called (Some x) = refl
 
-  none-there : (o : Option (Cell N)) → kind_load (none w) o ≡ 0
+  none-there : (o : Option (Cell N)) → kind_load weightless o ≡ 0
   none-there None = refl
   none-there (Some c) = refl
 
-  none-given : (source : Path) (o : Option (Taken N)) → source_load (none w) source o ≡ 0
+  none-given : (source : Path) (o : Option (Taken N)) → source_load weightless source o ≡ 0
   none-given source None = refl
   none-given source (Some t) = none-there (cell_at source t.frame.variables)
 
-  pub none-begun : (name : Name → N) (c : Module) (form : Form) (b : Frame N) (action : CellAction N) → begun (none w) name c form b action ≡ 0
+  pub none-begun : (name : Name → N) (c : Module) (form : Form) (b : Frame N) (action : CellAction N) → begun weightless name c form b action ≡ 0
   none-begun name c (New x) b action = none-ported action
   none-begun name c (Create o process) b action = none-ported action
   none-begun name c (Call o arguments) b action = none-called (composed name c o arguments b)
   none-begun name c form b action = refl
 
-  pub none-over : (c : Module) (form : Form) (b : Frame N) (action : CellAction N) → over (none w) c form b action ≡ 0
+  pub none-over : (c : Module) (form : Form) (b : Frame N) (action : CellAction N) → over weightless c form b action ≡ 0
   none-over c (Call o arguments) b action = none-back action
   none-over c (Return x) b action = none-given x (given_back c (given_at c x) b)
   none-over c (ReturnBy x ex) b action = none-given x (given_back c (given_by c x ex) b)

@@ -4,7 +4,7 @@ use Rattle.std.proofs.Common.{◌≡◌, ℕ, suc, ◌+◌, List, [], ◌∷◌,
 use Rattle.std.specs.Prelude.{nat_eq, option_map, option_and_then, ⊤}
 use Rattle.herm_model.specs.Paths.{Path}
 use Rattle.herm_model.specs.Types.{Mode, by_in, by_inout, by_out}
-use Rattle.herm_model.specs.Outcomes.{Outcome, ok, arm, depletion, disconnected}
+use Rattle.herm_model.specs.Outcomes.{ok, arm, disconnected}
 use Rattle.herm_model.specs.Outcomes
 use Rattle.herm_model.specs.Values.{Kind, a_callmessage, an_inport, an_outport, kind_of, Cell, cell, Parts, no_parts, gap, part, cell_at}
 use Rattle.herm_model.specs.CellNames.{count_in, copy_in}
@@ -14,12 +14,14 @@ use Rattle.herm_forms.specs.Frames.{Name, Frame, goes, stuck, finalise_all, fina
 use Rattle.herm_forms.specs.Exchanges
 use Rattle.herm_forms.specs.Callmessages as callmessages
 use Rattle.herm_journal.specs.Messages.{CellReply, CellAction}
-use Rattle.herm_forms.specs.Exchanges.{process_inport, place_of_port, ports_at, receive_at, outport_at}
-use Rattle.herm_forms.specs.Callmessages.{assemble, Composed, with_message, compose, hear_reply, hear_call, give_back, caller_of}
+use Rattle.herm_forms.specs.Exchanges.{place_of_port, ports_at, receive_at}
+use Rattle.herm_forms.specs.Callmessages.{assemble, Composed, with_message, compose, hear_reply, hear_call}
 use Rattle.herm_journal.specs.Kinds.{HaveKinds}
-use Rattle.herm_forms.proofs.Loads.{load, load_in, load_all, load_reply, load_coming, load_going}
+use Rattle.herm_model.proofs.Loads.{load, load_in, load_all}
+use Rattle.herm_forms.proofs.Loads.{load_reply, load_coming, load_going}
 use Rattle.herm_forms.proofs.Begun.{port_load, kind_load, back_load}
-use Rattle.herm_forms.proofs.Weights.{SparesPlain, Spares}
+use Rattle.herm_model.proofs.Loads.{SparesPlain}
+use Rattle.herm_forms.proofs.Weights.{Spares}
 use Rattle.herm_forms.proofs.Balance.{Balanced, AllBalanced, balanced-finalise_all, balanced-end_cell, balanced-drop, balanced-if_there, balanced-cond, balanced-putting, balanced-putting_all, balanced-taking, balanced-made, balanced-making, balanced-copied_parts, balanced-take_all}
 
 module _ {N : Type 0} (w : N → ℕ) (extra : Kind → ℕ) (name : Name → N) (spares : SparesPlain extra) (m k : ℕ) where

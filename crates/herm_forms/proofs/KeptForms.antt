@@ -25,10 +25,12 @@ use Rattle.herm_forms.specs.Excess.{excess_over_full, excess_over_declared}
 use Rattle.herm_forms.specs.Modules.{Module}
 use Rattle.herm_forms.specs.Acts.{key_at, act, arguments_at, is_inout, is_out, inputs_of, composed, kept_at, left_at, given_back, given_at, given_by, wants, settle, settle_reply}
 use Rattle.herm_forms.specs.Weights.{weight_accounted, weight_made}
-use Rattle.herm_forms.proofs.Loads.{load, load_in, load_all, load_reply, load_loops, load_coming, load_going, none, names-kept}
+use Rattle.herm_model.proofs.Loads.{load, load_in, load_all, weightless}
+use Rattle.herm_forms.proofs.Loads.{load_reply, load_loops, load_coming, load_going, names-kept}
 use Rattle.herm_forms.proofs.Begun.{call_load, back_load, source_load, begun, over}
 use Rattle.herm_forms.proofs.Copies.{CopiesKinds}
-use Rattle.herm_forms.proofs.Weights.{SparesPlain, Spares}
+use Rattle.herm_model.proofs.Loads.{SparesPlain}
+use Rattle.herm_forms.proofs.Weights.{Spares}
 use Rattle.herm_forms.specs.laws.LedgerLaws.{EdgesKeep}
 use Rattle.herm_forms.proofs.Balance.{Balanced, AllBalanced, balanced-finalise_parts, balanced-drop, balanced-if_there, balanced-take_all}
 use Rattle.herm_forms.proofs.KeptLocal.{balanced-with_value, kept-assign, kept-move, kept-new_value, kept-discard, kept-unite, kept-dissolve, kept-reveal, kept-choose, kept-wrap, kept-unwrap, kept-insert, kept-remove, kept-get, kept-visit, kept-connect, kept-tested}
@@ -184,4 +186,4 @@ module _ {N : Type 0} (w : N → ℕ) (extra : Kind → ℕ) (name : Name → N)
   settle-reply c _ call action b e = tt
 
 pub edges-keep : EdgesKeep
-edges-keep w name c t b = let e = balanced-arrive w (none w) name (λ k is. refl) (weight_made w name b) (weight_accounted w b) 0 c t b (omega (arith, names-kept w b)) in omega (arith, names-kept w (arrive c t b))
+edges-keep w name c t b = let e = balanced-arrive w weightless name (λ k is. refl) (weight_made w name b) (weight_accounted w b) 0 c t b (omega (arith, names-kept w b)) in omega (arith, names-kept w (arrive c t b))

@@ -4,7 +4,7 @@ use borrow.Author.Tests.{eq-eqb}
 use Rattle.std.specs.Prelude.{nat_eq, nat_lt, length}
 use Rattle.herm_model.specs.Paths.{Path}
 use Rattle.herm_model.specs.Types.{Shape, fields, rows}
-use Rattle.herm_model.specs.Outcomes.{Outcome, ok, turn, raised, depletion, polymorph_mismatch, duplicate_key, not_found, case_error}
+use Rattle.herm_model.specs.Outcomes.{ok, turn, raised, depletion, polymorph_mismatch, duplicate_key, not_found, case_error}
 use Rattle.herm_model.specs.Values.{Scalar, a_boolean, Kind, a_scalar, a_record, a_variant, a_table, a_polymorph, an_outport, Cell, cell, Parts, no_parts, gap, gaps, part, part_at, size, parts_of, cell_at, read_at, polymorph_depth, Value}
 use Rattle.herm_model.specs.FactsOfValues.{is_component}
 use Rattle.herm_model.specs.Tables.{has_key, key_of, place_of_key, without_part}
@@ -16,8 +16,9 @@ use Rattle.herm_forms.specs.Forms
 use Rattle.herm_forms.specs.Forms.{Opened, component_in, content_of, moving, moving_content, component_of, change_rows, with_parts, add_row, finding, rows_for, set_rows, next_row, inport_number, tested, with_value}
 use Rattle.herm_forms.specs.Acts.{new_value}
 use Rattle.herm_journal.specs.Kinds.{HasKinds, HaveKinds}
-use Rattle.herm_forms.proofs.Loads.{load, load_in}
-use Rattle.herm_forms.proofs.Weights.{SparesPlain, Spares, weigh-change_at, weigh-joined, weigh-without_part, weigh-gaps, weigh-set_rows}
+use Rattle.herm_model.proofs.Loads.{load, load_in}
+use Rattle.herm_model.proofs.Loads.{SparesPlain}
+use Rattle.herm_forms.proofs.Weights.{Spares, weigh-change_at, weigh-joined, weigh-without_part, weigh-gaps, weigh-set_rows}
 use Rattle.herm_forms.proofs.known.HeldKinds.{IfKinds, part-kinds}
 use Rattle.herm_forms.proofs.Balance.{Balanced, AllBalanced, balanced-finalise, balanced-end_name, balanced-cleared, balanced-drop, balanced-if_there, balanced-cond, balanced-putting, balanced-taking, balanced-making, balanced-copying, balanced-copying_parts}
 

@@ -1,22 +1,21 @@
 -- Paths of typed processes are bounded.
-use Rattle.std.proofs.Common.{◌≡◌, ℕ, zero, suc, ◌<◌, ◌≤◌, List, [], ◌∷◌, ◌++◌, map, flat_map, length, length-append, false, Option, Some, None, is_some, slice_get, IsTrue, refl, subst, arith}
+use Rattle.std.proofs.Common.{◌≡◌, ℕ, zero, suc, ◌<◌, ◌≤◌, List, [], ◌∷◌, ◌++◌, map, flat_map, length, length-append, false, Option, Some, None, is_some, slice_get, IsTrue, refl, subst, arith, ◌∙◌}
 use Rattle.herm_model.specs.Lists.{IsIn, all_pass, map_or, numbered}
 use Rattle.herm_model.specs.Paths.{Path}
 use Rattle.herm_model.specs.Types.{Mode, by_in, by_inout, by_out, Parameter, Shape, fields, cases, callmessage, TypeTable, named_types, part_type, part_of, type_below, type_at, is_within_depth, greatest_depth, filled, if_filled, full_parts, held_parts, all_parts, part_paths_within, part_paths, variable_paths}
 use Rattle.herm_model.specs.WellFormedTables.{IsType, IsWellFormedTable}
 use Rattle.herm_model.specs.laws.TypedFactLaws.{TypedPathsAreBounded}
-use Rattle.herm_model.proofs.Lists.{not_true, in-map, every-in, length-map}
-use Rattle.herm_model.proofs.Options.{none-not_some, map-some}
+use Rattle.herm_model.proofs.Lists.{not_true, every-in, length-map, slice_get-map}
+use Rattle.herm_model.proofs.Options.{none-not_some}
 use Rattle.herm_model.proofs.FactTests.{got-IsIn}
-use Rattle.herm_model.proofs.TypedPaths.{some-of, is-some, typed-before}
+use Rattle.herm_model.proofs.TypedPaths.{some-of, is-some}
+use Rattle.herm_model.proofs.TypesBelow.{known-above}
 
 -- the type of a part is one that the shape names
-part-named : (s : Shape) (i u : ℕ) → part_type s i ≡ Some u → IsIn u (named_types s)
+pub part-named : (s : Shape) (i u : ℕ) → part_type s i ≡ Some u → IsIn u (named_types s)
 part-named (fields ts) i u e = got-IsIn ts i u e
 part-named (cases ts) i u e = got-IsIn ts i u e
-part-named (callmessage ps raises) i u e =
-    let r = map-some (λ (p : Parameter). p.content) (slice_get ps i) u e in
-    subst (λ w. IsIn w (map (λ (p : Parameter). p.content) ps)) r.2 (in-map (λ (p : Parameter). p.content) r.0 ps (got-IsIn ps i r.0 r.1))
+part-named (callmessage ps raises) i u e = got-IsIn (map (λ (p : Parameter). p.content) ps) i u (slice_get-map (λ (p : Parameter). p.content) ps i ∙ e)
 part-named s i u e = none-not_some e
 
 module _ (exceptions : ℕ) (table : TypeTable) (well : IsWellFormedTable exceptions table) where
@@ -48,7 +47,7 @@ short-below : (table : TypeTable) (n t : ℕ) (q : List ℕ) → IsTrue (is_with
 short-below table zero t q w h = not_true w
 short-below table (suc n) t [] w h = omega arith
 short-below table (suc n) t (i ∷ q) w h =
-    let r = some-of (part_of table (Some t) i) (typed-before table (part_of table (Some t) i) q h) in
+    let r = some-of (part_of table (Some t) i) (known-above table (part_of table (Some t) i) q h) in
     omega (arith, short-below table n r.0 q (within-part table n t i r.0 w r.1) (subst (λ o. IsTrue (is_some (type_below table o q))) r.1 h))
 
 -- fewer of each are fewer together
@@ -110,5 +109,5 @@ paths-bounded exceptions table processes p well typed = record {
     short : (q : Path) (t : ℕ) → type_at table p.variables q ≡ Some t → length q ≤ greatest_depth
     short [] t e = none-not_some e
     short (v ∷ q) t e =
-        let r = some-of (slice_get p.variables v) (typed-before table (slice_get p.variables v) q (is-some _ e)) in
+        let r = some-of (slice_get p.variables v) (known-above table (slice_get p.variables v) q (is-some _ e)) in
         omega (arith, short-below table greatest_depth r.0 q (well.shallow r.0 (typed.variables_known r.0 (got-IsIn p.variables v r.0 r.1))) (subst (λ o. IsTrue (is_some (type_below table o q))) r.1 (is-some _ e)))

@@ -33,18 +33,18 @@ above-elsewhere (j ∷ p) (i ∷ q) h = by (nat_eq j i) refl h (above-elsewhere 
     by false e k again = inl (λ s. true≢false (sym (eq-eqb j i s) ∙ e))
 
 module _ {N : Type 0} where
-  behind_other : (m j i : ℕ) (g : Cell N → Cell N) (ps : Parts N) → j ≢ i → part_at i (behind_gaps m (change_behind m j g ps)) ≡ part_at i (behind_gaps m ps)
+  pub behind_other : (m j i : ℕ) (g : Cell N → Cell N) (ps : Parts N) → j ≢ i → part_at i (behind_gaps m (change_behind m j g ps)) ≡ part_at i (behind_gaps m ps)
   behind_other zero j i g ps d = part_at-change_other j i g ps d
   behind_other (suc m) zero i g ps d = refl
   behind_other (suc m) (suc j) zero g ps d = refl
   behind_other (suc m) (suc j) (suc i) g ps d = behind_other m j i g ps (λ e. d (ap suc e))
 
   -- a cell changed at the end of these steps into it
-  abbrev changed : Path → (Cell N → Cell N) → Cell N → Cell N
+  abbrev pub changed : Path → (Cell N → Cell N) → Cell N → Cell N
   changed [] g c = g c
   changed (k ∷ r) g c = change_readable (change_from (k ∷ r) g) c
 
-  from-behind : (j : ℕ) (p : Path) (g : Cell N → Cell N) (m : ℕ) (ps : Parts N) → change_from (j ∷ p) g m ps ≡ change_behind m j (changed p g) ps
+  pub from-behind : (j : ℕ) (p : Path) (g : Cell N → Cell N) (m : ℕ) (ps : Parts N) → change_from (j ∷ p) g m ps ≡ change_behind m j (changed p g) ps
   from-behind j [] g m ps = refl
   from-behind j (k ∷ r) g m ps = refl
 

@@ -16,7 +16,7 @@ use Rattle.herm_model.specs.tests.TypingTests.{number_of_shape, given_if, is_num
 use Rattle.herm_model.proofs.Lists.{not_true, every-in}
 use Rattle.herm_model.proofs.Options.{some-injective, none-not_some}
 use Rattle.herm_model.proofs.FactTests.{got-IsIn}
-use Rattle.herm_model.proofs.Deciding.{Decides, through, both-decide, true-decides, false-decides, numbers-decide, below-decides, paths-decide, there-decides, all-decide, chosen-decides, member-decides, different-decides, range-decides}
+use Rattle.herm_model.proofs.Deciding.{Decides, through, both-decide, true-decides, false-decides, numbers-decide, below-decides, paths-decide, there-decides, all-decide, chosen-decides, member-decides, different-decides, range-decides, itself}
 use Rattle.herm_model.proofs.DecidedTables.{AreShallow, copyable-decides, fields-decide, cases-decide, outport-decides, rows-decide, inport-decides, callmessage-decides}
 
 -- the number of a shape that no definition gives
@@ -302,9 +302,6 @@ module _ (table : TypeTable) (regular : IsRegular table) where
         (both-decide (are_different nat_eq cs) _ (different-decides nat_eq numbers-decide cs)
         (both-decide (all_pass (λ c. nat_lt c n) cs) _ (all-decide (λ c. nat_lt c n) (λ c. c < n) (λ c. below-decides c n) cs)
         (range-decides (λ c. any_pass (nat_eq c) cs) (λ c. IsIn c cs) (λ c. member-decides nat_eq numbers-decide c cs) n)))
-
-    itself : (b : Bool) → Decides b (IsTrue b)
-    itself b = ((λ h. h), λ h. h)
 
     module _ (exceptions : ℕ) (processes : List Process) where
       pub form-decides : (form : Form) → Decides (is_typed_form table variables exceptions processes form) (IsTypedForm table variables exceptions processes form)

@@ -7,7 +7,7 @@ use Rattle.herm_model.specs.Statements.{Form, Case, Statement, simple, choosing,
 use Rattle.herm_model.specs.Nodes.{Node, process_nodes, entry_of, Exit, exits}
 use Rattle.herm_model.specs.Targets.{Target, node, end, end_by}
 use Rattle.herm_model.specs.ControlPaths.{Edge, edge, Point, point, flow_of, IsReached}
-use Rattle.herm_model.specs.laws.FlowLaws.{EdgesDiffer, IsLedTo, begins, goes_on}
+use Rattle.herm_model.specs.laws.FlowLaws.{IsLedTo, begins, goes_on}
 use Rattle.herm_model.specs.laws.FlowLaws
 use Rattle.herm_model.specs.TypedExpressions.{HasShape}
 use Rattle.herm_model.specs.WellFormedTables.{IsType}
@@ -24,7 +24,7 @@ use Rattle.herm_model.proofs.Options.{map-some}
 use Rattle.herm_model.proofs.FactTests.{at-numbered}
 use Rattle.herm_model.proofs.Reached.{reached-led}
 use Rattle.herm_model.proofs.DifferentOutcomes.{process-EdgesDiffer}
-use Rattle.herm_model.proofs.Deciding.{not-decides, below-in, Decides, through, both-decide, true-decides, false-decides, numbers-decide, below-decides, at_most-decides, all-decide, chosen-decides, member-decides, different-decides, range-decides}
+use Rattle.herm_model.proofs.Deciding.{not-decides, below-in, Decides, through, both-decide, true-decides, false-decides, numbers-decide, below-decides, at_most-decides, all-decide, chosen-decides, member-decides, different-decides, range-decides, itself}
 use Rattle.herm_model.proofs.DecidedTables.{inport-decides, none-broken, all-kept, none-well_formed}
 use Rattle.herm_model.proofs.DecidedForms.{IsRegular, well_formed-regular, number-is, form-decides}
 
@@ -60,9 +60,6 @@ mutual
   handlers-decide : (hs : Handlers) → Decides (are_well_formed_handlers hs) (AreWellFormedHandlers hs)
   handlers-decide no_handlers = true-decides tt
   handlers-decide (handler e b rest) = both-decide (is_well_formed_block b) _ (block-decides b) (handlers-decide rest)
-
-itself : (b : Bool) → Decides b (IsTrue b)
-itself b = ((λ h. h), λ h. h)
 
 arms-decide : (l : Bool) (s : Statement) → Decides (has_arms l s) (HasArms s)
 arms-decide l (choosing form bs) = itself (is_some_block bs)
@@ -111,9 +108,6 @@ numbered-got k i x (y ∷ ys) (inr h) = let r = numbered-got (suc k) i x ys h in
 
 got-numbered : {X : Type 0} (i : ℕ) (x : X) (xs : List X) → IsIn (i, x) (numbered 0 xs) → slice_get xs i ≡ Some x
 got-numbered i x xs h = let r = numbered-got 0 i x xs h in let e : i ≡ r.0 = omega (arith, r.1) in subst (λ j. slice_get xs j ≡ Some x) (sym e) r.2
-
-numbered-in-list : {X : Type 0} (i k : ℕ) (x : X) (xs : List X) → IsIn (i, x) (numbered k xs) → IsIn x xs
-numbered-in-list i k x xs h = numbered-in i k x xs h
 
 and-false : (a b : Bool) → IsFalse (a && b) → IsTrue a → IsFalse b
 and-false true b f h = f
@@ -247,7 +241,7 @@ module _ (table : TypeTable) (p : Process) where
   behind-there : (n : ℕ × Node) (j : ℕ) → IsIn n places → IsIn j (places_behind table p n.1) → j < length (process_nodes p)
   behind-there n j i h =
       let r = in-map_from (λ (e : Exit). e.target) (node j) (exits table p.variables n.1) (place-target j _ h) in
-      let there = edges-there table p (point table p.variables n.1) (edge table p.variables (n.1).form r.0) (in-map (point table p.variables) n.1 (process_nodes p) (numbered-in-list n.0 0 n.1 (process_nodes p) i)) (in-map (edge table p.variables (n.1).form) r.0 (exits table p.variables n.1) r.1) in
+      let there = edges-there table p (point table p.variables n.1) (edge table p.variables (n.1).form r.0) (in-map (point table p.variables) n.1 (process_nodes p) (numbered-in n.0 0 n.1 (process_nodes p) i)) (in-map (edge table p.variables (n.1).form) r.0 (exits table p.variables n.1) r.1) in
       subst (λ k. j < k) (length-map (point table p.variables) (process_nodes p)) (subst (FlowLaws.IsThere (length (flow_of table p).points)) (sym r.2) there)
 
   abbrev unmarked : List ℕ → ℕ → Bool

@@ -13,6 +13,9 @@ use Rattle.herm_model.proofs.Equality.{same_numbers-is, same_numbers_self, same_
 abbrev pub Decides : Bool → Type 0 → Type 0
 Decides b P = IsTrue b ↔ P
 
+pub itself : (b : Bool) → Decides b (IsTrue b)
+itself b = ((λ h. h), λ h. h)
+
 module _ {P Q : Type 0} where
   pub through : (b : Bool) → (P → Q) → (Q → P) → Decides b P → Decides b Q
   through b f g d = (λ h. f (d.0 h), λ q. d.1 (g q))

@@ -56,7 +56,7 @@ rising-Rise [] = tt
 rising-Rise (n ∷ ns) = with_number-Rise n (rising ns) (rising-Rise ns)
 
 -- what rises differs
-Rise-Differ : (ns : List ℕ) → Rise ns → Differ ns
+pub Rise-Differ : (ns : List ℕ) → Rise ns → Differ ns
 Rise-Differ [] h = tt
 Rise-Differ (n ∷ ns) h = ((λ member. let lt = h.0 n member in absurd (let k : ⊥ = omega (arith, lt) in k)), Rise-Differ ns h.1)
 

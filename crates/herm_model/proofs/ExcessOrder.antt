@@ -13,7 +13,8 @@ use Rattle.herm_model.proofs.Lists.{not_true, or-either, or-left, or-right, and-
 use Rattle.herm_model.proofs.FactTests.{at-numbered, got-IsIn}
 use Rattle.herm_model.proofs.Steps.{within-known}
 use Rattle.herm_model.proofs.Excess.{excess-top, top-excess}
-use Rattle.herm_model.proofs.TypedPaths.{typed-before}
+use Rattle.herm_model.proofs.TypesBelow.{known-above}
+use Rattle.herm_model.proofs.Keys.{same-tests}
 
 -- the order of paths
 before-irreflexive : (p : Path) → IsTrue (comes_before p p) → ⊥
@@ -160,7 +161,7 @@ module _ (table : TypeTable) where
       Again = (u : ℕ) → IsTrue (is_within_depth n table u) → IsTrue (is_some (type_below table (Some u) q)) → IsFalse (enters_component table (Some u) q) → IsPartPath held_parts table u q
 
       part : (ts : List ℕ) (o : Option ℕ) → slice_get ts i ≡ o → IsTrue (all_pass (is_within_depth n table) ts) → IsTrue (is_some (type_below table o q)) → IsFalse (enters_component table o q) → Again → (u : ℕ) × IsIn (i, u) (numbered 0 ts) × IsPartPath held_parts table u q
-      part ts None e w h f again = not_true (typed-before table None q h)
+      part ts None e w h f again = not_true (known-above table None q h)
       part ts (Some u) e w h f again = (u, at-numbered ts i u e, again u (every-in (is_within_depth n table) u ts w (got-IsIn ts i u e)) h f)
 
       by : (o : Option Shape) → IsTrue (map_or false (λ s. all_pass (is_within_depth n table) (named_types s)) o) → IsTrue (is_some (type_below table (part_at_shape o i) q)) → IsFalse (map_or false (λ s. is_cases s) o || enters_component table (part_at_shape o i) q) → Again → (u : ℕ) × IsIn (i, u) (list_of held_parts o) × IsPartPath held_parts table u q
@@ -170,7 +171,7 @@ module _ (table : TypeTable) where
       by (Some (callmessage ps rs)) w h f again =
           let same : slice_get (map (λ (p : Parameter). p.content) ps) i ≡ option_map (λ (p : Parameter). p.content) (slice_get ps i) = slice_get-map (λ (p : Parameter). p.content) ps i in
           part (map (λ (p : Parameter). p.content) ps) (option_map (λ (p : Parameter). p.content) (slice_get ps i)) same w h f again
-      by (Some s) w h f again = not_true (typed-before table None q h)
+      by (Some s) w h f again = not_true (known-above table None q h)
 
 module _ (table : TypeTable) (variables : List ℕ) (here low : Fact → Bool) (deep : (t : ℕ) → IsIn t variables → IsTrue (is_within_depth greatest_depth table t)) (facts : (p : Path) → IsTrue (here (init p)) → IsFactOf table variables (init p)) where
   abbrev the_excess : List Path
@@ -207,7 +208,7 @@ module _ (table : TypeTable) (variables : List ℕ) (here low : Fact → Bool) (
   top-listed (v ∷ q) h = by (slice_get variables v) refl (facts (v ∷ q) (and-both (here (init (v ∷ q))) _ h.0).0)
     where
       by : (o : Option ℕ) → slice_get variables v ≡ o → IsTrue (is_some (type_below table o q)) × IsFalse (enters_component table o q) → IsIn (v ∷ q) the_excess
-      by None e f = not_true (typed-before table None q f.0)
+      by None e f = not_true (known-above table None q f.0)
       by (Some t) e f =
           let w = deep t (got-IsIn variables v t e) in
           in-flat_map at_variable (v, t) (v ∷ q) (numbered 0 variables) (at-numbered variables v t e)
@@ -227,10 +228,5 @@ module _ (table : TypeTable) (variables : List ℕ) (here low : Fact → Bool) (
 pub facts-excess : FactsHaveTheirExcess
 facts-excess table variables here low deep facts xs = is-excess table variables here low deep facts xs
 
-same-tests : (a b : Bool) → IsTrue a ↔ IsTrue b → a ≡ b
-same-tests true b h = sym (h.0 refl)
-same-tests false true h = not_true (h.1 refl)
-same-tests false false h = refl
-
 pub values-excess : ValuesHaveTheirExcess
-values-excess table variables has ps kept exact = ap (λ (here : Path → Bool). excess table variables here kept) (fun_ext (λ p. same-tests (has_value ps p) (has (init p)) (exact.values p)))
+values-excess table variables has ps kept exact = ap (λ (here : Path → Bool). excess table variables here kept) (fun_ext (λ p. same-tests (has_value ps p) (has (init p)) (exact.values p).0 (exact.values p).1))

@@ -107,6 +107,13 @@ module _ (exceptions : ℕ) (table : TypeTable) (well : IsWellFormedTable except
     components-in : (ps : List Path) (fs : List Fact) → AllTyped ps → ((f : Fact) → IsIn f fs → IsFactOf table variables f) → InRange (record { paths = ps; literals = []; components = fs; types = []; exceptions = []; processes = [] })
     components-in ps fs h k = record { paths = h; literals = λ l i. absurd i; components = k; types = λ t i. absurd i; exceptions_named = λ e i. absurd i; processes_named = λ m i. absurd i }
 
+    exception-in : (ps : List Path) (e : ℕ) → AllTyped ps → e < exceptions → InRange (record { paths = ps; literals = []; components = []; types = []; exceptions = e ∷ []; processes = [] })
+    exception-in ps e h k = record { paths = h; literals = λ l i. absurd i; components = λ f i. absurd i; types = λ t i. absurd i; exceptions_named = one; processes_named = λ m i. absurd i }
+      where
+        one : (f : ℕ) → IsIn f (e ∷ []) → f < exceptions
+        one f (inl same) = subst (λ x. x < exceptions) (sym same) k
+        one f (inr i) = absurd i
+
     one-component : (v : Path) (t c u : ℕ) → IsLookedAt table variables v t → IsComponent table t c u → (f : Fact) → IsIn f (case v c ∷ []) → IsFactOf table variables f
     one-component v t c u l h f (inl e) = subst (IsFactOf table variables) (sym e) (known-case exceptions table well variables v t c u l h)
     one-component v t c u l h f (inr i) = absurd i
@@ -159,18 +166,9 @@ module _ (exceptions : ℕ) (table : TypeTable) (well : IsWellFormedTable except
     form-in (Select arms) h = paths-in (arm_paths arms) (arms-typed arms h.1)
     form-in (Call o arguments) h = literals-in (o ∷ paths_among arguments) (literals_among arguments) (and-typed o (paths_among arguments) ((h.3).0, ((h.3).3).0) (argument-paths h.1 arguments h.5)) (argument-literals h.1 arguments h.5)
     form-in (Return m) h = paths-in (m ∷ []) (one-typed m ((h.1).0, (((h.1).2).0).0))
-    form-in (ReturnBy m e) h = record {
-      paths = one-typed m ((h.1).0, (((h.1).2).0).0);
-      literals = λ l i. absurd i;
-      components = λ f i. absurd i;
-      types = λ t i. absurd i;
-      exceptions_named = one;
-      processes_named = λ n i. absurd i;
-    }
-      where
-        one : (f : ℕ) → IsIn f (e ∷ []) → f < exceptions
-        one f (inl k) = let r = in-map_from (λ (q : Raised). q.exception) e h.0 h.2 in subst (λ x. x < exceptions) (sym (k ∙ r.2)) (well.exceptions_known (h.1).0 (callmessage (h.1).1 h.0) (h.1).3 r.0 r.1)
-        one f (inr i) = absurd i
+    form-in (ReturnBy m e) h =
+        let r = in-map_from (λ (q : Raised). q.exception) e h.0 h.2 in
+        exception-in (m ∷ []) e (one-typed m ((h.1).0, (((h.1).2).0).0)) (subst (λ x. x < exceptions) (sym r.2) (well.exceptions_known (h.1).0 (callmessage (h.1).1 h.0) (h.1).3 r.0 r.1))
     form-in (Create o n) h = record {
       paths = one-typed o (h.0, ((h.2).0).0);
       literals = λ l i. absurd i;
@@ -185,18 +183,7 @@ module _ (exceptions : ℕ) (table : TypeTable) (well : IsWellFormedTable except
         one m (inr i) = absurd i
     form-in (If e) h = literals-in (paths_read e) (literals_in e) (read-typed exceptions table well variables e h.0 h.2) (literals-typed e h.0 h.2)
     form-in (While e) h = literals-in (paths_read e) (literals_in e) (read-typed exceptions table well variables e h.0 h.2) (literals-typed e h.0 h.2)
-    form-in (Raise e) h = record {
-      paths = none-typed;
-      literals = λ l i. absurd i;
-      components = λ f i. absurd i;
-      types = λ t i. absurd i;
-      exceptions_named = one;
-      processes_named = λ m i. absurd i;
-    }
-      where
-        one : (f : ℕ) → IsIn f (e ∷ []) → f < exceptions
-        one f (inl k) = subst (λ x. x < exceptions) (sym k) h
-        one f (inr i) = absurd i
+    form-in (Raise e) h = exception-in [] e none-typed h
     form-in Leave h = paths-in [] none-typed
 
 pub forms-in : TypedFormsAreInRange

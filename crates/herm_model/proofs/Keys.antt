@@ -8,9 +8,8 @@ use Rattle.herm_model.proofs.Equality.{same_key-is, same_key_self}
 use Rattle.herm_model.proofs.Options.{some-injective, is_some-map}
 
 -- two tests that imply each other are equal
-same-tests : (a b : Bool) → (IsTrue a → IsTrue b) → (IsTrue b → IsTrue a) → a ≡ b
-same-tests true true f g = refl
-same-tests true false f g = sym (f refl)
+pub same-tests : (a b : Bool) → (IsTrue a → IsTrue b) → (IsTrue b → IsTrue a) → a ≡ b
+same-tests true b f g = sym (f refl)
 same-tests false true f g = g refl
 same-tests false false f g = refl
 

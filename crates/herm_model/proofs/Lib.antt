@@ -23,6 +23,8 @@ pub mod DifferentOutcomes
 pub mod Reached
 pub mod HeldDecided
 pub mod Places
+pub mod Loads
+pub mod NamesWeigh
 pub mod ChangesThrough
 pub mod Typing
 pub mod Numerals

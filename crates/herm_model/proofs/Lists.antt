@@ -42,6 +42,21 @@ in-append_cases x (z ∷ xs) ys (inr h) = again (in-append_cases x xs ys h)
     again (inl a) = inl (inr a)
     again (inr b) = inr b
 
+-- what each of two lists is, each of both joined is
+pub each-joined : {X : Type 0} (P : X → Type 0) (xs ys : List X) → ((x : X) → IsIn x xs → P x) → ((x : X) → IsIn x ys → P x) → (x : X) → IsIn x (xs ++ ys) → P x
+each-joined P xs ys h k x member = by (in-append_cases x xs ys member)
+  where
+    by : IsIn x xs ⊎ IsIn x ys → P x
+    by (inl a) = h x a
+    by (inr b) = k x b
+
+pub each-first : {X : Type 0} (P : X → Type 0) (y : X) (xs : List X) → P y → ((x : X) → IsIn x xs → P x) → (x : X) → IsIn x (y ∷ xs) → P x
+each-first P y xs h k x (inl e) = subst P (sym e) h
+each-first P y xs h k x (inr member) = k x member
+
+pub each-none : {X : Type 0} (P : X → Type 0) (x : X) → IsIn x [] → P x
+each-none P x member = absurd member
+
 pub in-append_more : {X : Type 0} (x : X) (xs ys zs : List X) → (IsIn x ys → IsIn x zs) → IsIn x (xs ++ ys) → IsIn x (xs ++ zs)
 in-append_more x [] ys zs f h = f h
 in-append_more x (w ∷ xs) ys zs f (inl e) = inl e

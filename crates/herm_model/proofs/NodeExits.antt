@@ -1,7 +1,7 @@
 -- A node of a well-formed body has an exit for each outcome of its form.
-use Rattle.std.proofs.Common.{◌≡◌, ℕ, suc, ◌+◌, List, [], ◌∷◌, ◌++◌, map, length, refl, sym, ap, ap₂, ◌∙◌, subst, arith, inl, inr, ◌⊎◌}
+use Rattle.std.proofs.Common.{◌≡◌, ℕ, suc, ◌+◌, List, [], ◌∷◌, ◌++◌, map, length, refl, sym, ap, ap₂, ◌∙◌, arith}
 use Rattle.std.proofs.lemmas.List.{length-map, map-append}
-use Rattle.herm_model.proofs.Lists.{in-append_cases}
+use Rattle.herm_model.proofs.Lists.{each-joined, each-first, each-none}
 use Rattle.herm_model.specs.Lists.{IsIn}
 use Rattle.herm_model.specs.Types.{TypeTable}
 use Rattle.herm_model.specs.Statements.{Form, Case, For, Select, If, While, Arm, nodes_of_block, Statement, simple, choosing, repeating, leaving, trying, Block, no_statements, statement, Blocks, no_blocks, block, Handlers, no_handlers, handler, Process, Branching, goes_on, repeats, chooses, branching_of, count_blocks, HasDifferentArms, IsWellFormed, IsWellFormedBlock, AreWellFormed, AreWellFormedHandlers}
@@ -49,40 +49,26 @@ repeated-arms : (form : Form) → branching_of form ≡ repeats → HasDifferent
 repeated-arms (Case v components) h = cc
 repeated-arms _ h = tt
 
-joined-fit : (ms ns : List Node) → ((n : Node) → IsIn n ms → Fits n) → ((n : Node) → IsIn n ns → Fits n) → (n : Node) → IsIn n (ms ++ ns) → Fits n
-joined-fit ms ns h k n member = by (in-append_cases n ms ns member)
-  where
-    by : IsIn n ms ⊎ IsIn n ns → Fits n
-    by (inl a) = h n a
-    by (inr b) = k n b
-
-first-fit : (m : Node) (ns : List Node) → Fits m → ((n : Node) → IsIn n ns → Fits n) → (n : Node) → IsIn n (m ∷ ns) → Fits n
-first-fit m ns h k n (inl e) = subst Fits (sym e) h
-first-fit m ns h k n (inr member) = k n member
-
-none-fit : (n : Node) → IsIn n [] → Fits n
-none-fit n member = absurd member
-
 mutual
   fit : (s : Statement) (number from : ℕ) (u : Surroundings) → IsWellFormed s → (n : Node) → IsIn n (nodes s number from u) → Fits n
-  fit (simple form) number from u h = first-fit _ [] (length-map (normal_outcomes form) _, single-arms form h) none-fit
+  fit (simple form) number from u h = each-first Fits _ [] (length-map (normal_outcomes form) _, single-arms form h) (each-none Fits)
   fit (choosing form blocks) number from u h =
-      first-fit _ _ (count_starts blocks (from + 1) u.behind ∙ sym (chosen form (count_blocks blocks) h.0), h.1) (fit_choices blocks (number + 1) (from + 1) u h.2)
-  fit (repeating form body) number from u h = first-fit _ _ (sym (repeated form h.0), repeated-arms form h.0) (fit_in body (number + 1) (from + 1) _ h.1)
-  fit leaving number from u h = first-fit _ [] (refl, tt) none-fit
-  fit (trying body handlers) number from u h = joined-fit _ _ (fit_in body (number + 1) from _ h.0) (fit_catches handlers _ _ u h.1)
+      each-first Fits _ _ (count_starts blocks (from + 1) u.behind ∙ sym (chosen form (count_blocks blocks) h.0), h.1) (fit_choices blocks (number + 1) (from + 1) u h.2)
+  fit (repeating form body) number from u h = each-first Fits _ _ (sym (repeated form h.0), repeated-arms form h.0) (fit_in body (number + 1) (from + 1) _ h.1)
+  fit leaving number from u h = each-first Fits _ [] (refl, tt) (each-none Fits)
+  fit (trying body handlers) number from u h = each-joined Fits _ _ (fit_in body (number + 1) from _ h.0) (fit_catches handlers _ _ u h.1)
 
   fit_in : (b : Block) (number from : ℕ) (u : Surroundings) → IsWellFormedBlock b → (n : Node) → IsIn n (nodes_in b number from u) → Fits n
-  fit_in no_statements number from u h = none-fit
-  fit_in (statement s rest) number from u h = joined-fit _ _ (fit s number from _ h.0) (fit_in rest _ _ u h.1)
+  fit_in no_statements number from u h = each-none Fits
+  fit_in (statement s rest) number from u h = each-joined Fits _ _ (fit s number from _ h.0) (fit_in rest _ _ u h.1)
 
   fit_choices : (bs : Blocks) (number from : ℕ) (u : Surroundings) → AreWellFormed bs → (n : Node) → IsIn n (nodes_of_choices bs number from u) → Fits n
-  fit_choices no_blocks number from u h = none-fit
-  fit_choices (block b rest) number from u h = joined-fit _ _ (fit_in b number from u h.0) (fit_choices rest _ _ u h.1)
+  fit_choices no_blocks number from u h = each-none Fits
+  fit_choices (block b rest) number from u h = each-joined Fits _ _ (fit_in b number from u h.0) (fit_choices rest _ _ u h.1)
 
   fit_catches : (hs : Handlers) (number from : ℕ) (u : Surroundings) → AreWellFormedHandlers hs → (n : Node) → IsIn n (nodes_of_catches hs number from u) → Fits n
-  fit_catches no_handlers number from u h = none-fit
-  fit_catches (handler e b rest) number from u h = joined-fit _ _ (fit_in b number from u h.0) (fit_catches rest _ _ u h.1)
+  fit_catches no_handlers number from u h = each-none Fits
+  fit_catches (handler e b rest) number from u h = each-joined Fits _ _ (fit_in b number from u h.0) (fit_catches rest _ _ u h.1)
 
 -- pairing as many targets gives each outcome
 paired-outcomes : (os : List Outcome) (ts : List Target) → length ts ≡ length os → map (λ (e : Exit). e.outcome) (paired os ts) ≡ os

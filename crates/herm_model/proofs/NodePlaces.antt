@@ -1,7 +1,7 @@
 -- Each target of a node is a place that is there, or an end.
 use Rattle.std.proofs.Common.{◌≡◌, ℕ, ◌+◌, ◌<◌, ◌≤◌, Bool, true, false, cond, nat_eq, List, [], ◌∷◌, ◌++◌, map, length, refl, sym, ap₂, ◌∙◌, subst, arith, inl, inr, ◌⊎◌}
 use Rattle.std.proofs.lemmas.List.{length-map, length-append}
-use Rattle.herm_model.proofs.Lists.{in-map_from, in-append_cases}
+use Rattle.herm_model.proofs.Lists.{in-map_from, in-append_cases, each-joined, each-first, each-none}
 use Rattle.herm_model.specs.Lists.{IsIn}
 use Rattle.herm_model.specs.Types.{TypeTable}
 use Rattle.herm_model.specs.Statements.{Statement, simple, choosing, repeating, leaving, trying, Block, no_statements, statement, Blocks, no_blocks, block, Handlers, no_handlers, handler, numbers_of, numbers_of_block, nodes_of, nodes_of_block, nodes_of_blocks, nodes_of_handlers, Process}
@@ -86,69 +86,48 @@ module _ (low size : ℕ) where
   constant-there (o ∷ os) t h r (inl e) = subst (IsWithin low size) (sym e) h
   constant-there (o ∷ os) t h r (inr member) = constant-there os t h r member
 
-  pair-there : (a b : Target) → IsWithin low size a → IsWithin low size b → (t : Target) → IsIn t (a ∷ b ∷ []) → IsWithin low size t
-  pair-there a b h k t (inl e) = subst (IsWithin low size) (sym e) h
-  pair-there a b h k t (inr (inl e)) = subst (IsWithin low size) (sym e) k
-  pair-there a b h k t (inr (inr member)) = absurd member
-
   one-there : (a : Target) → IsWithin low size a → (t : Target) → IsIn t (a ∷ []) → IsWithin low size t
-  one-there a h t (inl e) = subst (IsWithin low size) (sym e) h
-  one-there a h t (inr member) = absurd member
+  one-there a h = each-first (IsWithin low size) a [] h (each-none (IsWithin low size))
 
-  joined-there : (ms ns : List Node) → ((n : Node) → IsIn n ms → LeadsThere n) → ((n : Node) → IsIn n ns → LeadsThere n) → (n : Node) → IsIn n (ms ++ ns) → LeadsThere n
-  joined-there ms ns h k n member = by (in-append_cases n ms ns member)
-    where
-      by : IsIn n ms ⊎ IsIn n ns → LeadsThere n
-      by (inl a) = h n a
-      by (inr b) = k n b
-
-  first-there : (m : Node) (ns : List Node) → LeadsThere m → ((n : Node) → IsIn n ns → LeadsThere n) → (n : Node) → IsIn n (m ∷ ns) → LeadsThere n
-  first-there m ns h k n (inl e) = subst LeadsThere (sym e) h
-  first-there m ns h k n (inr member) = k n member
-
-  none-there : (n : Node) → IsIn n [] → LeadsThere n
-  none-there n member = absurd member
+  pair-there : (a b : Target) → IsWithin low size a → IsWithin low size b → (t : Target) → IsIn t (a ∷ b ∷ []) → IsWithin low size t
+  pair-there a b h k = each-first (IsWithin low size) a (b ∷ []) h (one-there b k)
 
   pub more-catches : (hs : Handlers) (from : ℕ) (u : Surroundings) → (low ≤ from) × (from + nodes_of_handlers hs ≤ size) → IsSurrounded u → (c : Catch) → IsIn c (catches_of hs from u.behind ++ u.catches) → IsWithin low size c.target
-  more-catches hs from u room h c member = by (in-append_cases c (catches_of hs from u.behind) u.catches member)
-    where
-      by : IsIn c (catches_of hs from u.behind) ⊎ IsIn c u.catches → IsWithin low size c.target
-      by (inl a) = catches-there hs from u.behind room h.behind c a
-      by (inr b) = h.catches c b
+  more-catches hs from u room h = each-joined (λ (d : Catch). IsWithin low size d.target) (catches_of hs from u.behind) u.catches (catches-there hs from u.behind room h.behind) h.catches
 
   mutual
     there : (s : Statement) (number from : ℕ) (u : Surroundings) → (low ≤ from) × (from + nodes_of s ≤ size) → IsSurrounded u → (n : Node) → IsIn n (nodes s number from u) → LeadsThere n
     there (simple form) number from u room h =
-        first-there _ [] (record { leads = constant-there (normal_outcomes form) u.behind h.behind; catches = h.catches }) none-there
+        each-first LeadsThere _ [] (record { leads = constant-there (normal_outcomes form) u.behind h.behind; catches = h.catches }) (each-none LeadsThere)
     there (choosing form blocks) number from u room h =
-        first-there _ _ (record { leads = starts-there blocks (from + 1) u.behind (omega arith, omega arith) h.behind; catches = h.catches })
+        each-first LeadsThere _ _ (record { leads = starts-there blocks (from + 1) u.behind (omega arith, omega arith) h.behind; catches = h.catches })
         (choices-there blocks (number + 1) (from + 1) u (omega arith, omega arith) h)
     there (repeating form body) number from u room h =
         let here : (low ≤ from) × (from < size) = (omega arith, omega arith) in
-        first-there _ _ (record { leads = pair-there _ _ (block-there body (from + 1) (node from) (omega arith, omega arith) here) h.behind; catches = h.catches })
+        each-first LeadsThere _ _ (record { leads = pair-there _ _ (block-there body (from + 1) (node from) (omega arith, omega arith) here) h.behind; catches = h.catches })
         (in-there body (number + 1) (from + 1) _ (omega arith, omega arith) (record { behind = here; catches = h.catches; exit = h.behind }))
-    there leaving number from u room h = first-there _ [] (record { leads = one-there u.exit h.exit; catches = h.catches }) none-there
+    there leaving number from u room h = each-first LeadsThere _ [] (record { leads = one-there u.exit h.exit; catches = h.catches }) (each-none LeadsThere)
     there (trying body handlers) number from u room h =
-        joined-there _ _
+        each-joined LeadsThere _ _
         (in-there body (number + 1) from _ (omega arith, omega arith) (record { behind = h.behind; catches = more-catches handlers (from + nodes_of_block body) u (omega arith, omega arith) h; exit = h.exit }))
         (handlers-there handlers (number + 1 + numbers_of_block body) (from + nodes_of_block body) u (omega arith, omega arith) h)
 
     pub in-there : (b : Block) (number from : ℕ) (u : Surroundings) → (low ≤ from) × (from + nodes_of_block b ≤ size) → IsSurrounded u → (n : Node) → IsIn n (nodes_in b number from u) → LeadsThere n
-    in-there no_statements number from u room h = none-there
+    in-there no_statements number from u room h = each-none LeadsThere
     in-there (statement s rest) number from u room h =
-        joined-there _ _
+        each-joined LeadsThere _ _
         (there s number from _ (omega arith, omega arith) (record { behind = block-there rest (from + nodes_of s) u.behind (omega arith, omega arith) h.behind; catches = h.catches; exit = h.exit }))
         (in-there rest (number + numbers_of s) (from + nodes_of s) u (omega arith, omega arith) h)
 
     choices-there : (bs : Blocks) (number from : ℕ) (u : Surroundings) → (low ≤ from) × (from + nodes_of_blocks bs ≤ size) → IsSurrounded u → (n : Node) → IsIn n (nodes_of_choices bs number from u) → LeadsThere n
-    choices-there no_blocks number from u room h = none-there
+    choices-there no_blocks number from u room h = each-none LeadsThere
     choices-there (block b rest) number from u room h =
-        joined-there _ _ (in-there b number from u (omega arith, omega arith) h) (choices-there rest (number + numbers_of_block b) (from + nodes_of_block b) u (omega arith, omega arith) h)
+        each-joined LeadsThere _ _ (in-there b number from u (omega arith, omega arith) h) (choices-there rest (number + numbers_of_block b) (from + nodes_of_block b) u (omega arith, omega arith) h)
 
     pub handlers-there : (hs : Handlers) (number from : ℕ) (u : Surroundings) → (low ≤ from) × (from + nodes_of_handlers hs ≤ size) → IsSurrounded u → (n : Node) → IsIn n (nodes_of_catches hs number from u) → LeadsThere n
-    handlers-there no_handlers number from u room h = none-there
+    handlers-there no_handlers number from u room h = each-none LeadsThere
     handlers-there (handler e b rest) number from u room h =
-        joined-there _ _ (in-there b number from u (omega arith, omega arith) h) (handlers-there rest (number + numbers_of_block b) (from + nodes_of_block b) u (omega arith, omega arith) h)
+        each-joined LeadsThere _ _ (in-there b number from u (omega arith, omega arith) h) (handlers-there rest (number + numbers_of_block b) (from + nodes_of_block b) u (omega arith, omega arith) h)
 
   caught-there : (cs : List Catch) (e : ℕ) → ((c : Catch) → IsIn c cs → IsWithin low size c.target) → IsWithin low size (caught cs e)
   caught-there [] e h = tt

@@ -1,12 +1,11 @@
--- What is at a path behind a change at another, and the weight of the names that are there.
-use Rattle.std.proofs.Common.{◌≡◌, ◌≢◌, ◌⊎◌, inl, inr, ◌<◌, ℕ, zero, suc, ◌+◌, List, [], ◌∷◌, ◌++◌, map, flat_map, Bool, true, false, cond, not, ◌||◌, Option, Some, None, option_map, nat_eq, IsTrue, refl, sym, ap, ap₂, subst, length, length-append, append_assoc, ◌∙◌, arith, true≢false}
+-- What is at a path behind a change at another, and the names of a copy.
+use Rattle.std.proofs.Common.{◌≡◌, ◌≢◌, ◌⊎◌, inl, inr, ◌<◌, ℕ, zero, suc, ◌+◌, List, [], ◌∷◌, ◌++◌, map, Bool, true, false, cond, not, ◌||◌, Option, Some, None, option_map, nat_eq, IsTrue, refl, sym, ap, ap₂, subst, length, length-append, ◌∙◌, arith, true≢false}
 use Rattle.std.proofs.lemmas.Bool.{eq-eqb, eqb-true, ltb-true}
-use Rattle.herm_model.specs.Lists.{total, range, list_of}
+use Rattle.herm_model.specs.Lists.{range}
 use Rattle.herm_model.specs.Paths.{Path, are_apart}
-use Rattle.herm_model.specs.Values.{Kind, Cell, cell, Parts, no_parts, gap, part, part_at, place, set_part, size, opens, inside, cell_at, has_place, behind_gaps, readable_of, read_at, change_readable, change_behind, change_from, change_at, a_variant, a_record, a_callmessage, change_inside, change_part, set_at}
+use Rattle.herm_model.specs.Values.{Cell, cell, Parts, no_parts, gap, part, part_at, place, set_part, size, opens, inside, cell_at, has_place, behind_gaps, readable_of, read_at, change_readable, change_behind, change_from, change_at, a_variant, a_record, a_callmessage, change_inside, change_part, set_at}
 use Rattle.herm_model.specs.CellNames.{names_of, names_in, count, count_in, copy_from, copy_in}
-use Rattle.herm_model.specs.Finalising.{waits, finalised, finalised_in, pending, pending_in}
-use Rattle.herm_model.proofs.Lists.{not_true, total-append}
+use Rattle.herm_model.proofs.Lists.{not_true}
 use Rattle.herm_model.proofs.Renaming.{map-append}
 use Rattle.herm_model.proofs.NothingThere.{none-read}
 
@@ -133,81 +132,6 @@ module _ {N : Type 0} where
       by (inl d) again = ap (λ c. cell_at (l ∷ q) (inside c)) (part_at-change_other i j (change_inside (set_at (k ∷ p) o)) ps d)
       by (inr e) again = subst (λ m. cell_at (m ∷ l ∷ q) (set_at (i ∷ k ∷ p) o ps) ≡ cell_at (m ∷ l ∷ q) ps) e.0 (ap (cell_at (l ∷ q)) (inside-set i k p o ps) ∙ again e.1)
 
--- what the names of values weigh
-module _ {N : Type 0} (w : N → ℕ) where
-  abbrev own : Option (Cell N) → ℕ
-  own o = total w (list_of names_of o)
-
-  abbrev all : Parts N → ℕ
-  all ps = total w (names_in ps)
-
-  weigh-place : (o : Option (Cell N)) (ps : Parts N) → all (place o ps) ≡ own o + all ps
-  weigh-place None ps = omega arith
-  weigh-place (Some c) ps = total-append w (names_of c) (names_in ps)
-
-  weigh-set_part : (i : ℕ) (o : Option (Cell N)) (ps : Parts N) → i < size ps → all (set_part i o ps) + own (part_at i ps) ≡ all ps + own o
-  weigh-set_part i o no_parts h = absurd (omega arith)
-  weigh-set_part zero o (gap ps) h = omega (arith, weigh-place o ps)
-  weigh-set_part zero o (part c ps) h = omega (arith, weigh-place o ps, total-append w (names_of c) (names_in ps))
-  weigh-set_part (suc i) o (gap ps) h = weigh-set_part i o ps (omega arith)
-  weigh-set_part (suc i) o (part c ps) h = omega (arith, weigh-set_part i o ps (omega arith), total-append w (names_of c) (names_in ps), total-append w (names_of c) (names_in (set_part i o ps)))
-
-  weigh-change_part : (i a b : ℕ) (g : Cell N → Cell N) (ps : Parts N) → own (option_map g (part_at i ps)) + a ≡ own (part_at i ps) + b → all (change_part i g ps) + a ≡ all ps + b
-  weigh-change_part i a b g no_parts e = e
-  weigh-change_part zero a b g (gap ps) e = omega (arith, e)
-  weigh-change_part zero a b g (part c ps) e = omega (arith, e, total-append w (names_of c) (names_in ps), total-append w (names_of (g c)) (names_in ps))
-  weigh-change_part (suc i) a b g (gap ps) e = weigh-change_part i a b g ps e
-  weigh-change_part (suc i) a b g (part c ps) e = omega (arith, weigh-change_part i a b g ps e, total-append w (names_of c) (names_in ps), total-append w (names_of c) (names_in (change_part i g ps)))
-
-  weigh-inside : (h : Parts N → Parts N) (a b : ℕ) (o : Option (Cell N)) → h no_parts ≡ no_parts → all (h (inside o)) + a ≡ all (inside o) + b → own (option_map (change_inside h) o) + a ≡ own o + b
-  weigh-inside h a b None e f = subst (λ ps. all ps + a ≡ 0 + b) e f
-  weigh-inside h a b (Some (cell n k ps)) e f = by (opens k) f
-    where
-      by : (t : Bool) → all (h (cond t ps no_parts)) + a ≡ all (cond t ps no_parts) + b → total w (n ∷ names_in (cond t (h ps) ps)) + a ≡ total w (n ∷ names_in ps) + b
-      by true f = omega (arith, f)
-      by false f = let z : 0 + a ≡ 0 + b = subst (λ qs. all qs + a ≡ 0 + b) e f in omega (arith, z)
-
-  -- what is set at a path comes in place of what was there
-  pub weigh-set_at : (p : Path) (o : Option (Cell N)) (ps : Parts N) → IsTrue (has_place ps p) → all (set_at p o ps) + own (cell_at p ps) ≡ all ps + own o
-  weigh-set_at [] o ps h = not_true h
-  weigh-set_at (i ∷ []) o ps h = weigh-set_part i o ps (ltb-true i (size ps) h)
-  weigh-set_at (i ∷ j ∷ p) o ps h =
-      weigh-change_part i (own (cell_at (j ∷ p) (inside (part_at i ps)))) (own o) (change_inside (set_at (j ∷ p) o)) ps
-      (weigh-inside (set_at (j ∷ p) o) (own (cell_at (j ∷ p) (inside (part_at i ps)))) (own o) (part_at i ps) (set_at-none (j ∷ p) o) (weigh-set_at (j ∷ p) o (inside (part_at i ps)) h))
-
-  -- what is taken out of a path, where there is a place or none
-  weigh-clear_part : (i : ℕ) (ps : Parts N) → all (set_part i None ps) + own (part_at i ps) ≡ all ps + 0
-  weigh-clear_part i no_parts = refl
-  weigh-clear_part zero (gap ps) = omega arith
-  weigh-clear_part zero (part c ps) = omega (arith, total-append w (names_of c) (names_in ps))
-  weigh-clear_part (suc i) (gap ps) = weigh-clear_part i ps
-  weigh-clear_part (suc i) (part c ps) = omega (arith, weigh-clear_part i ps, total-append w (names_of c) (names_in ps), total-append w (names_of c) (names_in (set_part i None ps)))
-
-  pub weigh-clear_at : (p : Path) (ps : Parts N) → all (set_at p None ps) + own (cell_at p ps) ≡ all ps + 0
-  weigh-clear_at [] ps = refl
-  weigh-clear_at (i ∷ []) ps = weigh-clear_part i ps
-  weigh-clear_at (i ∷ j ∷ p) ps =
-      weigh-change_part i (own (cell_at (j ∷ p) (inside (part_at i ps)))) 0 (change_inside (set_at (j ∷ p) None)) ps
-      (weigh-inside (set_at (j ∷ p) None) (own (cell_at (j ∷ p) (inside (part_at i ps)))) 0 (part_at i ps) (set_at-none (j ∷ p) None) (weigh-clear_at (j ∷ p) (inside (part_at i ps))))
-
-  -- what is finalised and what waits are all that was there
-  weigh-own : (b : Bool) (n : N) (k : Kind) (fs : List N) (qs : List (Cell N)) (a : ℕ) → a ≡ total w fs + total w (flat_map names_of qs) → w n + a ≡ total w (cond b [] (n ∷ []) ++ fs) + total w (flat_map names_of (cond b (cell n k no_parts ∷ []) [] ++ qs))
-  weigh-own true n k fs qs a e = omega (arith, e)
-  weigh-own false n k fs qs a e = omega (arith, e)
-
-  flat_map-append : (xs ys : List (Cell N)) → flat_map names_of (xs ++ ys) ≡ flat_map names_of xs ++ flat_map names_of ys
-  flat_map-append [] ys = refl
-  flat_map-append (x ∷ xs) ys = ap (names_of x ++◌) (flat_map-append xs ys) ∙ sym (append_assoc (names_of x) (flat_map names_of xs) (flat_map names_of ys))
-
-  mutual
-    pub weigh-finalised : (c : Cell N) → total w (names_of c) ≡ total w (finalised c) + total w (flat_map names_of (pending c))
-    weigh-finalised (cell n k ps) = weigh-own (waits k) n k (finalised_in ps) (pending_in ps) (total w (names_in ps)) (weigh-finalised_in ps)
-
-    pub weigh-finalised_in : (ps : Parts N) → total w (names_in ps) ≡ total w (finalised_in ps) + total w (flat_map names_of (pending_in ps))
-    weigh-finalised_in no_parts = omega arith
-    weigh-finalised_in (gap ps) = weigh-finalised_in ps
-    weigh-finalised_in (part c ps) = omega (arith, weigh-finalised c, weigh-finalised_in ps, total-append w (names_of c) (names_in ps), total-append w (finalised c) (finalised_in ps), ap (total w) (flat_map-append (pending c) (pending_in ps)), total-append w (flat_map names_of (pending c)) (flat_map names_of (pending_in ps)))
-
 -- the names of a copy are those of the serials from the first on, as many as there are cells
 pub range-add : (s m n : ℕ) → range s (m + n) ≡ range s m ++ range (s + m) n
 range-add s zero n = let e : s ≡ s + 0 = omega arith in let z : 0 + n ≡ n = omega arith in ap₂ range e z
@@ -263,29 +187,3 @@ module _ {N : Type 0} where
 
   pub read_at-change_at : (p : Path) (g : Cell N → Cell N) (ps : Parts N) → read_at p (change_at p g ps) ≡ option_map g (read_at p ps)
   read_at-change_at p g ps = read_at-change_from p g 0 ps
-
-  module _ (w : N → ℕ) (g : Cell N → Cell N) (a b : ℕ) where
-    weigh-change_behind : (i j : ℕ) (f : Cell N → Cell N) (ps : Parts N) → own w (option_map f (part_at j (behind_gaps i ps))) + a ≡ own w (part_at j (behind_gaps i ps)) + b → all w (change_behind i j f ps) + a ≡ all w ps + b
-    weigh-change_behind zero j f ps e = weigh-change_part w j a b f ps e
-    weigh-change_behind (suc i) zero f ps e = omega (arith, e)
-    weigh-change_behind (suc i) (suc j) f ps e = weigh-change_behind i j f ps e
-
-    abbrev Weighs : List ℕ → Type 0
-    Weighs p = (i : ℕ) (ps : Parts N) → own w (option_map g (read_at p (behind_gaps i ps))) + a ≡ own w (read_at p (behind_gaps i ps)) + b → all w (change_from p g i ps) + a ≡ all w ps + b
-
-    no-change : (j : ℕ) (p : Path) → own w (option_map g (read_at (j ∷ p) no_parts)) + a ≡ own w (read_at (j ∷ p) no_parts) + b → a ≡ b
-    no-change j p e = let z : 0 + a ≡ 0 + b = subst (λ o. own w (option_map g o) + a ≡ own w o + b) (none-read (j ∷ p)) e in omega (arith, z)
-
-    weigh-readable : (j : ℕ) (p : Path) → Weighs (j ∷ p) → (o : Option (Cell N)) → own w (option_map g (read_at (j ∷ p) (readable_of o))) + a ≡ own w (read_at (j ∷ p) (readable_of o)) + b → own w (option_map (change_readable (change_from (j ∷ p) g)) o) + a ≡ own w o + b
-    weigh-readable j p again None e = let z = no-change j p e in omega (arith, z)
-    weigh-readable j p again (Some (cell n (a_variant c) ps)) e = omega (arith, again c ps e)
-    weigh-readable j p again (Some (cell n a_record ps)) e = omega (arith, again 0 ps e)
-    weigh-readable j p again (Some (cell n (a_callmessage caller call) ps)) e = omega (arith, again 0 ps e)
-    weigh-readable j p again (Some (cell n k ps)) e = let z = no-change j p e in omega (arith, z)
-
-    weigh-change_from : (j : ℕ) (p : Path) → Weighs (j ∷ p)
-    weigh-change_from j [] i ps e = weigh-change_behind i j g ps e
-    weigh-change_from j (k ∷ p) i ps e = weigh-change_behind i j (change_readable (change_from (k ∷ p) g)) ps (weigh-readable k p (weigh-change_from k p) (part_at j (behind_gaps i ps)) e)
-
-    pub weigh-change_at : (j : ℕ) (p : Path) (ps : Parts N) → own w (option_map g (read_at (j ∷ p) ps)) + a ≡ own w (read_at (j ∷ p) ps) + b → all w (change_at (j ∷ p) g ps) + a ≡ all w ps + b
-    weigh-change_at j p ps e = weigh-change_from j p 0 ps e

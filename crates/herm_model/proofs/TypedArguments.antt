@@ -126,6 +126,15 @@ module _ (table : TypeTable) (variables : List ℕ) where
             same w (inl e) = e
             same w (inr i) = absurd i
 
+-- the parameters that are kept for an exception rise where each raised one's do
+pub kept-rise : (rs : List Raised) (e : ℕ) → ((r : Raised) → IsIn r rs → Rise r.kept) → Rise (kept_for rs e)
+kept-rise [] e f = tt
+kept-rise (r ∷ rs) e f = by (nat_eq r.exception e) (f r (inl refl)) (kept-rise rs e (λ q i. f q (inr i)))
+  where
+    by : (b : Bool) → Rise r.kept → Rise (kept_for rs e) → Rise (cond b r.kept (kept_for rs e))
+    by true x y = x
+    by false x y = y
+
 pub arguments-fit : TypedArgumentsFit
 arguments-fit exceptions table variables processes o arguments well h =
     let params = parameters-are table variables o h.0 h.3 h.1 h.2 h.4 in
@@ -144,13 +153,5 @@ arguments-fit exceptions table variables processes o arguments well h =
     kept : (e i : ℕ) → IsIn i (kept_for h.2 e) → (p : Parameter) × (slice_get h.1 i ≡ Some p) × IsTrue (is_returned p.mode)
     kept e i m = let d = kept-declared h.2 e i m in well.kept_returned h.0 (callmessage h.1 h.2) h.4 d.0 d.1 i d.2
 
-    rises_in : (rs : List Raised) (e : ℕ) → ((r : Raised) → IsIn r rs → Rise r.kept) → Rise (kept_for rs e)
-    rises_in [] e f = tt
-    rises_in (r ∷ rs) e f = by (nat_eq r.exception e) (f r (inl refl)) (rises_in rs e (λ q i. f q (inr i)))
-      where
-        by : (b : Bool) → Rise r.kept → Rise (kept_for rs e) → Rise (cond b r.kept (kept_for rs e))
-        by true x y = x
-        by false x y = y
-
     rises : (rs : List Raised) (e : ℕ) → Rise (kept_for h.2 e)
-    rises rs e = rises_in h.2 e (λ r i. well.kept_rising h.0 (callmessage h.1 h.2) h.4 r i)
+    rises rs e = kept-rise h.2 e (λ r i. well.kept_rising h.0 (callmessage h.1 h.2) h.4 r i)

@@ -10,7 +10,8 @@ use Rattle.herm_model.proofs.Lists.{not_true, in-append_cases, in-map_from, in-f
 use Rattle.herm_model.proofs.Options.{none-not_some}
 use Rattle.herm_model.proofs.Steps.{steps-lead}
 use Rattle.herm_model.proofs.ClosedFacts.{once-IsIn}
-use Rattle.herm_model.proofs.TypedPaths.{falses-or, is-some, typed-before, leads-typed, at-append, passes-append, to-facts, parent-facts, with-facts}
+use Rattle.herm_model.proofs.TypedPaths.{falses-or, is-some, leads-typed, at-append, passes-append, to-facts, parent-facts, with-facts}
+use Rattle.herm_model.proofs.TypesBelow.{known-above}
 
 -- every fact of a list is one that there is
 abbrev pub AllAre : TypeTable → List ℕ → List Fact → Type 0
@@ -107,7 +108,7 @@ module _ (table : TypeTable) where
     pub said-fact : (x : Path) (message : ℕ) (f : Fact) → type_at table variables x ≡ Some message → IsFalse (passes_component table variables x) → IsFactOf table (message ∷ []) f → IsFactOf table variables (said_at x f)
     said-fact x message (init []) e n h = not_true h.0
     said-fact x message (init (zero ∷ q)) e n h = below-fact x message q e n h.0 h.1
-    said-fact x message (init (suc v ∷ q)) e n h = not_true (typed-before table None q h.0)
+    said-fact x message (init (suc v ∷ q)) e n h = not_true (known-above table None q h.0)
     said-fact x message (case [] c) e n h = let z : ⊥ = omega arith in absurd z
     said-fact [] message (case (zero ∷ q) c) e n h = none-not_some e
     said-fact (v ∷ p) message (case (zero ∷ q) c) e n h = subst (λ o. c < map_or 0 (λ t. map_or 0 component_count (slice_get table t)) o) (sym (at-append table variables v p q ∙ ap (λ o. type_below table o q) e)) h
@@ -115,7 +116,7 @@ module _ (table : TypeTable) where
       where
         by : (o : Option ℕ) → type_below table None q ≡ o → c < map_or 0 (λ t. map_or 0 component_count (slice_get table t)) o → IsFactOf table variables (said_at x (case (suc v ∷ q) c))
         by None z l = let k : ⊥ = omega arith in absurd k
-        by (Some t) z l = not_true (typed-before table None q (is-some _ z))
+        by (Some t) z l = not_true (known-above table None q (is-some _ z))
 
   module _ (message : ℕ) (declared : List Fact) (declares : DeclaresFields table (inport message declared)) where
     field-path : (p : Path) (t : ℕ) → IsFieldPath table message p t → (type_at table (message ∷ []) p ≡ Some t) × IsFalse (passes_component table (message ∷ []) p)

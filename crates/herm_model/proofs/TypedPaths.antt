@@ -1,6 +1,6 @@
 -- Paths that have types: longer and shorter ones, and the facts to them.
 use Rattle.std.proofs.Common.{◌≡◌, ℕ, zero, suc, ◌<◌, List, [], ◌∷◌, ◌++◌, length, Bool, true, false, cond, ◌||◌, ◌⊎◌, inl, inr, Option, Some, None, is_some, slice_get, IsTrue, IsFalse, refl, sym, ap, subst, subst₂, ◌∙◌, arith, true≢false}
-use Rattle.std.proofs.Math.Bool.{or-false, or_assoc}
+use Rattle.std.proofs.Math.Bool.{or-false}
 use Rattle.herm_model.specs.Lists.{IsIn, map_or, list_of}
 use Rattle.herm_model.specs.Paths.{Path, Fact, init, case, parent}
 use Rattle.herm_model.specs.Types.{Shape, fields, cases, callmessage, TypeTable, part_type, part_of, type_below, type_at, is_cases, is_variant, enters_component, passes_component, full_parts, IsPartPath}
@@ -8,6 +8,7 @@ use Rattle.herm_model.specs.Facts.{facts_from, facts_to, prefixes, with_prefixes
 use Rattle.herm_model.proofs.Lists.{not_true, in-append_cases}
 use Rattle.herm_model.proofs.Options.{none-not_some}
 use Rattle.herm_model.proofs.Prefixes.{full-part}
+use Rattle.herm_model.proofs.TypesBelow.{type_below-append, enters-append, known-above}
 
 -- the parts of a false choice
 pub or-falses : (a b : Bool) → IsFalse (a || b) → IsFalse a × IsFalse b
@@ -25,30 +26,17 @@ some-of (Some x) h = (x, refl)
 pub is-some : {X : Type 0} {x : X} (o : Option X) → o ≡ Some x → IsTrue (is_some o)
 is-some o e = ap is_some e
 
-slice_get-below : {X : Type 0} (xs : List X) (i : ℕ) (x : X) → slice_get xs i ≡ Some x → i < length xs
+pub slice_get-below : {X : Type 0} (xs : List X) (i : ℕ) (x : X) → slice_get xs i ≡ Some x → i < length xs
 slice_get-below [] i x e = none-not_some e
 slice_get-below (y ∷ ys) zero x e = omega arith
 slice_get-below (y ∷ ys) (suc i) x e = omega (arith, slice_get-below ys i x e)
 
+-- the parent of a path, and the last step
+pub parent-split : (i j : ℕ) (p : List ℕ) → (k : ℕ) × (i ∷ j ∷ p ≡ parent (i ∷ j ∷ p) ++ k ∷ [])
+parent-split i j [] = (j, refl)
+parent-split i j (l ∷ p) = let r = parent-split j l p in (r.0, ap (i ∷◌) r.1)
+
 module _ (table : TypeTable) where
-  none-below : (p : List ℕ) → type_below table None p ≡ None
-  none-below [] = refl
-  none-below (i ∷ p) = none-below p
-
-  pub below-append : (t : Option ℕ) (p q : List ℕ) → type_below table t (p ++ q) ≡ type_below table (type_below table t p) q
-  below-append t [] q = refl
-  below-append t (i ∷ p) q = below-append (part_of table t i) p q
-
-  pub enters-append : (t : Option ℕ) (p q : List ℕ) → enters_component table t (p ++ q) ≡ (enters_component table t p || enters_component table (type_below table t p) q)
-  enters-append t [] q = refl
-  enters-append t (i ∷ p) q =
-      ap (is_variant table t ||◌) (enters-append (part_of table t i) p q) ∙ sym (or_assoc (is_variant table t) (enters_component table (part_of table t i) p) (enters_component table (type_below table (part_of table t i) p) q))
-
-  -- a type at the end of a path is behind one at each place before
-  pub typed-before : (t : Option ℕ) (p : List ℕ) → IsTrue (is_some (type_below table t p)) → IsTrue (is_some t)
-  typed-before None p h = not_true (subst (λ o. IsTrue (is_some o)) (none-below p) h)
-  typed-before (Some t) p h = refl
-
   -- a component of a variant that has a type
   component-there : (t : Option ℕ) (i : ℕ) → IsTrue (is_variant table t) → IsTrue (is_some (part_of table t i)) → i < map_or 0 (λ u. map_or 0 component_count (slice_get table u)) t
   component-there None i v h = not_true v
@@ -76,10 +64,10 @@ module _ (table : TypeTable) where
 
   module _ (variables : List ℕ) where
     pub at-append : (v : ℕ) (p q : List ℕ) → type_at table variables ((v ∷ p) ++ q) ≡ type_below table (type_at table variables (v ∷ p)) q
-    at-append v p q = below-append (slice_get variables v) p q
+    at-append v p q = type_below-append table (slice_get variables v) p q
 
     pub passes-append : (v : ℕ) (p q : List ℕ) → passes_component table variables ((v ∷ p) ++ q) ≡ (passes_component table variables (v ∷ p) || enters_component table (type_at table variables (v ∷ p)) q)
-    passes-append v p q = enters-append (slice_get variables v) p q
+    passes-append v p q = enters-append table (slice_get variables v) p q
 
     -- each fact on the way to a path that has a type is one that there is
     pub from-facts : (v : ℕ) (at : List ℕ) (t : Option ℕ) (w : Bool) (p : List ℕ) (g : Fact) → type_at table variables (v ∷ at) ≡ t → passes_component table variables (v ∷ at) ≡ w
@@ -93,7 +81,7 @@ module _ (table : TypeTable) where
     from-facts v at t w (i ∷ p) g e f h k = by (in-append_cases g (cond w [] (init (v ∷ at) ∷ [])) _ k) (from-facts v (at ++ i ∷ []) (part_of table t i) (w || is_variant table t) p g longer passes h)
       where
         typed : IsTrue (is_some t)
-        typed = typed-before t (i ∷ p) h
+        typed = known-above table t (i ∷ p) h
 
         longer : type_at table variables ((v ∷ at) ++ i ∷ []) ≡ part_of table t i
         longer = at-append v at (i ∷ []) ∙ ap (λ o. part_of table o i) e
@@ -107,7 +95,7 @@ module _ (table : TypeTable) where
         here false f (inr k) = absurd k
 
         component : (b : Bool) → is_variant table t ≡ b → IsIn g (cond b (case (v ∷ at) i ∷ []) []) → IsFactOf table variables g
-        component true is (inl k) = subst (IsFactOf table variables) (sym k) (subst (λ o. i < map_or 0 (λ u. map_or 0 component_count (slice_get table u)) o) (sym e) (component-there t i is (typed-before (part_of table t i) p h)))
+        component true is (inl k) = subst (IsFactOf table variables) (sym k) (subst (λ o. i < map_or 0 (λ u. map_or 0 component_count (slice_get table u)) o) (sym e) (component-there t i is (known-above table (part_of table t i) p h)))
         component true is (inr k) = absurd k
         component false is k = absurd k
 
@@ -125,11 +113,7 @@ module _ (table : TypeTable) where
 
     -- what a shorter path has
     pub begins-typed : (v : ℕ) (p q : List ℕ) → IsTrue (is_some (type_at table variables ((v ∷ p) ++ q))) → IsTrue (is_some (type_at table variables (v ∷ p)))
-    begins-typed v p q h = typed-before (type_at table variables (v ∷ p)) q (subst (λ o. IsTrue (is_some o)) (at-append v p q) h)
-
-    parent-split : (i j : ℕ) (p : List ℕ) → (k : ℕ) × (i ∷ j ∷ p ≡ parent (i ∷ j ∷ p) ++ k ∷ [])
-    parent-split i j [] = (j, refl)
-    parent-split i j (l ∷ p) = let r = parent-split j l p in (r.0, ap (i ∷◌) r.1)
+    begins-typed v p q h = known-above table (type_at table variables (v ∷ p)) q (subst (λ o. IsTrue (is_some o)) (at-append v p q) h)
 
     pub parent-facts : (p : Path) (g : Fact) → IsTrue (is_some (type_at table variables p)) → IsIn g (facts_to table variables (parent p)) → IsFactOf table variables g
     parent-facts [] g h k = absurd k

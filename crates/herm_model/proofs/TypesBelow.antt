@@ -16,7 +16,7 @@ module _ (table : TypeTable) where
   pub enters-more : (t : Option ℕ) (p : List ℕ) (i : ℕ) → enters_component table t (p ++ i ∷ []) ≡ (enters_component table t p || is_variant table (type_below table t p))
   enters-more t p i = enters-append t p (i ∷ []) ∙ ap (enters_component table t p ||◌) (or-false (is_variant table (type_below table t p)))
 
-  type_below-none : (p : List ℕ) → type_below table None p ≡ None
+  pub type_below-none : (p : List ℕ) → type_below table None p ≡ None
   type_below-none [] = refl
   type_below-none (i ∷ p) = type_below-none p
 

@@ -4,7 +4,7 @@ use Rattle.herm_model.specs.Lists.{map_or}
 use Rattle.herm_model.specs.Types.{Mode, by_in, by_inout, by_out, Parameter, TypeTable, Shape, polymorph, fields, rows, callmessage}
 use Rattle.herm_model.specs.Values.{Kind, a_record, a_callmessage, Cell, cell, Parts, no_parts, gap, gaps, part}
 use Rattle.herm_model.specs.CellNames.{rename, rename_in}
-use Rattle.herm_model.specs.Typed.{Degree, whole, partly, Content, a_value, nothing, Layout, exactly, many, unfit, parameter_content, layout, layout_at, is_bounded, greatest_rows, greatest_polymorph, IsOf, Fits}
+use Rattle.herm_model.specs.Typed.{Degree, whole, partly, Content, a_value, nothing, Layout, exactly, many, unfit, MayBeEmpty, parameter_content, layout, layout_at, is_bounded, greatest_rows, greatest_polymorph, IsOf, Fits}
 use Rattle.herm_model.proofs.Renaming.{size-rename, depth_in-rename, has_distinct_keys-rename}
 
 -- the layout of a kind in the shape of a type, if there is one
@@ -19,42 +19,33 @@ module _ {N M : Type 0} (f : N → M) where
 
   module _ (table : TypeTable) where
     mutual
-      pub IsOf-renamed : (d : Degree) (t : ℕ) (c : Cell N) → IsOf d table t c → IsOf d table t (rename f c)
-      IsOf-renamed d t (cell n k ps) h = (Fits-renamed (layout_at d table t k) ps h.0, subst IsTrue (sym (is_bounded-rename (slice_get table t) ps)) h.1)
+      IsOf-rename : (d : Degree) (t : ℕ) (c : Cell N) → IsOf d table t (rename f c) ≡ IsOf d table t c
+      IsOf-rename d t (cell n k ps) = ap₂ (λ (A B : Type 0). A × B) (Fits-rename (layout_at d table t k) ps) (ap IsTrue (is_bounded-rename (slice_get table t) ps))
 
-      pub Fits-renamed : (l : Layout) (ps : Parts N) → Fits table l ps → Fits table l (rename_in f ps)
-      Fits-renamed (exactly []) no_parts h = h
-      Fits-renamed (exactly []) (gap ps) h = h
-      Fits-renamed (exactly []) (part c ps) h = h
-      Fits-renamed (exactly (x ∷ xs)) no_parts h = h
-      Fits-renamed (exactly (x ∷ xs)) (gap ps) h = (h.0, Fits-renamed (exactly xs) ps h.1)
-      Fits-renamed (exactly (a_value d u ∷ xs)) (part c ps) h = (IsOf-renamed d u c h.0, Fits-renamed (exactly xs) ps h.1)
-      Fits-renamed (exactly (nothing ∷ xs)) (part c ps) h = h
-      Fits-renamed (many u) no_parts h = h
-      Fits-renamed (many u) (gap ps) h = h
-      Fits-renamed (many u) (part c ps) h = (IsOf-renamed whole u c h.0, Fits-renamed (many u) ps h.1)
-      Fits-renamed unfit no_parts h = h
-      Fits-renamed unfit (gap ps) h = h
-      Fits-renamed unfit (part c ps) h = h
+      Fits-rename : (l : Layout) (ps : Parts N) → Fits table l (rename_in f ps) ≡ Fits table l ps
+      Fits-rename (exactly []) no_parts = refl
+      Fits-rename (exactly []) (gap ps) = refl
+      Fits-rename (exactly []) (part c ps) = refl
+      Fits-rename (exactly (x ∷ xs)) no_parts = refl
+      Fits-rename (exactly (x ∷ xs)) (gap ps) = ap (λ (B : Type 0). MayBeEmpty x × B) (Fits-rename (exactly xs) ps)
+      Fits-rename (exactly (a_value d u ∷ xs)) (part c ps) = ap₂ (λ (A B : Type 0). A × B) (IsOf-rename d u c) (Fits-rename (exactly xs) ps)
+      Fits-rename (exactly (nothing ∷ xs)) (part c ps) = refl
+      Fits-rename (many u) no_parts = refl
+      Fits-rename (many u) (gap ps) = refl
+      Fits-rename (many u) (part c ps) = ap₂ (λ (A B : Type 0). A × B) (IsOf-rename whole u c) (Fits-rename (many u) ps)
+      Fits-rename unfit ps = refl
 
-    mutual
-      pub renamed-IsOf : (d : Degree) (t : ℕ) (c : Cell N) → IsOf d table t (rename f c) → IsOf d table t c
-      renamed-IsOf d t (cell n k ps) h = (renamed-Fits (layout_at d table t k) ps h.0, subst IsTrue (is_bounded-rename (slice_get table t) ps) h.1)
+    pub IsOf-renamed : (d : Degree) (t : ℕ) (c : Cell N) → IsOf d table t c → IsOf d table t (rename f c)
+    IsOf-renamed d t c h = subst (λ (A : Type 0). A) (sym (IsOf-rename d t c)) h
 
-      pub renamed-Fits : (l : Layout) (ps : Parts N) → Fits table l (rename_in f ps) → Fits table l ps
-      renamed-Fits (exactly []) no_parts h = h
-      renamed-Fits (exactly []) (gap ps) h = h
-      renamed-Fits (exactly []) (part c ps) h = h
-      renamed-Fits (exactly (x ∷ xs)) no_parts h = h
-      renamed-Fits (exactly (x ∷ xs)) (gap ps) h = (h.0, renamed-Fits (exactly xs) ps h.1)
-      renamed-Fits (exactly (a_value d u ∷ xs)) (part c ps) h = (renamed-IsOf d u c h.0, renamed-Fits (exactly xs) ps h.1)
-      renamed-Fits (exactly (nothing ∷ xs)) (part c ps) h = h
-      renamed-Fits (many u) no_parts h = h
-      renamed-Fits (many u) (gap ps) h = h
-      renamed-Fits (many u) (part c ps) h = (renamed-IsOf whole u c h.0, renamed-Fits (many u) ps h.1)
-      renamed-Fits unfit no_parts h = h
-      renamed-Fits unfit (gap ps) h = h
-      renamed-Fits unfit (part c ps) h = h
+    pub Fits-renamed : (l : Layout) (ps : Parts N) → Fits table l ps → Fits table l (rename_in f ps)
+    Fits-renamed l ps h = subst (λ (A : Type 0). A) (sym (Fits-rename l ps)) h
+
+    pub renamed-IsOf : (d : Degree) (t : ℕ) (c : Cell N) → IsOf d table t (rename f c) → IsOf d table t c
+    renamed-IsOf d t c h = subst (λ (A : Type 0). A) (IsOf-rename d t c) h
+
+    pub renamed-Fits : (l : Layout) (ps : Parts N) → Fits table l (rename_in f ps) → Fits table l ps
+    renamed-Fits l ps h = subst (λ (A : Type 0). A) (Fits-rename l ps) h
 
 abbrev parameters : Degree → List Parameter → Layout
 parameters d qs = exactly (map (λ q. parameter_content d q.mode q.content) qs)

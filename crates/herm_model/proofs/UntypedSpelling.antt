@@ -1,5 +1,5 @@
 -- Well made values are told by their texts, also where more follows that cannot go on with them.
-use Rattle.std.proofs.Common.{◌≡◌, ◌≢◌, ℕ, List, [], ◌∷◌, ◌++◌, map, Bool, true, false, cond, ◌&&◌, ◌||◌, nat_eq, pos, negsuc, IsTrue, IsFalse, refl, sym, ap, ap₂, subst, ◌∙◌, arith, append_assoc, true≢false}
+use Rattle.std.proofs.Common.{◌≡◌, ◌≢◌, ℕ, List, [], ◌∷◌, ◌++◌, map, Bool, true, false, cond, ◌&&◌, nat_eq, pos, negsuc, IsTrue, IsFalse, refl, sym, ap, ap₂, subst, ◌∙◌, arith, append_assoc}
 use Rattle.std.specs.Bool.{⊤}
 use Rattle.herm_model.specs.Lists.{all_pass}
 use Rattle.herm_model.specs.Values.{Scalar, a_boolean, an_integer, a_text, a_tag, Kind, a_scalar, a_record, a_variant, a_table, a_polymorph, a_callmessage, an_inport, an_outport, cell, Parts, no_parts, gap, part, Value}
@@ -8,17 +8,14 @@ use Rattle.herm_model.specs.WellMade.{is_without_places, is_one_part, suits_kind
 use Rattle.herm_model.proofs.Lists.{not_true, and-both, cons-head, cons-tail, cons-not_nil}
 use Rattle.herm_model.proofs.Numerals.{AreDigits, numeral-digits, numeral-starts}
 use Rattle.herm_model.proofs.Spelling.{append-cancel, family, ends_in_digit, NoDigit, Apart, opening-split, IsStart, cell-starts, separator, behind, cell-regroup, gap-step, part-step, gap-not_part}
+use Rattle.herm_model.proofs.TypedPaths.{or-falses}
 
 abbrev Free : List ℕ → Type 0
 Free bytes = IsFalse (may_go_on bytes)
 
-neither : (a b : Bool) → IsFalse (a || b) → IsFalse a × IsFalse b
-neither true b h = absurd (true≢false h)
-neither false b h = (refl, h)
-
 free-no_digit : (X : List ℕ) → Free X → NoDigit X
 free-no_digit [] h = refl
-free-no_digit (b ∷ X) h = (neither (is_digit b) _ h).0
+free-no_digit (b ∷ X) h = (or-falses (is_digit b) _ h).0
 
 -- The family of kinds that a text begins with: by its first byte, and by what stands behind the digits that it begins
 -- with.
@@ -55,7 +52,7 @@ is_number k = false
 
 free-no_mark : (X : List ℕ) → Free X → begins_with_mark X ≡ false
 free-no_mark [] h = refl
-free-no_mark (b ∷ X) h = (neither (is_digit b) _ h).1
+free-no_mark (b ∷ X) h = (or-falses (is_digit b) _ h).1
 
 family-told : (k : Kind) (X : List ℕ) → (IsTrue (is_number k) → Free X) → family_told (opening k ++ X) ≡ family k
 family-told (a_scalar (a_boolean true)) X h = refl

@@ -1,5 +1,5 @@
 -- An event cut into its parts: the process, what it wants, what is at the place, what is done, and what that leaves.
-use Rattle.std.proofs.Common.{◌≡◌, ℕ, Bool, true, false, cond, Option, Some, None, option_map, option_and_then, refl}
+use Rattle.std.proofs.Common.{◌≡◌, ℕ, Bool, true, false, cond, Option, Some, None, option_map, option_and_then, refl, ap, ◌∙◌}
 use Rattle.herm_model.specs.Lists.{any_pass}
 use Rattle.herm_model.specs.Values.{Cell, Name}
 use Rattle.herm_model.proofs.Options.{none-not_some, chain-some, map-some}
@@ -65,3 +65,24 @@ step-parts machine p s m e =
     let x = chain-some (λ x. option_map (λ y. record { system = set_process p y s; done = None }) (machine.local_step x)) (numbered_from_one p s.processes) m b.1 in
     let left = map-some _ (machine.local_step x.0) m x.2 in
     record { stands = b.0; state = x.0; is = x.1; left = (left.0, left.1); moved = left.2 }
+
+-- an event put together from its parts
+pub action-of : {P : Type 0} (machine : Machine Name P) (p : ℕ) (place : Place) (s t : System P) (x y : P) (w : CellWant Name) (h : PlaceState (Cell Name) (CellReply Name)) (a : CellAction Name) → stands is_acting machine s p ≡ true → numbered_from_one p s.processes ≡ Some x
+    → machine.wanted x ≡ Some w → any_pass (same_place place) (places_for p w) ≡ true → holding_at place s ≡ Some h → done_at w h ≡ Some a → machine.answered x (number_of place) a ≡ Some y → with_made machine x a (acted p place s y h a) ≡ Some t
+    → action_event machine p place s ≡ Some (record { system = t; done = Some a })
+action-of machine p place s t x y w h a stays is wants among there does leaves makes =
+    ap (λ b. cond b (option_and_then (λ x. option_and_then (act_at machine p place s x) (machine.wanted x)) (numbered_from_one p s.processes)) None) stays
+    ∙ ap (option_and_then (λ x. option_and_then (act_at machine p place s x) (machine.wanted x))) is
+    ∙ ap (option_and_then (act_at machine p place s x)) wants
+    ∙ ap (λ b. cond b (option_and_then (λ k. option_and_then (behind_action machine p place s x k) (done_at w k)) (holding_at place s)) None) among
+    ∙ ap (option_and_then (λ k. option_and_then (behind_action machine p place s x k) (done_at w k))) there
+    ∙ ap (option_and_then (behind_action machine p place s x h)) does
+    ∙ ap (option_and_then (λ next. option_map (λ t. record { system = t; done = Some a }) (with_made machine x a (acted p place s next h a)))) leaves
+    ∙ ap (option_map (λ t. record { system = t; done = Some a })) makes
+
+pub step-of : {P : Type 0} (machine : Machine Name P) (p : ℕ) (s : System P) (x y : P) → stands is_local machine s p ≡ true → numbered_from_one p s.processes ≡ Some x → machine.local_step x ≡ Some y
+    → local_event machine p s ≡ Some (record { system = set_process p y s; done = None })
+step-of machine p s x y stays is does =
+    ap (λ b. cond b (option_and_then (λ x. option_map (λ y. record { system = set_process p y s; done = None }) (machine.local_step x)) (numbered_from_one p s.processes)) None) stays
+    ∙ ap (option_and_then (λ x. option_map (λ y. record { system = set_process p y s; done = None }) (machine.local_step x))) is
+    ∙ ap (option_map (λ y. record { system = set_process p y s; done = None })) does

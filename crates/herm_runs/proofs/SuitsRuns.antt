@@ -1,22 +1,20 @@
 -- What comes in suits along runs of sound states, and so diaries tell.
 use Rattle.std.proofs.Common.{◌≡◌, List, [], ◌∷◌, ◌++◌, Option, Some, None, option_and_then, refl, sym, ap, ◌∙◌, append_assoc, append-nil}
 use Rattle.std.specs.Prelude.{⊤}
-use Rattle.herm_model.specs.Lists.{any_pass}
 use Rattle.herm_model.specs.Values.{Name}
 use Rattle.herm_model.proofs.Options.{some-injective, chain-some, map-some}
-use Rattle.herm_journal.specs.PlaceStates.{after}
-use Rattle.herm_journal.specs.Entries.{Place, same_place, Entry, recorded}
+use Rattle.herm_journal.specs.Entries.{Place, Entry, recorded}
 use Rattle.herm_journal.specs.Stamps.{entry_behind}
 use Rattle.herm_journal.specs.Messages.{CellAction}
-use Rattle.herm_system.specs.Machines.{Machine, is_acting}
-use Rattle.herm_system.specs.Systems.{System, Moved, Event, steps, acts, Run, run, run_on, step, start, opening, with_entry, stands, with_made, set_process, set_holding, holding_at, places_for, done_at, number_of, act_at, behind_action}
+use Rattle.herm_system.specs.Machines.{Machine}
+use Rattle.herm_system.specs.Systems.{System, Moved, Event, steps, acts, Run, run, run_on, step, start, opening, with_entry}
 use Rattle.herm_system.specs.Reports.{IsAlong}
 use Rattle.herm_system.specs.Sound.{IsSoundFor}
 use Rattle.herm_runs.specs.laws.ProcessLaws.{KeepsNumbers, ForgetsNames}
 use Rattle.herm_runs.specs.laws.DiaryLaws.{EventSuits}
 use Rattle.herm_runs.specs.laws.SuitsLaws.{LooksAtHeld, SoundStatesSuit, SoundStatesWouldSuit, AreSoundAlong, SoundRunsSuit, SoundDiariesTell, DescribedDiariesTell}
 use Rattle.herm_runs.proofs.Events.{run-joined}
-use Rattle.herm_runs.proofs.ActionParts.{cond-both}
+use Rattle.herm_runs.proofs.ActionParts.{action-parts}
 use Rattle.herm_runs.proofs.DiariesTold.{diaries-tell}
 use Rattle.herm_runs.proofs.SuitsStates.{done-suits}
 
@@ -24,16 +22,10 @@ use Rattle.herm_runs.proofs.SuitsStates.{done-suits}
 module _ {P : Type 0} (machine : Machine Name P) (IsSoundWithin : P → Type 0) (looks : LooksAtHeld machine IsSoundWithin) where
   action-suits : (p : _) (place : Place) (s : System P) → IsSoundFor machine IsSoundWithin s → EventSuits machine (acts p place) s
   action-suits p place s sound x m a is e done =
-      let acting = cond-both (stands is_acting machine s p) _ m e in
-      let here = sym (ap (option_and_then (λ x. option_and_then (act_at machine p place s x) (machine.wanted x))) is) ∙ acting.1 in
-      let want = chain-some (act_at machine p place s x) (machine.wanted x) m here in
-      let there = cond-both (any_pass (same_place place) (places_for p want.0)) _ m want.2 in
-      let at = chain-some _ (holding_at place s) m there.1 in
-      let did = chain-some (behind_action machine p place s x at.0) (done_at want.0 at.0) m at.2 in
-      let left = chain-some _ (machine.answered x (number_of place) did.0) m did.2 in
-      let makes = map-some _ (with_made machine x did.0 (set_process p left.0 (set_holding place (after did.0 at.0) s))) m left.2 in
-      let same : did.0 ≡ a = some-injective (ap (λ (x : Moved P). x.done) makes.2 ∙ done) in
-      done-suits machine s p x is IsSoundWithin looks sound.0 sound.1 place want.0 at.0 a want.1 there.0 at.1 (did.1 ∙ ap (λ x. Some x) same)
+      let parts = action-parts machine p place s m e in
+      let here : parts.state ≡ x = some-injective (sym parts.is ∙ is) in
+      let same : parts.did.0 ≡ a = some-injective (ap (λ (x : Moved P). x.done) parts.moved ∙ done) in
+      done-suits machine s p x is IsSoundWithin looks sound.0 sound.1 place parts.want.0 parts.at.0 a (ap machine.wanted (sym here) ∙ parts.want.1) parts.there parts.at.1 (parts.did.1 ∙ ap (λ x. Some x) same)
 
   pub sound-states-suit : SoundStatesSuit machine IsSoundWithin
   sound-states-suit (steps p) s sound = tt

@@ -146,7 +146,7 @@ numbered-process zero xs x e = none-not_some e
 numbered-process {X} (suc i) xs x e = let p : 1 + i ≡ suc i = omega arith in subst (λ n. IsIn {X = ℕ × X} (n, x) (numbered 1 xs)) p (numbered-IsIn xs 1 i x e)
 
 -- the number of an open call
-is-some_of : (n : ℕ) (o : Option ℕ) → any_pass (nat_eq n) (list_of (λ k. k ∷ []) o) ≡ true → o ≡ Some n
+pub is-some_of : (n : ℕ) (o : Option ℕ) → any_pass (nat_eq n) (list_of (λ k. k ∷ []) o) ≡ true → o ≡ Some n
 is-some_of n None e = absurd (false≢true e)
 is-some_of n (Some k) e = ap (λ i. Some i) (sym (eqb-true n k (sym (or-false (nat_eq n k)) ∙ e)))
 

@@ -1,5 +1,5 @@
 -- Each event of the system keeps the ledger.
-use Rattle.std.proofs.Common.{◌≡◌, ℕ, zero, suc, ◌+◌, List, [], ◌∷◌, ◌++◌, Bool, true, false, cond, Option, Some, None, option_map, option_and_then, slice_get, slice_set, refl, sym, ap, subst, arith, map}
+use Rattle.std.proofs.Common.{◌≡◌, ℕ, zero, suc, ◌+◌, List, [], ◌∷◌, ◌++◌, Bool, true, false, cond, Option, Some, None, option_map, slice_get, slice_set, refl, sym, ap, subst, arith, map}
 use Rattle.herm_model.specs.Lists.{list_of, total}
 use Rattle.herm_model.proofs.Lists.{total-append}
 use Rattle.herm_model.proofs.Renaming.{map-append}
@@ -141,17 +141,6 @@ module _ {P : Type 0} (w : Name → ℕ) (machine : Machine Name P) (x : P) wher
 pub cond-some : {X : Type 0} (b : Bool) (o : Option X) (y : X) → cond b o None ≡ Some y → o ≡ Some y
 cond-some true o y e = e
 cond-some false o y e = none-not_some e
-
--- a process that is there
-pub record IsThere {P X : Type 0} (s : System P) (p : ℕ) (f : P → Option X) (y : X) : Type 0 where
-  pub state : P
-  pub is : numbered_from_one p s.processes ≡ Some state
-  pub does : f state ≡ Some y
-
-pub process-some : {P X : Type 0} (s : System P) (p : ℕ) (f : P → Option X) (y : X) → option_and_then f (numbered_from_one p s.processes) ≡ Some y → IsThere s p f y
-process-some s p f y e =
-    let a = chain-some f (numbered_from_one p s.processes) y e in
-    record { state = a.0; is = a.1; does = a.2 }
 
 -- what each event leaves, by one weight
 module _ {P : Type 0} (machine : Machine Name P) (w : Name → ℕ) where

@@ -1,6 +1,6 @@
 -- The values of an accepted process are sound as it begins.
-use Rattle.std.proofs.Common.{◌≡◌, ℕ, zero, suc, List, [], ◌∷◌, length, Bool, true, false, Some, None, refl, sym, ap, ◌∙◌, subst, arith}
-use Rattle.std.specs.Prelude.{pred, slice_get, IsTrue, is_some}
+use Rattle.std.proofs.Common.{◌≡◌, ℕ, zero, suc, List, [], ◌∷◌, length, Bool, true, false, Some, refl, sym, ap, ◌∙◌, subst, arith}
+use Rattle.std.specs.Prelude.{pred, IsTrue}
 use mathlib.Core.Bool.{false≢true}
 use Rattle.herm_model.specs.Paths.{Path, Fact, init, same_path}
 use Rattle.herm_model.specs.Nodes.{entry_of}
@@ -17,6 +17,7 @@ use Rattle.herm_forms.specs.Modules.{module_of}
 use Rattle.herm_source.specs.Arriving.{BeginningsAreSound}
 use Rattle.herm_forms.proofs.Arrived.{edges-exact}
 use Rattle.herm_forms.proofs.Arrivals.{closed-at}
+use Rattle.herm_source.proofs.OpeningFrame.{opening_frame}
 
 -- the values of a process that begins
 module _ (port : Cell Name) (plain : opens (kind_of port) ≡ false) (n : ℕ) where
@@ -52,7 +53,7 @@ beginnings-sound types p labels exact deep t more are code number port typed pla
     subst (λ ts. HaveTypes types ts variables) (sym are) (subst (λ n. HaveTypes types (t ∷ more) (part port (gaps n))) (sym one_less) (typed, gaps-typed Name types more)) in
     let reached : IsReached (flow_of types p) (entry_of p) = ([], held_at_start (init (0 ∷ [])), refl) in
     edges-exact c (entry_of p)
-    (record { number = number; variables = variables; loops = []; work = []; call = None; calls = 0; steps = 0; actions = 0; serial = 0; finalised = [] })
+    (opening_frame c number port)
     held_at_start deep (record { types = fits; facts = first_exact port plain (pred (length p.variables)) })
     (held-first (entry_of p) reached refl)
     (closed-at types p labels exact (entry_of p) reached)

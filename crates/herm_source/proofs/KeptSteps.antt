@@ -4,20 +4,21 @@ use Rattle.std.specs.Prelude.{pred, option_map, option_and_then, ⊤}
 use mathlib.Core.Bool.{false≢true}
 use Rattle.herm_model.specs.Nodes.{Node}
 use Rattle.herm_model.specs.Targets.{Target}
-use Rattle.herm_model.specs.Values.{Kind, kind_of, a_callmessage, an_inport, Cell, cell, gaps, part}
+use Rattle.herm_model.specs.Values.{Kind, kind_of, a_callmessage, an_inport, Cell, cell}
 use Rattle.herm_model.proofs.Options.{some-injective, none-not_some}
 use Rattle.herm_forms.specs.Frames.{Name, Frame, Completion, goes, stays, stuck, counted_step, counted_action}
 use Rattle.herm_forms.specs.Exchanges
 use Rattle.herm_journal.specs.Messages.{CellWant, CellAction}
-use Rattle.herm_forms.specs.Callmessages.{Composed, compose}
 use Rattle.herm_forms.specs.EdgeFinalising.{arrive}
 use Rattle.herm_forms.specs.Modules.{Module}
 use Rattle.herm_source.specs.States.{State, begin, Next, an_item, a_reply, a_statement, nothing, node_at, call_or_statement, item_or, next_of, state_after, wanted_next, step_next, settle_next}
 use Rattle.herm_forms.specs.Acts.{is_action, act, wants, settle, settle_reply, leads_to}
 use Rattle.herm_forms.specs.Weights.{weight_made}
-use Rattle.herm_forms.proofs.Loads.{load, load_all, load_coming, load_going, load_kept, none, names-weigh, names-kept, names-coming, names-going}
+use Rattle.herm_model.proofs.Loads.{load, load_all, weightless}
+use Rattle.herm_forms.proofs.Loads.{load_coming, load_going, load_kept, names-weigh, names-kept, names-coming, names-going}
 use Rattle.herm_forms.proofs.Copies.{CopiesKinds, all-copies}
-use Rattle.herm_forms.proofs.Weights.{SparesPlain, Spares}
+use Rattle.herm_model.proofs.Loads.{SparesPlain}
+use Rattle.herm_forms.proofs.Weights.{Spares}
 use Rattle.herm_source.specs.laws.LedgerLaws.{BeginningsKeep, LocalStepsKeep, AnswersKeep}
 use Rattle.herm_forms.proofs.Weights.{weigh-gaps}
 use Rattle.herm_forms.proofs.Balance.{Balanced, AllBalanced}
@@ -26,6 +27,7 @@ use Rattle.herm_forms.proofs.Counting.{recount}
 use Rattle.herm_forms.proofs.KeptForms.{balanced-arrive, kept-act, kept-settle, settle-reply}
 use Rattle.herm_forms.proofs.Begun.{begun, over, none-begun, none-over}
 use Rattle.herm_model.specs.examples.TableExamples.{k}
+use Rattle.herm_source.proofs.OpeningFrame.{opening_frame}
 
 -- what the next thing copies
 abbrev pub CopiesNext : {N : Type 0} → (Kind → Type 0) → Module → Frame N → Next N → Type 0
@@ -124,27 +126,27 @@ module _ {N : Type 0} (w : N → ℕ) (extra : Kind → ℕ) (name : Name → N)
 module _ {N : Type 0} (w : N → ℕ) (extra : Kind → ℕ) (name : Name → N) (spares : SparesPlain extra) where
   pub balanced-begin : (c : Module) (code number : ℕ) (port : Cell N) → Balanced w extra name 0 (load w extra port) 0 (begin c code number port).frame
   balanced-begin c code number port =
-      let first : Frame N = record { number = number; variables = part port (gaps (pred (length c.variables))); loops = []; work = []; call = None; calls = 0; steps = 0; actions = 0; serial = 0; finalised = [] } in
+      let first : Frame N = opening_frame c number port in
       balanced-arrive w extra name spares 0 (load w extra port) 0 c c.entry first (omega (arith, weigh-gaps w extra (pred (length c.variables))))
 
 -- By names alone this is the ledger's equation.
 module _ (w : Name → ℕ) (name : Name → Name) where
-  spared : SparesPlain (none w)
+  spared : SparesPlain weightless
   spared k is = refl
 
-  nothing-copied : (c : Module) (b : Frame Name) (next : Next Name) → CopiesNext (Spares (none w)) c b next
-  nothing-copied c b (a_statement n) = all-copies (Spares (none w)) (λ k. refl) c n.form b.variables
+  nothing-copied : (c : Module) (b : Frame Name) (next : Next Name) → CopiesNext (Spares weightless) c b next
+  nothing-copied c b (a_statement n) = all-copies (Spares weightless) (λ k. refl) c n.form b.variables
   nothing-copied c b (an_item item work) = tt
   nothing-copied c b (a_reply call n) = tt
   nothing-copied c b nothing = tt
 
-  names-begun : (c : Module) (b : Frame Name) (action : CellAction Name) (next : Next Name) → begun_next (none w) name c b action next ≡ 0
+  names-begun : (c : Module) (b : Frame Name) (action : CellAction Name) (next : Next Name) → begun_next weightless name c b action next ≡ 0
   names-begun c b action (a_statement n) = none-begun w name c n.form b action
   names-begun c b action (an_item item work) = refl
   names-begun c b action (a_reply call n) = refl
   names-begun c b action nothing = refl
 
-  names-over : (c : Module) (b : Frame Name) (action : CellAction Name) (next : Next Name) → over_next (none w) c b action next ≡ 0
+  names-over : (c : Module) (b : Frame Name) (action : CellAction Name) (next : Next Name) → over_next weightless c b action next ≡ 0
   names-over c b action (a_statement n) = none-over w c n.form b action
   names-over c b action (an_item item work) = refl
   names-over c b action (a_reply call n) = refl
@@ -152,16 +154,16 @@ module _ (w : Name → ℕ) (name : Name → Name) where
 
 pub beginnings-keep : BeginningsKeep
 beginnings-keep w name c code number port =
-    let e = balanced-begin w (none w) name (spared w name) c code number port in omega (arith, names-weigh w port, names-kept w (begin c code number port).frame)
+    let e = balanced-begin w weightless name (spared w name) c code number port in omega (arith, names-weigh w port, names-kept w (begin c code number port).frame)
 
 pub local-steps-keep : LocalStepsKeep
 local-steps-keep w name c s t is =
-    let e = balanced-step_next w (none w) name (spared w name) (weight_made w name s.frame) (load_kept w (none w) s.frame) c s t (next_of c s) (nothing-copied w name c s.frame (next_of c s)) (omega arith) is in
+    let e = balanced-step_next w weightless name (spared w name) (weight_made w name s.frame) (load_kept w weightless s.frame) c s t (next_of c s) (nothing-copied w name c s.frame (next_of c s)) (omega arith) is in
     omega (arith, names-kept w s.frame, names-kept w t.frame)
 
 pub answers-keep : AnswersKeep
 answers-keep w name c s t want at action is is' =
-    let e = balanced-settle_next w (none w) name (spared w name) c s t want at action (next_of c s) refl is is' (nothing-copied w name c s.frame (next_of c s)) in
+    let e = balanced-settle_next w weightless name (spared w name) c s t want at action (next_of c s) refl is is' (nothing-copied w name c s.frame (next_of c s)) in
     omega (
       arith,
       names-kept w s.frame,

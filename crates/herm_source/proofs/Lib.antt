@@ -1,5 +1,6 @@
 pub mod KeptSteps
 pub mod Numbers
+pub mod OpeningFrame
 pub mod OutcomesArrive
 pub mod BeginningsSound
 pub mod known

@@ -1,21 +1,19 @@
 -- A process keeps its number and its module along local steps and answers.
-use Rattle.std.proofs.Common.{◌≡◌, ℕ, [], Bool, true, false, cond, Option, Some, None, option_map, option_and_then, refl, sym, ap, ◌∙◌}
-use Rattle.std.specs.Prelude.{pred, length}
+use Rattle.std.proofs.Common.{◌≡◌, ℕ, Bool, true, false, cond, Option, Some, None, option_map, option_and_then, refl, sym, ap, ◌∙◌}
 use Rattle.herm_model.specs.Nodes.{Node}
 use Rattle.herm_model.specs.Targets.{Target}
-use Rattle.herm_model.specs.Values.{gaps, Cell, part}
+use Rattle.herm_model.specs.Values.{Cell}
 use Rattle.herm_model.proofs.Options.{none-not_some, some-injective, map-some}
 use Rattle.herm_forms.specs.Frames.{Name, Frame, Completion, goes, stays, stuck, counted_step, counted_action}
 use Rattle.herm_forms.specs.Exchanges
 use Rattle.herm_journal.specs.Messages.{CellAction}
-use Rattle.herm_forms.specs.Exchanges.{receive_at, place_of_port, ports_at}
-use Rattle.herm_forms.specs.Callmessages.{Composed, compose, assemble, with_message}
 use Rattle.herm_forms.specs.EdgeFinalising.{arrive}
 use Rattle.herm_forms.specs.Modules.{Module}
 use Rattle.herm_source.specs.States.{State, Next, an_item, a_reply, a_statement, nothing, next_of, state_after, step_next, settle_next, begin, local_step, answered}
 use Rattle.herm_forms.specs.Acts.{is_action, act, settle, settle_reply, leads_to}
 use Rattle.herm_forms.proofs.KeptBodies.{went, stayed, never}
 use Rattle.herm_forms.proofs.KeptNumbers.{Is, All, is-arrive, all-act, all-work, all-settle, all-settle_reply}
+use Rattle.herm_source.proofs.OpeningFrame.{opening_frame}
 
 module _ {N : Type 0} (name : Name → N) (n : ℕ) where
   -- the state behind a result
@@ -55,16 +53,5 @@ answer-stays name c s t at a is = is-settle_next name s.frame.number c s t at a 
 pub begin-number : {N : Type 0} (name : Name → N) (c : Module) (code number : ℕ) (port : Cell N) → (begin c code number port).frame.number ≡ number
 begin-number name c code number port =
     is-arrive name number c c.entry
-    (record {
-      number = number;
-      variables = part port (gaps (pred (length c.variables)));
-      loops = [];
-      work = [];
-      call = None;
-      calls = 0;
-      steps = 0;
-      actions = 0;
-      serial = 0;
-      finalised = [];
-    })
+    (opening_frame c number port)
     refl

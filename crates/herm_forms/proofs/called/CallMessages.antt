@@ -33,7 +33,7 @@ use Rattle.herm_forms.proofs.forms.Assignments.{copied-full}
 use Rattle.herm_forms.proofs.forms.Moves.{nothing_after}
 use Rattle.herm_forms.proofs.forms.ToldFacts.{in-closed}
 use Rattle.herm_forms.proofs.forms.SetTargets.{full-exact}
-use Rattle.herm_forms.proofs.forms.SentMessages.{declared-is}
+use Rattle.herm_forms.proofs.forms.SentMessages.{declared-is, message_or}
 use Rattle.herm_forms.proofs.called.OpenCalls.{arguments-split}
 use Rattle.herm_forms.proofs.called.TakenApart.{apart-full}
 
@@ -195,10 +195,6 @@ pub put-composed : (port : Option ℕ) (x : Option (Composed Name)) (n : ℕ) (m
 put-composed None x n message e = none-not_some e
 put-composed (Some p) None n message e = none-not_some e
 put-composed (Some p) (Some y) n message e = (y, refl, ap (message_or y.message) (some-injective e))
-  where
-    message_or : Cell Name → CellWant Name → Cell Name
-    message_or m (to_put n message) = message
-    message_or m _ = m
 
 pub given-mode : (m : Mode) → is_inout m ≡ true → (is_given m ≡ true) ⊎ (is_given m ≡ true)
 given-mode by_in e = inl refl

@@ -13,6 +13,7 @@ use Rattle.herm_forms.specs.Modules.{Module}
 use Rattle.herm_forms.specs.laws.EdgeLaws.{AreSound, without}
 use Rattle.herm_forms.proofs.SetValues.{clearing-sound}
 use Rattle.herm_forms.proofs.forms.PlainForms.{same_facts}
+use Rattle.herm_model.proofs.Keys.{same-tests}
 
 -- at or below one of the paths
 abbrev pub is_under : List Path → Path → Bool
@@ -49,13 +50,8 @@ more-under paths others q under h =
     let y = under-of others x.0 (under x.0 x.1) in
     of-under others q y.0 y.1 (below-trans y.0 x.0 q y.2 x.2)
 
-same-truth : (a b : Bool) → (IsTrue a → IsTrue b) → (IsTrue b → IsTrue a) → a ≡ b
-same-truth true b on back = sym (on refl)
-same-truth false true on back = back refl
-same-truth false false on back = refl
-
 pub same-under : (paths others : List Path) (q : Path) → AreUnder others paths → AreUnder paths others → is_under paths q ≡ is_under others q
-same-under paths others q there back = same-truth (is_under paths q) (is_under others q) (more-under paths others q there) (more-under others paths q back)
+same-under paths others q there back = same-tests (is_under paths q) (is_under others q) (more-under paths others q there) (more-under others paths q back)
 
 less-twice : (a b h : Bool) → cond b false (not a && h) ≡ cond (a || b) false h
 less-twice true true h = refl

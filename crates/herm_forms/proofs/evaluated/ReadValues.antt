@@ -10,7 +10,7 @@ use Rattle.herm_model.specs.Facts.{facts_from, facts_to}
 use Rattle.herm_model.specs.TypedExpressions.{is_out_mode, is_out_parameter, is_out_part, enters_out, passes_out}
 use Rattle.herm_model.specs.Values.{a_scalar, a_record, a_variant, a_table, a_polymorph, a_callmessage, an_inport, an_outport, Cell, cell, Parts, no_parts, part, part_at, inside, readable_of, behind_gaps, cell_at, read_at, has_value}
 use Rattle.herm_model.specs.FactsOfValues.{is_component, satisfies}
-use Rattle.herm_model.specs.Typed.{Degree, IsOf, partly, HasType, HaveTypes, IsFull}
+use Rattle.herm_model.specs.Typed.{Degree, IsOf, whole, partly, HasType, HaveTypes, IsFull}
 use Rattle.herm_model.proofs.Lists.{in-append_right, not_true}
 use Rattle.herm_model.proofs.FactTests.{at-numbered, got-IsIn}
 use Rattle.herm_model.proofs.Steps.{within-known}
@@ -20,7 +20,9 @@ use Rattle.herm_model.proofs.Typing.{full-typed}
 use Rattle.herm_forms.proofs.TypedReading.{typed-part}
 use Rattle.herm_forms.proofs.forms.ReadTypes.{behind-there, variant-component, readable-part}
 use Rattle.herm_forms.proofs.forms.ToldFacts.{there-read, read-on}
-use Rattle.herm_forms.proofs.evaluated.CopiedValues.{part-deep, nothing-below, WholePart, PartRead, whole-part, part-read}
+use Rattle.herm_forms.proofs.evaluated.CopiedValues.{part-deep}
+use Rattle.herm_model.proofs.TypesBelow.{type_below-none}
+use Rattle.herm_model.proofs.TypedPaths.{or-falses}
 
 -- a parameter of another mode is filled
 first-filled : (m : Mode) (k u : ℕ) (xs : List (ℕ × ℕ)) → is_out_mode m ≡ false → IsIn (k, u) (if_filled m (k, u) xs)
@@ -88,18 +90,10 @@ module _ (table : TypeTable) where
       pub typed : HasType table v part'
       pub full' : behind ≡ true → IsFull table v part'
 
-    whole-step : (t j v : ℕ) (c d : Cell N) (behind : Bool) → part_of table (Some t) j ≡ Some v → part_at j (readable_of (Some c)) ≡ Some d → WholePart N table t j d → Step t j v c behind
-    whole-step t j v c d behind e there x =
-        let whole' : IsFull table v d = subst (λ v. IsFull table v d) (some-injective (sym x.there ∙ e)) x.full' in
+    whole-step : (t j v : ℕ) (c d : Cell N) (behind : Bool) → part_of table (Some t) j ≡ Some v → part_at j (readable_of (Some c)) ≡ Some d → (type : ℕ) → part_of table (Some t) j ≡ Some type → IsFull table type d → Step t j v c behind
+    whole-step t j v c d behind e there type at h =
+        let whole' : IsFull table v d = subst (λ v. IsFull table v d) (some-injective (sym at ∙ e)) h in
         record { part' = d; there = there; typed = full-typed table v d whole'; full' = λ b. whole' }
-
-    variant-step : (t j v : ℕ) (c d : Cell N) (behind : Bool) → part_of table (Some t) j ≡ Some v → is_variant table (Some t) ≡ true → part_at j (readable_of (Some c)) ≡ Some d → PartRead N table t j d → Step t j v c behind
-    variant-step t j v c d behind e is there (inl x) = whole-step t j v c d behind e there x
-    variant-step t j v c d behind e is there (inr x) = absurd (true≢false (sym is ∙ x.0))
-
-  not-either : (a b : Bool) → a || b ≡ false → (a ≡ false) × (b ≡ false)
-  not-either true b h = absurd (true≢false h)
-  not-either false b h = (refl, h)
 
   first-fact : (p : List ℕ) (at : Path) (t : Option ℕ) (w : Bool) → w ≡ false → IsIn (init at) (facts_from table at t w p)
   first-fact [] at t true e = absurd (true≢false e)
@@ -123,16 +117,18 @@ module _ (table : TypeTable) where
       direct-step : (d : Cell N) → read_at ((i ∷ q) ++ j ∷ []) ps ≡ Some d → Step t j v c false
       direct-step d h =
           let there : part_at j (readable_of (Some c)) ≡ Some d = ap (λ o. part_at j (readable_of o)) (sym at) ∙ sym (read-on N q i j [] ps) ∙ h in
-          let x = readable-part N table t j c d typed there in
+          let x = readable-part N table partly t j c d typed there in
           record { part' = d; there = there; typed = subst (λ v. HasType table v d) (some-injective (sym x.there ∙ next)) x.typed; full' = λ b. absurd (true≢false (sym b)) }
 
       step-on : (w b : Bool) → is_variant table (Some t) ≡ b → (w ≡ true → IsFull table t c) → w && is_out_part table (Some t) j ≡ false → (b ≡ true → IsTrue (satisfies ps (case (i ∷ q) j))) → (w || b ≡ false → IsTrue (satisfies ps (init ((i ∷ q) ++ j ∷ [])))) → Step t j v c (w || b)
       step-on w true is full' out known here =
           let d = component-there partly t j c typed (ap (λ o. is_component o j) (sym at) ∙ known refl) in
-          variant-step t j v c d.0 (w || true) next is d.1 (part-read N table t j c d.0 typed d.1)
+          let x = readable-part N table partly t j c d.0 typed d.1 in
+          whole-step t j v c d.0 (w || true) next d.1 x.type x.there (x.component is).1
       step-on true false is full' out known here =
           let d = part-there t j v c (full' refl) deep next is out in
-          whole-step t j v c d.0 true next d.1 (whole-part N table t j c d.0 (full' refl) d.1)
+          let x = readable-part N table whole t j c d.0 (full' refl) d.1 in
+          whole-step t j v c d.0 true next d.1 x.type x.there x.typed
       step-on false false is full' out known here = let d = cell-there i (q ++ j ∷ []) (here refl) in direct-step d.0 d.1
 
     read-way : (p : List ℕ) (i : ℕ) (q : List ℕ) (t u : ℕ) (w : Bool) (c : Cell N) → read_at (i ∷ q) ps ≡ Some c → HasType table t c → (w ≡ true → IsFull table t c) → IsTrue (is_within_depth greatest_depth table t) → type_below table (Some t) p ≡ Some u → enters_out table w (Some t) p ≡ false
@@ -157,12 +153,12 @@ module _ (table : TypeTable) where
         told-later f h = told f (in-append_right f (cond w [] (init (i ∷ q) ∷ [])) (cond b (case (i ∷ q) j ∷ []) [] ++ later) (in-append_right f (cond b (case (i ∷ q) j ∷ []) []) later h))
 
         outs : (w && is_out_part table (Some t) j ≡ false) × (enters_out table (w || b) (part_of table (Some t) j) p ≡ false)
-        outs = not-either (w && is_out_part table (Some t) j) (enters_out table (w || b) (part_of table (Some t) j) p) out
+        outs = or-falses (w && is_out_part table (Some t) j) (enters_out table (w || b) (part_of table (Some t) j) p) out
 
         by : (o : Option ℕ) → part_of table (Some t) j ≡ o → type_below table o p ≡ Some u
             → ((i : ℕ) (q : List ℕ) (t u : ℕ) (w : Bool) (c : Cell N) → read_at (i ∷ q) ps ≡ Some c → HasType table t c → (w ≡ true → IsFull table t c) → IsTrue (is_within_depth greatest_depth table t) → type_below table (Some t) p ≡ Some u → enters_out table w (Some t) p ≡ false
             → Tells (facts_from table (i ∷ q) (Some t) w p) → (e : Cell N) × (read_at ((i ∷ q) ++ p) ps ≡ Some e)) → (e : Cell N) × (read_at ((i ∷ q) ++ j ∷ p) ps ≡ Some e)
-        by None next type again = none-not_some (sym (nothing-below table p) ∙ type)
+        by None next type again = none-not_some (sym (type_below-none table p) ∙ type)
         by (Some v) next type again =
             let deep' = part-deep table greatest_depth t j v deep next in
             let s = step-on i q t j v c at typed next deep' w b refl full' outs.0 told-case (λ e. told-later (init ((i ∷ q) ++ j ∷ [])) (first-fact p ((i ∷ q) ++ j ∷ []) (part_of table (Some t) j) (w || b) e)) in
@@ -176,7 +172,7 @@ module _ (table : TypeTable) where
     read-there variables deep typed i q u type out told = by (slice_get variables i) refl type
       where
         by : (o : Option ℕ) → slice_get variables i ≡ o → type_below table o q ≡ Some u → (e : Cell N) × (read_at (i ∷ q) ps ≡ Some e)
-        by None at type = none-not_some (sym (nothing-below table q) ∙ type)
+        by None at type = none-not_some (sym (type_below-none table q) ∙ type)
         by (Some t) at type =
             let d = cell-there i [] (told (init (i ∷ [])) (first-fact q (i ∷ []) (slice_get variables i) false refl)) in
             let x = typed-part N table variables ps i d.0 typed d.1 in

@@ -11,34 +11,15 @@ use Rattle.herm_model.specs.Typed.{Degree, whole, partly, Content, a_value, noth
 use Rattle.herm_model.proofs.Lists.{slice_get-map}
 use Rattle.herm_model.proofs.Options.{map-some, some-injective}
 use Rattle.herm_model.proofs.FullFacts.{type_of}
-use Rattle.herm_model.proofs.Places.{cell_below, cell-below, read_below, read-below, part_at-change_same, part_at-change_other}
+use Rattle.herm_model.proofs.Places.{cell_below, cell-below, read_below, read-below, part_at-change_same, part_at-change_other, change_behind_same}
 use Rattle.herm_forms.specs.Frames.{Name}
 use Rattle.herm_forms.specs.Forms.{with_parts}
 use Rattle.herm_forms.specs.Modules.{Module}
 use Rattle.herm_forms.specs.laws.EdgeLaws.{AreSound}
 use Rattle.herm_forms.proofs.forms.ReadTypes.{behind-there, variant-component}
+use Rattle.herm_model.proofs.ChangesThrough.{behind_other, changed, from-behind}
 
 module _ {N : Type 0} where
-  -- a cell changed at the end of these steps into it
-  abbrev pub changed : Path → (Cell N → Cell N) → Cell N → Cell N
-  changed [] g c = g c
-  changed (k ∷ r) g c = change_readable (change_from (k ∷ r) g) c
-
-  pub from-changed : (j : ℕ) (r : Path) (g : Cell N → Cell N) (i : ℕ) (ps : Parts N) → change_from (j ∷ r) g i ps ≡ change_behind i j (changed r g) ps
-  from-changed j [] g i ps = refl
-  from-changed j (k ∷ r) g i ps = refl
-
-  behind-same : (m j : ℕ) (g : Cell N → Cell N) (ps : Parts N) → part_at j (behind_gaps m (change_behind m j g ps)) ≡ option_map g (part_at j (behind_gaps m ps))
-  behind-same zero j g ps = part_at-change_same j g ps
-  behind-same (suc m) zero g ps = refl
-  behind-same (suc m) (suc j) g ps = behind-same m j g ps
-
-  behind-other : (m j i : ℕ) (g : Cell N → Cell N) (ps : Parts N) → j ≢ i → part_at i (behind_gaps m (change_behind m j g ps)) ≡ part_at i (behind_gaps m ps)
-  behind-other zero j i g ps d = part_at-change_other j i g ps d
-  behind-other (suc m) zero i g ps d = refl
-  behind-other (suc m) (suc j) zero g ps d = refl
-  behind-other (suc m) (suc j) (suc i) g ps d = behind-other m j i g ps (λ e. d (ap suc e))
-
   -- two cells with the same facts
   pub record Alike (c d : Cell N) : Type 0 where
     pub has : (p : Path) → has_value (inside (Some c)) p ≡ has_value (inside (Some d)) p
@@ -76,8 +57,8 @@ module _ {N : Type 0} where
         by : (b : Bool) → nat_eq j i ≡ b → is_component (read_below r (part_at i (behind_gaps m (change_behind m j g ps)))) k ≡ is_component (read_below r (part_at i (behind_gaps m ps))) k
         by true e =
             subst (λ i. is_component (read_below r (part_at i (behind_gaps m (change_behind m j g ps)))) k ≡ is_component (read_below r (part_at i (behind_gaps m ps))) k) (eqb-true j i e)
-            (ap (λ o. is_component (read_below r o) k) (behind-same m j g ps) ∙ option-reads r k (part_at j (behind_gaps m ps)) alike)
-        by false e = ap (λ o. is_component (read_below r o) k) (behind-other m j i g ps (λ s. true≢false (sym (eq-eqb j i s) ∙ e)))
+            (ap (λ o. is_component (read_below r o) k) (change_behind_same m j g ps) ∙ option-reads r k (part_at j (behind_gaps m ps)) alike)
+        by false e = ap (λ o. is_component (read_below r o) k) (behind_other m j i g ps (λ s. true≢false (sym (eq-eqb j i s) ∙ e)))
 
   -- a cell changed inside has the same facts, where what is changed has
   changed-alike : (r : Path) (g : Cell N → Cell N) (d : Cell N) → ((e : Cell N) → read_below r (Some d) ≡ Some e → Alike (g e) e) → Alike (changed r g d) d
@@ -92,19 +73,19 @@ module _ {N : Type 0} where
 
       by : (d : Cell N) → ((e : Cell N) → read_at (j ∷ r) (readable_of (Some d)) ≡ Some e → Alike (g e) e) → Again → Alike (change_readable (change_from (j ∷ r) g) d) d
       by (cell n a_record qs) keep again = record {
-        has = λ p. ap (λ qs. has_value qs p) (from-changed j r g 0 qs) ∙ same-has (changed r g) j qs (inner 0 qs keep again) p;
+        has = λ p. ap (λ qs. has_value qs p) (from-behind j r g 0 qs) ∙ same-has (changed r g) j qs (inner 0 qs keep again) p;
         component = λ k. refl;
-        reads = λ p k. ap (λ qs. is_component (read_at p qs) k) (from-changed j r g 0 qs) ∙ same-reads (changed r g) 0 j qs (inner 0 qs keep again) p k;
+        reads = λ p k. ap (λ qs. is_component (read_at p qs) k) (from-behind j r g 0 qs) ∙ same-reads (changed r g) 0 j qs (inner 0 qs keep again) p k;
       }
       by (cell n (a_callmessage x y) qs) keep again = record {
-        has = λ p. ap (λ qs. has_value qs p) (from-changed j r g 0 qs) ∙ same-has (changed r g) j qs (inner 0 qs keep again) p;
+        has = λ p. ap (λ qs. has_value qs p) (from-behind j r g 0 qs) ∙ same-has (changed r g) j qs (inner 0 qs keep again) p;
         component = λ k. refl;
-        reads = λ p k. ap (λ qs. is_component (read_at p qs) k) (from-changed j r g 0 qs) ∙ same-reads (changed r g) 0 j qs (inner 0 qs keep again) p k;
+        reads = λ p k. ap (λ qs. is_component (read_at p qs) k) (from-behind j r g 0 qs) ∙ same-reads (changed r g) 0 j qs (inner 0 qs keep again) p k;
       }
       by (cell n (a_variant m) qs) keep again = record {
         has = λ p. refl;
         component = λ k. refl;
-        reads = λ p k. ap (λ qs. is_component (read_at p (behind_gaps m qs)) k) (from-changed j r g m qs) ∙ same-reads (changed r g) m j qs (inner m qs keep again) p k;
+        reads = λ p k. ap (λ qs. is_component (read_at p (behind_gaps m qs)) k) (from-behind j r g m qs) ∙ same-reads (changed r g) m j qs (inner m qs keep again) p k;
       }
       by (cell n (a_scalar x) qs) keep again = self-alike (cell n (a_scalar x) qs)
       by (cell n a_table qs) keep again = self-alike (cell n a_table qs)
@@ -200,7 +181,7 @@ module _ (N : Type 0) (table : TypeTable) where
 
       open_parts : (n : N) (k : Kind) (qs : Parts N) → Inner d t k → Fits table (layout_at d table t k) qs → ((d : Degree) (e : Cell N) → read_at (j ∷ r) qs ≡ Some e → IsOf d table u e → IsOf d table u (g e)) → Again → IsOf d table t (cell n k (change_from (j ∷ r) g 0 qs))
       open_parts n k qs inner fits keep again = (
-        subst (λ l. Fits table l (change_from (j ∷ r) g 0 qs)) (sym inner.is) (subst (Fits table (exactly inner.contents)) (sym (from-changed j r g 0 qs))
+        subst (λ l. Fits table l (change_from (j ∷ r) g 0 qs)) (sym inner.is) (subst (Fits table (exactly inner.contents)) (sym (from-behind j r g 0 qs))
             (change-fits (changed r g) inner.contents j qs (subst (λ l. Fits table l qs) inner.is fits)
             (λ d' w e at here typed. again d' w u e typed (ap (λ o. type_below table o r) (sym (inner.types j d' w at)) ∙ type) (λ d x k. keep d x (read-below j r qs ∙ ap (read_below r) here ∙ k))))),
         inner.bounded (change_from (j ∷ r) g 0 qs),
@@ -215,7 +196,7 @@ module _ (N : Type 0) (table : TypeTable) where
           changed-one (changed r g) m j x.type x.content x.whole'
           (λ e. again whole x.type u x.content x.whole' (ap (λ o. type_below table o r) (sym (part-is t j (cases x.types) x.found ∙ ap (slice_get x.types) e ∙ x.at)) ∙ type)
           (λ d y k. keep d y (read-below j r (behind_gaps m qs) ∙ ap (read_below r) (ap (λ qs. part_at j (behind_gaps m qs)) x.alone ∙ ap (λ j. part_at j (behind_gaps m (part x.content no_parts))) e ∙ behind-there m x.content) ∙ k))) in
-          (subst (λ l. Fits table l (change_from (j ∷ r) g m qs)) (sym is) (subst (Fits table (exactly (a_value whole x.type ∷ []))) (sym (from-changed j r g m qs ∙ ap (change_behind m j (changed r g)) x.alone)) one), bounds-are t (cases x.types) (change_from (j ∷ r) g m qs) x.found)
+          (subst (λ l. Fits table l (change_from (j ∷ r) g m qs)) (sym is) (subst (Fits table (exactly (a_value whole x.type ∷ []))) (sym (from-behind j r g m qs ∙ ap (change_behind m j (changed r g)) x.alone)) one), bounds-are t (cases x.types) (change_from (j ∷ r) g m qs) x.found)
 
       by : (c : Cell N) → IsOf d table t c → ((d : Degree) (e : Cell N) → read_at (j ∷ r) (readable_of (Some c)) ≡ Some e → IsOf d table u e → IsOf d table u (g e)) → Again → IsOf d table t (change_readable (change_from (j ∷ r) g) c)
       by (cell n a_record qs) h keep again = open_parts n a_record qs (by_shape d t a_record qs (λ s e h. inner-record d t qs s e h) (slice_get table t) refl h.0) h.0 keep again
@@ -243,7 +224,7 @@ change-sound c has ps sound i q u row key type shape f keep n rs at = record {
 }
   where
     is : change_at (i ∷ q) (with_parts f) ps ≡ change_part i (changed q (with_parts f)) ps
-    is = from-changed i q (with_parts f) 0 ps
+    is = from-behind i q (with_parts f) 0 ps
 
     below-is : (d : Cell Name) → part_at i ps ≡ Some d → (e : Cell Name) → read_below q (Some d) ≡ Some e → cell n a_table rs ≡ e
     below-is d here e h = some-injective (sym at ∙ read-below i q ps ∙ ap (read_below q) here ∙ h)

@@ -50,7 +50,7 @@ case-makes c i q n k ps = record { told = told; values = λ qs place typed r h. 
     value [] h = inl (ap init (append-nil (i ∷ q)))
     value (j ∷ r) h = absurd (false≢true (sym (nothing-there Name (j ∷ r)) ∙ h))
 
-gone-cond : (m x y h : Bool) → cond m true (not x && (not y && h)) ≡ cond m true (cond (y || (x || false)) false h)
+pub gone-cond : (m x y h : Bool) → cond m true (not x && (not y && h)) ≡ cond m true (cond (y || (x || false)) false h)
 gone-cond m x y h = kept-cond m x (not y && h) ∙ gone-both m x y h
 
 module _ (c : Module) (i : ℕ) (q : List ℕ) (j : ℕ) (r : List ℕ) (t u : ℕ) (target : type_at c.types c.variables (j ∷ r) ≡ Some u) (source : type_at c.types c.variables (i ∷ q) ≡ Some t) (deep : IsTrue (is_within_depth greatest_depth c.types t))

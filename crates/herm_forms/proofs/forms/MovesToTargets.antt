@@ -1,5 +1,5 @@
 -- Moves from any path to any path keep values sound.
-use Rattle.std.proofs.Common.{◌≡◌, ℕ, List, [], ◌∷◌, ◌++◌, Bool, true, false, cond, not, ◌&&◌, ◌||◌, Option, Some, None, refl, sym, ap, ◌∙◌}
+use Rattle.std.proofs.Common.{◌≡◌, ℕ, List, [], ◌∷◌, ◌++◌, Bool, false, Option, Some, None, refl, sym, ap, ◌∙◌}
 use Rattle.std.specs.Prelude.{IsTrue}
 use Rattle.herm_model.specs.Lists.{IsIn, any_pass, list_of}
 use Rattle.herm_model.specs.Paths.{Fact, path_of, same_fact, is_at_or_below}
@@ -20,13 +20,7 @@ use Rattle.herm_forms.proofs.forms.PlainForms.{never}
 use Rattle.herm_forms.proofs.forms.ToldFacts.{in-closed}
 use Rattle.herm_forms.proofs.forms.SetTargets.{put-made, there-direct, in-full, full-makes}
 use Rattle.herm_forms.proofs.forms.ExcessDropped.{source-taken, no-source, below-source, source-full}
-
-moved-cond : (m x y h : Bool) → cond m true (not x && (not y && h)) ≡ cond m true (cond (y || (x || false)) false h)
-moved-cond true x y h = refl
-moved-cond false true true h = refl
-moved-cond false true false h = refl
-moved-cond false false true h = refl
-moved-cond false false false h = refl
+use Rattle.herm_forms.proofs.forms.HeldContents.{gone-cond}
 
 module _ (c : Module) (i : ℕ) (q : List ℕ) (j : ℕ) (r : List ℕ) (t : ℕ) (from : type_at c.types c.variables (i ∷ q) ≡ Some t) (to : type_at c.types c.variables (j ∷ r) ≡ Some t) (deep : IsTrue (is_within_depth greatest_depth c.types t))
     (has : Fact → Bool) (b : Frame Name) (sound : AreSound c has b.variables) (needed : (f : Fact) → IsIn f (needs c.types c.variables (Move (i ∷ q) (j ∷ r))) → IsTrue (has f)) where
@@ -46,7 +40,7 @@ module _ (c : Module) (i : ℕ) (q : List ℕ) (j : ℕ) (r : List ℕ) (t : ℕ
       let cut = cleared (i ∷ q) (drop (excess_over_full c (i ∷ q) b) b) in
       let made = full c.types c.variables (j ∷ r) in
       put-made c j r t to s.0 (full-typed c.types t s.0 s.2) made (full-makes c j r t to deep s.0 s.2) (Move (i ∷ q) (j ∷ r)) ok has (without (i ∷ q) has)
-      (λ f. moved-cond (any_pass (same_fact f) (closed c.types c.variables made)) (is_at_or_below (j ∷ r) (path_of f)) (is_at_or_below (i ∷ q) (path_of f)) (has f))
+      (λ f. gone-cond (any_pass (same_fact f) (closed c.types c.variables made)) (is_at_or_below (j ∷ r) (path_of f)) (is_at_or_below (i ∷ q) (path_of f)) (has f))
       cut b' o (source-taken c i q has b sound (excess_over_full c (i ∷ q) b) (below-source c i q has b sound t from)) (has_place cut.variables (j ∷ r)) refl
       (sym (ap (if_there (λ d. putting (j ∷ r) ok d cut)) s.1) ∙ is)
 

@@ -169,15 +169,16 @@ module _ (c : Module) (i : ℕ) (q : List ℕ) (has : Fact → Bool) (b : Frame 
           },
         )
 
+-- the message that is to be put, or another
+abbrev pub message_or : Cell Name → CellWant Name → Cell Name
+message_or m (to_put n message) = message
+message_or m _ = m
+
 -- what a send wants to put is there
 put-there : (port : Option ℕ) (x : Option (Cell Name)) (n : ℕ) (message : Cell Name) → ◌≡◌ {A = Option (CellWant Name)} (option_and_then (λ port. option_map (to_put port) x) port) (Some (to_put n message)) → x ≡ Some message
 put-there None x n message e = none-not_some e
 put-there (Some p) None n message e = none-not_some e
 put-there (Some p) (Some m) n message e = ap Some (ap (message_or m) (some-injective e))
-  where
-    message_or : Cell Name → CellWant Name → Cell Name
-    message_or m (to_put n message) = message
-    message_or m _ = m
 
 pub sent-messages : SentAreMessages
 sent-messages c i q t port declared to type deep leads shape facts has b n message sound needed wants =

@@ -1,23 +1,22 @@
 -- What typed values tell is closed: where they tell a fact, they tell each fact before it.
-use Rattle.std.proofs.Common.{◌≡◌, ◌⊎◌, inl, inr, ℕ, zero, suc, List, [], ◌∷◌, ◌++◌, Bool, true, false, cond, ◌||◌, Option, Some, None, refl, sym, ap, ◌∙◌, subst, append_assoc}
-use Rattle.std.proofs.lemmas.Bool.{eq-eqb}
-use Rattle.std.specs.Prelude.{slice_get, IsTrue, is_some, flat_map}
+use Rattle.std.proofs.Common.{◌≡◌, ◌⊎◌, inl, inr, ℕ, List, [], ◌∷◌, ◌++◌, Bool, true, false, cond, ◌||◌, Option, Some, None, refl, sym, ap, ◌∙◌, subst, append_assoc}
+use Rattle.std.specs.Prelude.{IsTrue, is_some, flat_map}
 use mathlib.Core.Bool.{true≢false, false≢true}
 use Rattle.herm_model.specs.Lists.{IsIn}
 use Rattle.herm_model.specs.Paths.{Path, Fact, init, case, path_of}
-use Rattle.herm_model.specs.Types.{TypeTable, Shape, cases, part_type, part_of, is_cases, is_variant}
+use Rattle.herm_model.specs.Types.{TypeTable, part_of, is_variant}
 use Rattle.herm_model.specs.Facts.{facts_from, facts_to, prefixes, with_prefixes, IsClosed}
 use Rattle.herm_model.specs.StatementTable.{closed}
-use Rattle.herm_model.specs.Values.{Kind, a_scalar, a_record, a_variant, a_table, a_polymorph, a_callmessage, an_inport, an_outport, Cell, cell, Parts, no_parts, gap, part, part_at, inside, opens, cell_at, behind_gaps, readable_of, read_at}
+use Rattle.herm_model.specs.Values.{a_scalar, a_record, a_variant, a_table, a_polymorph, a_callmessage, an_inport, an_outport, Cell, cell, Parts, part_at, inside, cell_at, readable_of, read_at}
 use Rattle.herm_model.specs.FactsOfValues.{is_component, satisfies}
-use Rattle.herm_model.specs.Typed.{partly, unfit, layout, one_whole, Fits, HasType, HaveTypes}
+use Rattle.herm_model.specs.Typed.{partly, HasType, HaveTypes}
 use Rattle.herm_model.proofs.Lists.{in-append_right, in-append_cases, in-flat_map, in-flat_map_from}
 use Rattle.herm_model.proofs.ClosedFacts.{once-IsIn, IsIn-once}
-use Rattle.herm_model.proofs.Options.{some-injective, none-not_some}
+use Rattle.herm_model.proofs.Options.{none-not_some}
 use Rattle.herm_model.proofs.NothingThere.{none-read, none-there}
 use Rattle.herm_model.proofs.Prefixes.{before-path}
-use Rattle.herm_model.proofs.Typing.{full-typed}
-use Rattle.herm_forms.proofs.TypedReading.{opening, typed-part}
+use Rattle.herm_forms.proofs.TypedReading.{typed-part}
+use Rattle.herm_forms.proofs.forms.ReadTypes.{readable-part}
 
 -- a list with what is before each of its facts stays within any closed set, and has each of its facts
 module _ (types : TypeTable) (variables : List ℕ) (made : List Fact) where
@@ -69,74 +68,7 @@ module _ (N : Type 0) where
       by None at h = none-not_some (sym (none-read (k ∷ p)) ∙ h)
       by (Some d) at h = (d, at)
 
-  past_gaps : (v j : ℕ) (c d : Cell N) → part_at j (behind_gaps v (part c no_parts)) ≡ Some d → (j ≡ v) × (c ≡ d)
-  past_gaps zero zero c d e = (refl, some-injective e)
-  past_gaps zero (suc j) c d e = none-not_some e
-  past_gaps (suc v) zero c d e = none-not_some e
-  past_gaps (suc v) (suc j) c d e = let x = past_gaps v j c d e in (ap suc x.0, x.1)
-
-  no_component : (v j : ℕ) (d : Cell N) → part_at j (behind_gaps v no_parts) ≡ Some d → ⊥
-  no_component zero j d e = none-not_some e
-  no_component (suc v) zero d e = none-not_some e
-  no_component (suc v) (suc j) d e = no_component v j d e
-
 module _ (N : Type 0) (table : TypeTable) where
-  -- A step from a cell of a type to what is read at a place: of a variant it is to its component, and of a record or
-  -- callmessage to a part.
-  record Step (t : ℕ) (c : Cell N) (j : ℕ) (d : Cell N) : Type 0 where
-    type : ℕ
-    next : part_of table (Some t) j ≡ Some type
-    typed : HasType table type d
-    component : is_variant table (Some t) ≡ true → is_component (Some c) j ≡ true
-    direct : is_variant table (Some t) ≡ false → part_at j (inside (Some c)) ≡ Some d
-
-  open-step : (t j : ℕ) (n : N) (k : Kind) (qs : Parts N) (d : Cell N) → opens k ≡ true → HasType table t (cell n k qs) → part_at j qs ≡ Some d → Step t (cell n k qs) j d
-  open-step t j n k qs d o h e =
-      let p = opening N table t n k qs o h in
-      let x = typed-part N table p.types qs j d (subst (λ l. Fits table l qs) p.contents h.0) e in
-      let closed : is_variant table (Some t) ≡ false = ap (λ (s : Option Shape). elim s [ None ↦ false | Some s ↦ is_cases s ]) p.found ∙ p.closed in
-      record {
-        type = x.type;
-        next = ap (λ (s : Option Shape). elim s [ None ↦ None | Some s ↦ part_type s j ]) p.found ∙ p.parts j ∙ x.there;
-        typed = x.typed;
-        component = λ v. absurd (true≢false (sym v ∙ closed));
-        direct = λ v. ap (λ b. part_at j (cond b qs no_parts)) o ∙ e;
-      }
-
-  case-step : (t j v : ℕ) (us : List ℕ) (n : N) (qs : Parts N) (d : Cell N) (o : Option ℕ) → slice_get table t ≡ Some (cases us) → slice_get us v ≡ o → Fits table (one_whole o) qs → part_at j (behind_gaps v qs) ≡ Some d → Step t (cell n (a_variant v) qs) j d
-  case-step t j v us n qs d None shape at h e = absurd h
-  case-step t j v us n no_parts d (Some u) shape at h e = absurd h
-  case-step t j v us n (gap qs) d (Some u) shape at h e = absurd h.0
-  case-step t j v us n (part c no_parts) d (Some u) shape at h e =
-      let x = past_gaps N v j c d e in
-      record {
-        type = u;
-        next = ap (λ (s : Option Shape). elim s [ None ↦ None | Some s ↦ part_type s j ]) shape ∙ ap (slice_get us) x.0 ∙ at;
-        typed = subst (HasType table u) x.1 (full-typed table u c h.0);
-        component = λ y. eq-eqb v j (sym x.0);
-        direct = λ y. absurd (true≢false (sym (ap (λ (s : Option Shape). elim s [ None ↦ false | Some s ↦ is_cases s ]) shape) ∙ y));
-      }
-  case-step t j v us n (part c (gap qs)) d (Some u) shape at h e = absurd h.1
-  case-step t j v us n (part c (part c' qs)) d (Some u) shape at h e = absurd h.1
-
-  variant-step : (t j v : ℕ) (n : N) (qs : Parts N) (d : Cell N) (s : Shape) → slice_get table t ≡ Some s → Fits table (layout partly s (a_variant v)) qs → part_at j (behind_gaps v qs) ≡ Some d → Step t (cell n (a_variant v) qs) j d
-  variant-step t j v n qs d (cases us) shape h e = case-step t j v us n qs d (slice_get us v) shape refl h e
-  variant-step t j v n qs d s shape h e = absurd h
-
-  shape-step : (t j v : ℕ) (n : N) (qs : Parts N) (d : Cell N) (o : Option Shape) → slice_get table t ≡ o → Fits table (elim o [ None ↦ unfit | Some s ↦ layout partly s (a_variant v) ]) qs → part_at j (behind_gaps v qs) ≡ Some d → Step t (cell n (a_variant v) qs) j d
-  shape-step t j v n qs d None shape h e = absurd h
-  shape-step t j v n qs d (Some s) shape h e = variant-step t j v n qs d s shape h e
-
-  step-of : (t j : ℕ) (c d : Cell N) → HasType table t c → part_at j (readable_of (Some c)) ≡ Some d → Step t c j d
-  step-of t j (cell n a_record qs) d h e = open-step t j n a_record qs d refl h e
-  step-of t j (cell n (a_callmessage caller call) qs) d h e = open-step t j n (a_callmessage caller call) qs d refl h e
-  step-of t j (cell n (a_variant v) qs) d h e = shape-step t j v n qs d (slice_get table t) refl h.0 e
-  step-of t j (cell n (a_scalar s) qs) d h e = none-not_some e
-  step-of t j (cell n a_table qs) d h e = none-not_some e
-  step-of t j (cell n (a_polymorph u) qs) d h e = none-not_some e
-  step-of t j (cell n (an_inport port) qs) d h e = none-not_some e
-  step-of t j (cell n (an_outport port) qs) d h e = none-not_some e
-
   -- from what is read on the way to what is read at the end, each fact is told
   module _ (ps : Parts N) where
     own-told : (i : ℕ) (q : List ℕ) (w : Bool) (c : Cell N) (f : Fact) → (w ≡ false → cell_at (i ∷ q) ps ≡ Some c) → IsIn f (cond w [] (init (i ∷ q) ∷ [])) → IsTrue (satisfies ps f)
@@ -172,12 +104,12 @@ module _ (N : Type 0) (table : TypeTable) where
     told-from (j ∷ p) i q t w c e f at typed direct end h =
         let onward : read_at (j ∷ p) (readable_of (Some c)) ≡ Some e = ap (λ o. read_at (j ∷ p) (readable_of o)) (sym at) ∙ sym (read-on N q i j p ps) ∙ end in
         let d = first-read N p j (readable_of (Some c)) e onward in
-        let s = step-of t j c d.0 typed d.1 in
+        let s = readable-part N table partly t j c d.0 typed d.1 in
         let at' : read_at ((i ∷ q) ++ j ∷ []) ps ≡ Some d.0 = read-on N q i j [] ps ∙ ap (λ o. part_at j (readable_of o)) at ∙ d.1 in
         let end' : read_at (((i ∷ q) ++ j ∷ []) ++ p) ps ≡ Some e = ap (λ p. read_at p ps) (append_assoc (i ∷ q) (j ∷ []) p) ∙ end in
-        told-on i q t w j p c f at direct s.component
+        told-on i q t w j p c f at direct (λ v. (s.component v).0)
         (λ h. told-from p i (q ++ j ∷ []) s.type (w || is_variant table (Some t)) d.0 e f at' s.typed (next-direct i j q c d.0 (is_variant table (Some t)) w s.direct direct) end'
-        (subst (λ o. IsIn f (facts_from table ((i ∷ q) ++ j ∷ []) o (w || is_variant table (Some t)) p)) s.next h)) h
+        (subst (λ o. IsIn f (facts_from table ((i ∷ q) ++ j ∷ []) o (w || is_variant table (Some t)) p)) s.there h)) h
 
   module _ (variables : List ℕ) (ps : Parts N) (typed : HaveTypes table variables ps) where
     pub told-to : (p : Path) (e : Cell N) (f : Fact) → read_at p ps ≡ Some e → IsIn f (facts_to table variables p) → IsTrue (satisfies ps f)

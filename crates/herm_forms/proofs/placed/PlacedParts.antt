@@ -11,10 +11,10 @@ use Rattle.herm_model.proofs.Lists.{not_true, slice_get-map}
 use Rattle.herm_model.proofs.Options.{none-not_some, some-injective}
 use Rattle.herm_model.proofs.NothingThere.{none-there}
 use Rattle.herm_model.proofs.Places.{read_below, read-below}
-use Rattle.herm_forms.proofs.forms.ChangedTables.{changed, from-changed}
+use Rattle.herm_model.proofs.ChangesThrough.{changed, from-behind}
 use Rattle.herm_forms.proofs.forms.ReadTypes.{read-nothing}
 use Rattle.herm_journal.specs.PartTypes.{PartTypes, each, all_of, part_types_at, is_kind_at, IsPlaced, ArePlaced}
-use Rattle.herm_forms.proofs.evaluated.CopiedValues.{nothing-below}
+use Rattle.herm_model.proofs.TypesBelow.{type_below-none}
 
 -- the property says that the kind is one of the type
 abbrev pub Agrees : TypeTable → (ℕ → Kind → Type 0) → Type 0
@@ -50,15 +50,6 @@ module _ (types : TypeTable) (P : ℕ → Kind → Type 0) (agrees : Agrees type
   opened : (t : ℕ) (k : Kind) → opens k ≡ true → P t k → Opened t k
   opened t k is h = opened-shape t k is (slice_get types t) refl (agrees t k h)
 
-  -- what is at a place
-  pub part-placed : {N : Type 0} (ts : List ℕ) (i : ℕ) (ps : Parts N) (c : Cell N) (t : ℕ) → Are (each ts) ps → part_at i ps ≡ Some c → slice_get ts i ≡ Some t → Is t c
-  part-placed ts i no_parts c t h at type = none-not_some at
-  part-placed [] i ps c t h at type = none-not_some type
-  part-placed (u ∷ ts) zero (gap ps) c t h at type = none-not_some at
-  part-placed (u ∷ ts) zero (part d ps) c t h at type = subst (λ t. Is t c) (some-injective type) (subst (Is u) (some-injective at) h.0)
-  part-placed (u ∷ ts) (suc i) (gap ps) c t h at type = part-placed ts i ps c t h at type
-  part-placed (u ∷ ts) (suc i) (part d ps) c t h at type = part-placed ts i ps c t h.1 at type
-
   pub row-placed : {N : Type 0} (t i : ℕ) (ps : Parts N) (c : Cell N) → Are (all_of t) ps → part_at i ps ≡ Some c → Is t c
   row-placed t i no_parts c h at = none-not_some at
   row-placed t zero (gap ps) c h at = none-not_some at
@@ -77,23 +68,10 @@ module _ (types : TypeTable) (P : ℕ → Kind → Type 0) (agrees : Agrees type
   typed-there (u ∷ ts) (suc i) (gap ps) c h at = typed-there ts i ps c h at
   typed-there (u ∷ ts) (suc i) (part d ps) c h at = typed-there ts i ps c h.1 at
 
-  pub cell-placed : {N : Type 0} (ts : List ℕ) (i : ℕ) (q : Path) (ps : Parts N) (c : Cell N) (t : ℕ) → Are (each ts) ps → cell_at (i ∷ q) ps ≡ Some c → type_below types (slice_get ts i) q ≡ Some t → Is t c
-  cell-placed ts i [] ps c t h at type = part-placed ts i ps c t h at type
-  cell-placed {N} ts i (j ∷ r) ps c t h at type = by (part_at i ps) refl at (λ us qs. cell-placed us j r qs c t)
-    where
-      open' : (u : ℕ) (k : Kind) (qs : Parts N) → slice_get ts i ≡ Some u → P u k → Are (part_types_at (slice_get types u) k) qs → (b : Bool) → opens k ≡ b → cell_at (j ∷ r) (cond b qs no_parts) ≡ Some c
-          → ((us : List ℕ) (qs : Parts N) → Are (each us) qs → cell_at (j ∷ r) qs ≡ Some c → type_below types (slice_get us j) r ≡ Some t → Is t c) → Is t c
-      open' u k qs there p h false is at again = none-not_some (sym (none-there (j ∷ r)) ∙ at)
-      open' u k qs there p h true is at again =
-          let o = opened u k is p in
-          again o.types' qs (subst (λ l. Are l qs) o.parts h) at (ap (λ o. type_below types o r) (sym (o.steps j)) ∙ ap (λ o. type_below types (part_of types o j) r) (sym there) ∙ type)
+  pub part-placed : {N : Type 0} (ts : List ℕ) (i : ℕ) (ps : Parts N) (c : Cell N) (t : ℕ) → Are (each ts) ps → part_at i ps ≡ Some c → slice_get ts i ≡ Some t → Is t c
+  part-placed ts i ps c t h at type = let x = typed-there ts i ps c h at in subst (λ t. Is t c) (some-injective (sym x.1 ∙ type)) x.2
 
-      by : (d : Option (Cell N)) → part_at i ps ≡ d → cell_at (j ∷ r) (inside d) ≡ Some c
-          → ((us : List ℕ) (qs : Parts N) → Are (each us) qs → cell_at (j ∷ r) qs ≡ Some c → type_below types (slice_get us j) r ≡ Some t → Is t c) → Is t c
-      by None e at again = none-not_some (sym (none-there (j ∷ r)) ∙ at)
-      by (Some (cell n k qs)) e at again = let x = typed-there ts i ps (cell n k qs) h e in open' x.0 k qs x.1 x.2.0 x.2.1 (opens k) refl at again
-
-  -- and it has a type there
+  -- so of a cell at a path
   pub cell-typed : {N : Type 0} (ts : List ℕ) (i : ℕ) (q : Path) (ps : Parts N) (c : Cell N) → Are (each ts) ps → cell_at (i ∷ q) ps ≡ Some c → (t : ℕ) × (type_below types (slice_get ts i) q ≡ Some t) × Is t c
   cell-typed ts i [] ps c h at = typed-there ts i ps c h at
   cell-typed {N} ts i (j ∷ r) ps c h at = by (part_at i ps) refl at (λ us qs. cell-typed us j r qs c)
@@ -114,6 +92,9 @@ module _ (types : TypeTable) (P : ℕ → Kind → Type 0) (agrees : Agrees type
       by : (d : Option (Cell N)) → part_at i ps ≡ d → cell_at (j ∷ r) (inside d) ≡ Some c → Again → Found
       by None e at again = none-not_some (sym (none-there (j ∷ r)) ∙ at)
       by (Some (cell n k qs)) e at again = let x = typed-there ts i ps (cell n k qs) h e in open' x.0 k qs x.1 x.2.0 x.2.1 (opens k) refl at again
+
+  pub cell-placed : {N : Type 0} (ts : List ℕ) (i : ℕ) (q : Path) (ps : Parts N) (c : Cell N) (t : ℕ) → Are (each ts) ps → cell_at (i ∷ q) ps ≡ Some c → type_below types (slice_get ts i) q ≡ Some t → Is t c
+  cell-placed ts i q ps c t h at type = let x = cell-typed ts i q ps c h at in subst (λ t. Is t c) (some-injective (sym x.1 ∙ type)) x.2
 
   -- What is set where a type is known is a cell with its property there.
   abbrev pub WhereSet : {N : Type 0} → Option ℕ → Option (Cell N) → Type 0
@@ -169,31 +150,16 @@ module _ (types : TypeTable) (P : ℕ → Kind → Type 0) (agrees : Agrees type
       by (Some t) = tt
 
   -- the component of a variant stands alone
-  component-alone : {N : Type 0} (m j t : ℕ) (us : List ℕ) (qs : Parts N) (d : Cell N) → Are (each (list_of (λ t. t ∷ []) (slice_get us m))) qs → part_at j (behind_gaps m qs) ≡ Some d → slice_get us j ≡ Some t → Is t d
-  component-alone zero j t us qs d h at type = first (slice_get us 0) refl h
-    where
-      first : (o : Option ℕ) → slice_get us 0 ≡ o → Are (each (list_of (λ t. t ∷ []) o)) qs → Is t d
-      first None e h = none-not_some (by j qs h at)
-        where
-          by : (j : ℕ) (qs : Parts _) → Are (each []) qs → part_at j qs ≡ Some d → None ≡ Some d
-          by j no_parts h at = at
-          by zero (gap qs) h at = at
-          by (suc j) (gap qs) h at = by j qs h at
-          by j (part c qs) h at = absurd h
-      first (Some u) e h = by j qs h at type
-        where
-          none-at : (j : ℕ) (qs : Parts _) → Are (each []) qs → part_at j qs ≡ Some d → None ≡ Some d
-          none-at j no_parts h at = at
-          none-at zero (gap qs) h at = at
-          none-at (suc j) (gap qs) h at = none-at j qs h at
-          none-at j (part c qs) h at = absurd h
+  one-there : (j w : ℕ) (o : Option ℕ) → slice_get (list_of (λ t. t ∷ []) o) j ≡ Some w → (j ≡ 0) × (o ≡ Some w)
+  one-there j w None e = none-not_some e
+  one-there zero w (Some u) e = (refl, e)
+  one-there (suc j) w (Some u) e = none-not_some e
 
-          by : (j : ℕ) (qs : Parts _) → Are (each (u ∷ [])) qs → part_at j qs ≡ Some d → slice_get us j ≡ Some t → Is t d
-          by j no_parts h at type = none-not_some at
-          by zero (gap qs) h at type = none-not_some at
-          by zero (part c qs) h at type = subst (λ t. Is t d) (some-injective (sym e ∙ type)) (subst (Is u) (some-injective at) h.0)
-          by (suc j) (gap qs) h at type = none-not_some (none-at j qs h at)
-          by (suc j) (part c qs) h at type = none-not_some (none-at j qs h.1 at)
+  component-alone : {N : Type 0} (m j t : ℕ) (us : List ℕ) (qs : Parts N) (d : Cell N) → Are (each (list_of (λ t. t ∷ []) (slice_get us m))) qs → part_at j (behind_gaps m qs) ≡ Some d → slice_get us j ≡ Some t → Is t d
+  component-alone zero j t us qs d h at type =
+      let x = typed-there (list_of (λ t. t ∷ []) (slice_get us 0)) j qs d h at in
+      let y = one-there j x.0 (slice_get us 0) x.1 in
+      subst (λ t. Is t d) (some-injective (sym y.1 ∙ ap (slice_get us) (sym y.0) ∙ type)) x.2
   component-alone (suc m) zero t us qs d h at type = none-not_some at
   component-alone (suc m) (suc j) t [] qs d h at type = none-not_some type
   component-alone (suc m) (suc j) t (u ∷ us) qs d h at type = component-alone m j t us qs d h at type
@@ -221,7 +187,7 @@ module _ (types : TypeTable) (P : ℕ → Kind → Type 0) (agrees : Agrees type
       by : (o : Option (Cell N)) → part_at j (readable_of (Some c)) ≡ o → read_below r o ≡ Some d → (v : Option ℕ) → part_of types (Some t) j ≡ v → type_below types v r ≡ Some u
           → ((t u : ℕ) (c d : Cell N) → Is t c → read_below r (Some c) ≡ Some d → type_below types (Some t) r ≡ Some u → Is u d) → Is u d
       by None e at v step type again = none-not_some (sym (read-nothing r) ∙ at)
-      by (Some c') e at None step type again = none-not_some (sym (nothing-below types r) ∙ type)
+      by (Some c') e at None step type again = none-not_some (sym (type_below-none types r) ∙ type)
       by (Some c') e at (Some v) step type again = again v u c' d (readable-placed t c j v c' h e step) at type
 
   pub read-placed : {N : Type 0} (ts : List ℕ) (i : ℕ) (q : Path) (ps : Parts N) (d : Cell N) (t : ℕ) → Are (each ts) ps → read_at (i ∷ q) ps ≡ Some d → type_below types (slice_get ts i) q ≡ Some t → Is t d
@@ -282,11 +248,6 @@ module _ (types : TypeTable) (P : ℕ → Kind → Type 0) (agrees : Agrees type
     renamed-placed_in f (all_of t) (part c ps) h = (renamed-placed f t c h.0, renamed-placed_in f (all_of t) ps h.1)
 
   -- a change of what is read at a path, which keeps its place
-  one-there : (j w : ℕ) (o : Option ℕ) → slice_get (list_of (λ t. t ∷ []) o) j ≡ Some w → (j ≡ 0) × (o ≡ Some w)
-  one-there j w None e = none-not_some e
-  one-there zero w (Some u) e = (refl, e)
-  one-there (suc j) w (Some u) e = none-not_some e
-
   behind-placed : {N : Type 0} (m j : ℕ) (us : List ℕ) (g : Cell N → Cell N) (qs : Parts N) → Are (each (list_of (λ t. t ∷ []) (slice_get us m))) qs → ((w : ℕ) (c : Cell N) → slice_get us j ≡ Some w → Is w c → Is w (g c))
       → Are (each (list_of (λ t. t ∷ []) (slice_get us m))) (change_behind m j g qs)
   behind-placed zero j us g qs h on =
@@ -318,13 +279,13 @@ module _ (types : TypeTable) (P : ℕ → Kind → Type 0) (agrees : Agrees type
     changed-placed : (r : Path) → Changes r
     changed-placed [] u c h type = let same : t ≡ u = sym (some-injective type) in subst (λ u. Is u (f c)) same (on c (subst (λ u. Is u c) (sym same) h))
     changed-placed (j ∷ r) u (cell n (a_variant m) qs) h type =
-        (h.0, subst (Are (part_types_at (slice_get types u) (a_variant m))) (sym (from-changed j r f m qs)) (variant-changed j r (changed-placed r) u m qs (slice_get types u) refl (agrees u (a_variant m) h.0) h.1 type))
+        (h.0, subst (Are (part_types_at (slice_get types u) (a_variant m))) (sym (from-behind j r f m qs)) (variant-changed j r (changed-placed r) u m qs (slice_get types u) refl (agrees u (a_variant m) h.0) h.1 type))
     changed-placed (j ∷ r) u (cell n a_record qs) h type =
-        (h.0, subst (Are (part_types_at (slice_get types u) a_record)) (sym (from-changed j r f 0 qs)) (open-changed j r (changed-placed r) u n a_record qs h type true refl))
+        (h.0, subst (Are (part_types_at (slice_get types u) a_record)) (sym (from-behind j r f 0 qs)) (open-changed j r (changed-placed r) u n a_record qs h type true refl))
     changed-placed (j ∷ r) u (cell n (a_callmessage x y) qs) h type =
-        (h.0, subst (Are (part_types_at (slice_get types u) (a_callmessage x y))) (sym (from-changed j r f 0 qs)) (open-changed j r (changed-placed r) u n (a_callmessage x y) qs h type true refl))
+        (h.0, subst (Are (part_types_at (slice_get types u) (a_callmessage x y))) (sym (from-behind j r f 0 qs)) (open-changed j r (changed-placed r) u n (a_callmessage x y) qs h type true refl))
     changed-placed (j ∷ r) u (cell n k qs) h type = h
 
     pub change-placed : (ts : List ℕ) (i : ℕ) (q : Path) (ps : Parts N) → Are (each ts) ps → type_below types (slice_get ts i) q ≡ Some t → Are (each ts) (change_at (i ∷ q) f ps)
     change-placed ts i q ps h type =
-        subst (Are (each ts)) (sym (from-changed i q f 0 ps)) (change-placed_part ts i (changed q f) ps h (λ u c there placed. changed-placed q u c placed (ap (λ o. type_below types o q) (sym there) ∙ type)))
+        subst (Are (each ts)) (sym (from-behind i q f 0 ps)) (change-placed_part ts i (changed q f) ps h (λ u c there placed. changed-placed q u c placed (ap (λ o. type_below types o q) (sym there) ∙ type)))

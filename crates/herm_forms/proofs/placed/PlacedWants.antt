@@ -13,7 +13,6 @@ use Rattle.herm_model.specs.TypedStatements.{IsTypedForm, IsTypedAtom, IsArgumen
 use Rattle.herm_model.proofs.Options.{none-not_some, some-injective, map-some, chain-some}
 use Rattle.herm_model.proofs.TypedCalls.{parameters-are}
 use Rattle.herm_journal.specs.Actions.{to_put}
-use Rattle.herm_journal.specs.Messages.{CellWant}
 use Rattle.herm_journal.specs.PartTypes.{each, part_types_at, IsPlaced, ArePlaced}
 use Rattle.herm_forms.specs.Frames.{Name, Frame, drop}
 use Rattle.herm_forms.specs.Evaluate.{Evaluated, gives, raises, no_value, scalar_of, atom_value}
@@ -32,6 +31,7 @@ use Rattle.herm_forms.proofs.placed.PlacedParts.{Agrees, copy-placed}
 use Rattle.herm_forms.proofs.placed.PlacedForms.{AllowsLocal, BodyIs, LoopsAre, cell-is, drop-is, literal-is, read-copied}
 use Rattle.herm_forms.proofs.placed.PlacedActions.{ArePlacedAt}
 use Rattle.herm_forms.proofs.placed.PlacedAnswers.{ArePlacedFor, IfTaken, take-all}
+use Rattle.herm_forms.proofs.forms.SentMessages.{message_or}
 
 -- values by a list of types
 module _ (types : TypeTable) (P : ℕ → Kind → Type 0) where
@@ -122,11 +122,7 @@ module _ (name : Name → Name) (c : Module) (P : ℕ → Kind → Type 0) (agre
       let lost = excess_over_declared c o x b in
       let port = chain-some (λ port. option_map (put-in port) (cell_at x (drop lost b).variables)) (outport_at o b) (to_put n m) is in
       let d = map-some (put-in port.0) (cell_at x (drop lost b).variables) (to_put n m) port.2 in
-      cell-is name c P agrees row x t (drop lost b).variables m (drop-is name c P agrees row lost b e).0 (d.1 ∙ ap Some (ap (message-or d.0) d.2)) type
-    where
-      message-or : Cell Name → CellWant Name → Cell Name
-      message-or d (to_put n m) = m
-      message-or d w = d
+      cell-is name c P agrees row x t (drop lost b).variables m (drop-is name c P agrees row lost b e).0 (d.1 ∙ ap Some (ap (message_or d.0) d.2)) type
 
   module _ (exceptions : ℕ) (processes : List Process) where
     -- the callmessage of a call

@@ -18,7 +18,7 @@ use Rattle.herm_model.proofs.Lists.{and-both, not_true, in-map, in-flat_map, in-
 use Rattle.herm_model.proofs.FactTests.{got-IsIn}
 use Rattle.herm_model.proofs.Options.{none-not_some, some-injective, chain-some, map-some}
 use Rattle.herm_journal.proofs.Rising.{same-true}
-use Rattle.herm_journal.specs.Actions.{values, gone, make_port, make_process, put, take, close, answer, hear}
+use Rattle.herm_journal.specs.Actions.{values, gone, make_port, make_process, put, take, answer, hear}
 use Rattle.herm_journal.specs.Actions
 use Rattle.herm_journal.specs.Messages.{CellAction, CellReply, AreFull, is_inport}
 use Rattle.herm_forms.specs.Frames.{Name, Frame, Completion, goes, stays, stuck, if_there, drop, finalise_at_once, cleared, taking, putting, putting_all, Taken}
@@ -48,9 +48,10 @@ use Rattle.herm_forms.proofs.called.HeardReplies.{none-under, with_one, put-one}
 use Rattle.herm_forms.proofs.called.OpenCalls.{typed-path, inout-set, out-set}
 use Rattle.herm_forms.proofs.typed.ActionForms.{leads-cond}
 use Rattle.herm_forms.proofs.typed.CallForms.{returned-typed, kept-typed, set-apart, set-direct, kept-apart, kept-among, call-targets}
-use Rattle.herm_forms.proofs.typed.Room.{parent-split, HasParent, has-parent, parent-left, place-there}
+use Rattle.herm_forms.proofs.typed.Room.{HasParent, has-parent, parent-left, place-there}
 use Rattle.herm_forms.proofs.typed.LocalGoes.{asked, place-of}
 use Rattle.herm_forms.proofs.typed.WantsThere.{want-there, source-there, composed-there, select-there, plain-given, plain-source, raised-given, raised-source}
+use Rattle.herm_model.proofs.TypedPaths.{parent-split}
 
 module _ (S : List Outcome) where
   taken-by : (r s : Completion Name) → r ≡ s → IsTaken S s → IsTaken S r

@@ -1,5 +1,5 @@
 -- Any typed local form goes on, to an outcome of its own.
-use Rattle.std.proofs.Common.{◌≡◌, ℕ, zero, suc, ◌<◌, arith, List, [], ◌∷◌, length, Bool, false, true, Option, Some, sym, ap, ◌∙◌, subst, slice_get, true≢false}
+use Rattle.std.proofs.Common.{◌≡◌, ℕ, ◌<◌, List, [], ◌∷◌, length, Bool, false, true, Some, sym, ◌∙◌, subst, true≢false}
 use Rattle.std.specs.Prelude.{IsTrue, IsFalse}
 use Rattle.herm_model.specs.Lists.{IsIn}
 use Rattle.herm_model.specs.Paths.{Path, Fact}
@@ -20,11 +20,7 @@ use Rattle.herm_forms.proofs.forms.ReadTypes.{read-typed, variant-component}
 use Rattle.herm_forms.proofs.typed.FormsGo.{forms-go}
 use Rattle.herm_forms.proofs.typed.LocalGoes.{Comes}
 use Rattle.herm_forms.proofs.typed.LocalOutcomes.{EndsIn, went, CoversCase, acts-end}
-
-slice-below : {X : Type 0} (xs : List X) (i : ℕ) (x : X) → slice_get xs i ≡ Some x → i < length xs
-slice-below [] i x e = none-not_some e
-slice-below (y ∷ ys) zero x e = omega arith
-slice-below (y ∷ ys) (suc i) x e = let more = slice-below ys i x e in omega (arith, more)
+use Rattle.herm_model.proofs.TypedPaths.{slice_get-below}
 
 ended : (S : List Outcome) (r : Completion Name) (o : Outcome) (b : Frame Name) → r ≡ goes o b → EndsIn S r → IsIn o S
 ended S r o b e h = by (subst (EndsIn S) e h)
@@ -43,7 +39,7 @@ module _ (exceptions : ℕ) (processes : List Process) (c : Module) where
       by (cell n (a_variant m) ps) k of h =
           let x = variant-component Name c.types partly is.typed.0 m n ps h in
           let same : x.types ≡ is.typed.1 = cc (sym x.found ∙ is.typed.3) in
-          let below' : m < length is.typed.1 = subst (λ ts. m < length ts) same (slice-below x.types m x.type x.at) in
+          let below' : m < length is.typed.1 = subst (λ ts. m < length ts) same (slice_get-below x.types m x.type x.at) in
           (is.typed.5 k).1 (subst (λ k. k < length is.typed.1) (some-injective of) below')
       by d k of h = none-not_some of
   covers form is has b sound name s = tt

@@ -26,10 +26,11 @@ use Rattle.herm_forms.specs.laws.EdgeLaws.{without}
 use Rattle.herm_forms.specs.laws.TypedForms.{IsTypedIn}
 use Rattle.herm_forms.specs.laws.FormsGoOn.{GoesOn}
 use Rattle.herm_forms.proofs.Arrived.{to-direct}
-use Rattle.herm_forms.proofs.evaluated.CopiedValues.{part-named, nothing-below}
 use Rattle.herm_forms.proofs.called.ApartPaths.{way-begins}
 use Rattle.herm_forms.proofs.typed.Room.{value-there}
 use Rattle.herm_forms.proofs.typed.LocalGoes.{Comes, there-comes, asked, moved-comes, looked-there}
+use Rattle.herm_model.proofs.TypesBelow.{type_below-none}
+use Rattle.herm_model.proofs.BoundedPaths.{part-named}
 
 module _ (types : TypeTable) where
   named-part : (t i u : ℕ) → part_of types (Some t) i ≡ Some u → IsIn u (list_of named_types (slice_get types t))
@@ -45,7 +46,7 @@ module _ (types : TypeTable) where
   reaches-below (j ∷ s) i t u e = by (part_of types (Some t) i) refl e (reaches-below s j)
     where
       by : (o : Option ℕ) → part_of types (Some t) i ≡ o → type_below types o (j ∷ s) ≡ Some u → ((v u : ℕ) → type_below types (Some v) (j ∷ s) ≡ Some u → Reaches types v u) → Reaches types t u
-      by None at e again = none-not_some (sym (nothing-below types s) ∙ e)
+      by None at e again = none-not_some (sym (type_below-none types s) ∙ e)
       by (Some v) at e again = further t v u (named-part t i v at) (again v u e)
 
   reaches-on : (t u v : ℕ) → Reaches types t u → IsIn v (list_of named_types (slice_get types u)) → Reaches types t v

@@ -11,7 +11,7 @@ use Rattle.herm_model.specs.Typed.{Content, a_value, partly, unfit, exactly, lay
 use Rattle.herm_model.proofs.Lists.{slice_get-map}
 use Rattle.herm_model.proofs.Options.{none-not_some}
 use Rattle.herm_model.proofs.Beginnings.{above-longer, below-trans}
-use Rattle.herm_model.proofs.TypedPaths.{at-append, passes-append, or-falses, some-of}
+use Rattle.herm_model.proofs.TypedPaths.{at-append, passes-append, or-falses, some-of, parent-split}
 use Rattle.herm_forms.specs.Frames.{Name}
 use Rattle.herm_forms.specs.Modules.{Module}
 use Rattle.herm_forms.specs.laws.EdgeLaws.{AreSound, without}
@@ -64,11 +64,6 @@ module _ (N : Type 0) (types : TypeTable) where
   place-on : (i k : ℕ) (q : List ℕ) (ps : Parts N) → has_place ps ((i ∷ q) ++ k ∷ []) ≡ nat_lt k (size (inside (cell_at (i ∷ q) ps)))
   place-on i k [] ps = refl
   place-on i k (j ∷ q) ps = place-on j k q (inside (part_at i ps))
-
--- the parent of a path, and the last step
-pub parent-split : (i j : ℕ) (p : List ℕ) → (k : ℕ) × (i ∷ j ∷ p ≡ parent (i ∷ j ∷ p) ++ k ∷ [])
-parent-split i j [] = (j, refl)
-parent-split i j (l ∷ p) = let r = parent-split j l p in (r.0, ap (i ∷◌) r.1)
 
 -- the parent of a target that is not a whole variable is there
 abbrev pub HasParent : (Fact → Bool) → Path → Type 0

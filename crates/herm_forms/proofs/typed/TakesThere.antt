@@ -1,13 +1,12 @@
 -- What typed calls and returns take out of their paths is there, and a callmessage is composed.
-use Rattle.std.proofs.Common.{◌≡◌, ◌<◌, inl, inr, ℕ, suc, ◌+◌, arith, List, [], ◌∷◌, map, flat_map, Bool, true, false, cond, nat_eq, Option, Some, None, option_map, refl, sym, ap, ◌∙◌}
+use Rattle.std.proofs.Common.{◌≡◌, inl, inr, ℕ, suc, ◌+◌, arith, List, [], ◌∷◌, map, flat_map, Bool, true, false, cond, Option, Some, None, option_map, refl, sym, ap, ◌∙◌}
 use Rattle.std.specs.Prelude.{IsTrue, ⊤}
 use Rattle.herm_model.specs.Lists.{IsIn}
 use Rattle.herm_model.specs.Paths.{Path, Fact, init}
-use Rattle.herm_model.specs.Types.{Mode, by_in, by_inout, by_out, Parameter, Raised, passes_component}
+use Rattle.herm_model.specs.Types.{Mode, by_in, by_inout, by_out, Parameter, passes_component}
 use Rattle.herm_model.specs.Facts.{facts_to}
-use Rattle.herm_model.specs.laws.FlowLaws.{Rise}
 use Rattle.herm_model.specs.Expressions.{Atom, literal, path}
-use Rattle.herm_model.specs.Calls.{arguments_by, is_returned, returned_places, kept_for}
+use Rattle.herm_model.specs.Calls.{arguments_by, is_returned, returned_places}
 use Rattle.herm_model.specs.Statements.{Differ}
 use Rattle.herm_model.specs.StatementTable.{full_of_each}
 use Rattle.herm_model.specs.TypedStatements.{AreApart, IsArgument, AreArguments}
@@ -116,11 +115,7 @@ module _ (c : Module) (copy : ℕ → Name) (variables : Parts Name) where
   assembles-there (p ∷ params) (literal l ∷ atoms) h inputs s moved e many = literal-there p.mode p.content l params atoms h.0 (assembles-there params atoms h.1) inputs s moved e many
   assembles-there (p ∷ params) (path q ∷ atoms) h inputs s moved e many = path-there p.mode q params atoms (assembles-there params atoms h.1) inputs s moved e many
 
--- rising numbers differ, and so do the places of the parameters that come back
-pub rise-differ : (ns : List ℕ) → Rise ns → Differ ns
-rise-differ [] r = tt
-rise-differ (n ∷ ns) r = ((λ h. let below : n < n = r.0 n h in let z : ⊥ = omega (arith, below) in z), rise-differ ns r.1)
-
+-- the places of the parameters that come back differ
 pub returned-differ : (k : ℕ) (ps : List Parameter) → Differ (returned_places k ps)
 returned-differ k [] = tt
 returned-differ k (p ∷ ps) = by (is_returned p.mode) (returned-differ (suc k) ps)
@@ -128,11 +123,3 @@ returned-differ k (p ∷ ps) = by (is_returned p.mode) (returned-differ (suc k) 
     by : (b : Bool) → Differ (returned_places (suc k) ps) → Differ (cond b (k ∷ returned_places (suc k) ps) (returned_places (suc k) ps))
     by true d = ((λ h. let j = returned-there (suc k) k ps h in let same = j.1 in let z : ⊥ = omega (arith, same) in z), d)
     by false d = d
-
-pub kept-rise : (rs : List Raised) (e : ℕ) → ((r : Raised) → IsIn r rs → Rise r.kept) → Rise (kept_for rs e)
-kept-rise [] e f = tt
-kept-rise (r ∷ rs) e f = by (nat_eq r.exception e) (f r (inl refl)) (kept-rise rs e (λ q i. f q (inr i)))
-  where
-    by : (b : Bool) → Rise r.kept → Rise (kept_for rs e) → Rise (cond b r.kept (kept_for rs e))
-    by true x y = x
-    by false x y = y

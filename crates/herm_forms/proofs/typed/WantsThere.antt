@@ -43,7 +43,9 @@ use Rattle.herm_model.proofs.ThereFacts.{listed-there}
 use Rattle.herm_forms.proofs.typed.CallForms.{lent-typed, lent-direct, lent-apart}
 use Rattle.herm_forms.proofs.typed.Room.{value-there}
 use Rattle.herm_forms.proofs.typed.LocalGoes.{asked, looked-there, has-inport}
-use Rattle.herm_forms.proofs.typed.TakesThere.{takes-there, fit-there, assembles-there, rise-differ, returned-differ, kept-rise}
+use Rattle.herm_forms.proofs.typed.TakesThere.{takes-there, fit-there, assembles-there, returned-differ}
+use Rattle.herm_model.proofs.DifferentOutcomes.{Rise-Differ}
+use Rattle.herm_model.proofs.TypedArguments.{kept-rise}
 
 module _ (exceptions : ℕ) (processes : List Process) (c : Module) where
   -- a value of an outport type is an outport, and one of a callmessage type a callmessage
@@ -272,7 +274,7 @@ module _ (exceptions : ℕ) (processes : List Process) (c : Module) where
             (p.0, p.1)
 
         kept-differ : Differ (kept_places e)
-        kept-differ = subst (λ (s : Option Shape). Differ (kept_for (list_of raises_of s) e)) (sym shape_kept) (rise-differ (kept_for is.typed.0 e) (kept-rise is.typed.0 e (λ r h. is.table.kept_rising of_kept.0 (callmessage of_kept.1 is.typed.0) of_kept.3 r h)))
+        kept-differ = subst (λ (s : Option Shape). Differ (kept_for (list_of raises_of s) e)) (sym shape_kept) (Rise-Differ (kept_for is.typed.0 e) (kept-rise is.typed.0 e (λ r h. is.table.kept_rising of_kept.0 (callmessage of_kept.1 is.typed.0) of_kept.3 r h)))
 
         source_kept : (f : Fact) → IsIn f (present c.types c.variables (i ∷ q)) → IsTrue (has f)
         source_kept f h = asked exceptions processes c (ReturnBy (i ∷ q) e) is has needed f (in-append_left f (present c.types c.variables (i ∷ q)) (full_of_each c.types c.variables (returned_by c.types c.variables (i ∷ q) e)) h)

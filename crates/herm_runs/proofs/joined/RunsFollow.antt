@@ -1,17 +1,16 @@
 -- Each run of one of two joined machines is one of the other, where what can be done there would suit.
 use Rattle.std.proofs.Common.{◌≡◌, ℕ, List, [], ◌∷◌, Some, option_map, option_and_then, refl, sym, ap, ap₂, subst, ◌∙◌}
-use Rattle.herm_model.specs.Lists.{any_pass}
 use Rattle.herm_model.specs.Values.{Name}
-use Rattle.herm_model.proofs.Options.{some-injective, chain-some, map-some}
-use Rattle.herm_journal.specs.PlaceStates.{Limits, after}
-use Rattle.herm_journal.specs.Entries.{Text, Place, same_place}
-use Rattle.herm_system.specs.Machines.{Machine, is_acting}
-use Rattle.herm_system.specs.Systems.{System, Moved, Event, steps, acts, Run, run, run_on, step, start, main_port, with_entry, stands, with_made, set_process, set_holding, holding_at, places_for, done_at, number_of, numbered_from_one, act_at, behind_action}
+use Rattle.herm_model.proofs.Options.{some-injective, map-some}
+use Rattle.herm_journal.specs.PlaceStates.{Limits}
+use Rattle.herm_journal.specs.Entries.{Text, Place}
+use Rattle.herm_system.specs.Machines.{Machine}
+use Rattle.herm_system.specs.Systems.{System, Moved, Event, steps, acts, Run, run, run_on, step, start, main_port, with_entry, number_of, numbered_from_one}
 use Rattle.herm_system.specs.Sound.{IsNumbered}
 use Rattle.herm_runs.specs.laws.ProcessLaws.{KeepsNumbers}
 use Rattle.herm_runs.specs.laws.DiaryLaws.{EventSuits, SuitsAlong, WouldSuit}
 use Rattle.herm_runs.specs.Joining.{AreJoined, Correspond, turned, RunsFollow}
-use Rattle.herm_runs.proofs.ActionParts.{cond-both}
+use Rattle.herm_runs.proofs.ActionParts.{action-parts}
 use Rattle.herm_runs.proofs.Numbered.{step-numbered, opening-numbered}
 use Rattle.herm_runs.proofs.joined.Turned.{both-turned, suits-same, joined-turned, each-turned}
 use Rattle.herm_runs.proofs.joined.SameOutside.{each-found, holding-same}
@@ -35,16 +34,10 @@ module _ {P Q : Type 0} (a : Machine Name P) (b : Machine Name Q) (R : P → Q �
   -- so what comes in with an event of the other suits there
   action-follows : (p : ℕ) (place : Place) (s : System P) (t : System Q) → Correspond R s t → WouldSuit a s → EventSuits b (acts p place) t
   action-follows p place s t c would y m act is e done =
-      let acting = cond-both (stands is_acting b t p) _ m e in
-      let here = sym (ap (option_and_then (λ x. option_and_then (act_at b p place t x) (b.wanted x))) is) ∙ acting.1 in
-      let want = chain-some (act_at b p place t y) (b.wanted y) m here in
-      let among = cond-both (any_pass (same_place place) (places_for p want.0)) _ m want.2 in
-      let at = chain-some _ (holding_at place t) m among.1 in
-      let did = chain-some (behind_action b p place t y at.0) (done_at want.0 at.0) m at.2 in
-      let left = chain-some _ (b.answered y (number_of place) did.0) m did.2 in
-      let makes = map-some _ (with_made b y did.0 (set_process p left.0 (set_holding place (after did.0 at.0) t))) m left.2 in
-      let same : did.0 ≡ act = some-injective (ap (λ (x : Moved Q). x.done) makes.2 ∙ done) in
-      would-follow s t c would p y want.0 place at.0 act is want.1 among.0 at.1 (did.1 ∙ ap (λ v. Some v) same)
+      let parts = action-parts b p place t m e in
+      let here : parts.state ≡ y = some-injective (sym parts.is ∙ is) in
+      let same : parts.did.0 ≡ act = some-injective (ap (λ (x : Moved Q). x.done) parts.moved ∙ done) in
+      would-follow s t c would p y parts.want.0 place parts.at.0 act is (ap b.wanted (sym here) ∙ parts.want.1) parts.there parts.at.1 (parts.did.1 ∙ ap (λ v. Some v) same)
 
   event-follows : (e : Event) (s : System P) (t : System Q) → Correspond R s t → WouldSuit a s → EventSuits b e t
   event-follows (steps p) s t c would = tt

@@ -1,21 +1,20 @@
 -- What an event leads to in one of two joined machines, it leads to in the other.
-use Rattle.std.proofs.Common.{◌≡◌, ℕ, zero, suc, List, [], ◌∷◌, ◌++◌, true, cond, Option, Some, None, option_map, option_and_then, slice_set, refl, sym, ap, ap₂, subst, ◌∙◌}
+use Rattle.std.proofs.Common.{◌≡◌, ℕ, zero, suc, List, [], ◌∷◌, ◌++◌, true, Option, Some, None, option_map, slice_set, refl, sym, ap, ap₂, subst, ◌∙◌}
 use Rattle.std.specs.Prelude.{IsTrue}
 use Rattle.herm_model.specs.Lists.{any_pass}
 use Rattle.herm_model.specs.Values.{Name, Cell, cell, an_inport, no_parts}
-use Rattle.herm_model.proofs.Options.{some-injective, none-not_some, chain-some, map-some}
+use Rattle.herm_model.proofs.Options.{some-injective, none-not_some, map-some}
 use Rattle.herm_journal.specs.Actions.{make_port, make_process, put, take, close, answer, hear}
 use Rattle.herm_journal.specs.PlaceStates.{empty_port, PlaceState, a_port, replies, a_book, after}
 use Rattle.herm_journal.specs.Entries.{Place, port, reply_cell, book, same_place}
 use Rattle.herm_journal.specs.Messages.{CellReply, CellAction}
 use Rattle.herm_system.specs.Machines.{Machine, is_local, is_acting, inport_of}
-use Rattle.herm_system.specs.Systems.{System, Moved, Event, steps, acts, step, can, can_be_done, stands, with_made, set_process, set_holding, holding_at, local_event, act_at, action_event, behind_action, numbered_from_one, set_from_one, places_for, done_at, number_of}
+use Rattle.herm_system.specs.Systems.{System, Moved, Event, steps, acts, step, can, can_be_done, stands, with_made, set_process, set_holding, local_event, action_event, numbered_from_one, set_from_one, places_for, number_of}
 use Rattle.herm_system.specs.Suiting.{Fulfils}
 use Rattle.herm_runs.specs.laws.DiaryLaws.{EventSuits}
 use Rattle.herm_runs.specs.Joining.{BothOrNone, AreJoined, EachOf, Correspond, turned}
-use Rattle.herm_runs.proofs.SystemLedger.{process-some}
 use Rattle.herm_runs.proofs.Stands.{seen-local, stands-as}
-use Rattle.herm_runs.proofs.ActionParts.{cond-both}
+use Rattle.herm_runs.proofs.ActionParts.{action-parts, step-parts, action-of, step-of}
 use Rattle.herm_runs.proofs.DiariesTold.{done-fulfils}
 use Rattle.herm_runs.proofs.joined.Turned.{both-turned, suits-same}
 use Rattle.herm_runs.proofs.joined.SameOutside.{each-found, holding-same, stands-same}
@@ -96,53 +95,35 @@ module _ {P Q : Type 0} (a : Machine Name P) (b : Machine Name Q) (R : P → Q �
 
   local-together : (p : ℕ) (s : System P) (t : System Q) (m : Moved P) → Correspond R s t → local_event a p s ≡ Some m → Together (steps p) t m
   local-together p s t m c e =
-      let e' = cond-both (stands is_local a s p) _ m e in
-      let x = process-some s p _ m e'.1 in
-      let next = map-some _ (a.local_step x.state) m x.does in
+      let x = step-parts a p s m e in
       let y = there R (numbered_from_one p s.processes) (numbered_from_one p t.processes) x.state (each-found R s.processes t.processes p c.processes) x.is in
       let now : is_local (a.ready s.book.limits.steps x.state) ≡ true =
-      sym (seen-local (a.ready s.book.limits.steps x.state) (can_be_done (can s p) (a.wanted x.state))) ∙ sym (stands-as is_local a s p x.state x.is) ∙ e'.0 in
-      let z = there R (a.local_step x.state) (b.local_step y.0) next.0 (j.local_steps s.book.limits.steps x.state y.0 y.2 now) next.1 in
-      let stays : stands is_local b t p ≡ true = sym (stands-same a b R j s t c is_local p) ∙ e'.0 in (
+      sym (seen-local (a.ready s.book.limits.steps x.state) (can_be_done (can s p) (a.wanted x.state))) ∙ sym (stands-as is_local a s p x.state x.is) ∙ x.stands in
+      let z = there R (a.local_step x.state) (b.local_step y.0) x.left.0 (j.local_steps s.book.limits.steps x.state y.0 y.2 now) x.left.1 in
+      let stays : stands is_local b t p ≡ true = sym (stands-same a b R j s t c is_local p) ∙ x.stands in (
         record { system = set_process p z.0 t; done = None },
-        ap (λ q. cond q (option_and_then (λ v. option_map (λ w. record { system = set_process p w t; done = None }) (b.local_step v)) (numbered_from_one p t.processes)) None) stays
-            ∙ ap (option_and_then (λ v. option_map (λ w. record { system = set_process p w t; done = None }) (b.local_step v))) y.1
-            ∙ ap (option_map (λ w. record { system = set_process p w t; done = None })) z.1,
-        subst (λ (k : Moved P). Correspond R k.system (set_process p z.0 t)) next.2 (process-together R p next.0 z.0 s t z.2 c),
-        sym (ap (λ (k : Moved P). k.done) next.2),
+        step-of b p t y.0 z.0 stays y.1 z.1,
+        subst (λ (k : Moved P). Correspond R k.system (set_process p z.0 t)) x.moved (process-together R p x.left.0 z.0 s t z.2 c),
+        sym (ap (λ (k : Moved P). k.done) x.moved),
       )
 
   action-together : (p : ℕ) (place : Place) (s : System P) (t : System Q) (m : Moved P) → Correspond R s t → EventSuits a (acts p place) s → ((x : P) → numbered_from_one p s.processes ≡ Some x → a.number x ≡ p)
       → action_event a p place s ≡ Some m → Together (acts p place) t m
   action-together p place s t m c suits numbers e =
-      let e' = cond-both (stands is_acting a s p) _ m e in
-      let x = process-some s p _ m e'.1 in
-      let want = chain-some (act_at a p place s x.state) (a.wanted x.state) m x.does in
-      let among = cond-both (any_pass (same_place place) (places_for p want.0)) _ m want.2 in
-      let at = chain-some _ (holding_at place s) m among.1 in
-      let did = chain-some (behind_action a p place s x.state at.0) (done_at want.0 at.0) m at.2 in
-      let left = chain-some _ (a.answered x.state (number_of place) did.0) m did.2 in
-      let makes = map-some _ (with_made a x.state did.0 (set_process p left.0 (set_holding place (after did.0 at.0) s))) m left.2 in
+      let x = action-parts a p place s m e in
       let y = there R (numbered_from_one p s.processes) (numbered_from_one p t.processes) x.state (each-found R s.processes t.processes p c.processes) x.is in
       let shows = j.shows x.state y.0 y.2 in
-      let suit = suits x.state m did.0 x.is e (sym (ap (λ (k : Moved P). k.done) makes.2)) in
-      let own : IsTrue (any_pass (same_place place) (places_for (a.number x.state) want.0)) = subst (λ q. IsTrue (any_pass (same_place place) (places_for q want.0))) (sym (numbers x.state x.is)) among.0 in
-      let fulfils : Fulfils a x.state place did.0 = (want.0, want.1, own, done-fulfils want.0 at.0 did.0 did.1) in
-      let z = there R (a.answered x.state (number_of place) did.0) (b.answered y.0 (number_of place) did.0) left.0 (j.answers x.state y.0 place did.0 y.2 fulfils suit) left.1 in
-      let moved = process-together R p left.0 z.0 (set_holding place (after did.0 at.0) s) (set_holding place (after did.0 at.0) t) z.2 (place-together R place (after did.0 at.0) s t c) in
-      let made = made-together x.state y.0 did.0 (set_process p left.0 (set_holding place (after did.0 at.0) s)) (set_process p z.0 (set_holding place (after did.0 at.0) t)) makes.0 y.2 moved makes.1 in
-      let stays : stands is_acting b t p ≡ true = sym (stands-same a b R j s t c is_acting p) ∙ e'.0 in (
-        record { system = made.0; done = Some did.0 },
-        ap (λ q. cond q (option_and_then (λ v. option_and_then (act_at b p place t v) (b.wanted v)) (numbered_from_one p t.processes)) None) stays
-            ∙ ap (option_and_then (λ v. option_and_then (act_at b p place t v) (b.wanted v))) y.1
-            ∙ ap (option_and_then (act_at b p place t y.0)) (sym shows.wanted ∙ want.1)
-            ∙ ap (λ q. cond q (option_and_then (λ k. option_and_then (behind_action b p place t y.0 k) (done_at want.0 k)) (holding_at place t)) None) among.0
-            ∙ ap (option_and_then (λ k. option_and_then (behind_action b p place t y.0 k) (done_at want.0 k))) (sym (holding-same R s t c place) ∙ at.1)
-            ∙ ap (option_and_then (behind_action b p place t y.0 at.0)) did.1
-            ∙ ap (option_and_then (λ w. option_map (λ u. record { system = u; done = Some did.0 }) (with_made b y.0 did.0 (set_process p w (set_holding place (after did.0 at.0) t))))) z.1
-            ∙ ap (option_map (λ u. record { system = u; done = Some did.0 })) made.1,
-        subst (λ (k : Moved P). Correspond R k.system made.0) makes.2 made.2,
-        sym (ap (λ (k : Moved P). k.done) makes.2),
+      let suit = suits x.state m x.did.0 x.is e (sym (ap (λ (k : Moved P). k.done) x.moved)) in
+      let own : IsTrue (any_pass (same_place place) (places_for (a.number x.state) x.want.0)) = subst (λ q. IsTrue (any_pass (same_place place) (places_for q x.want.0))) (sym (numbers x.state x.is)) x.there in
+      let fulfils : Fulfils a x.state place x.did.0 = (x.want.0, x.want.1, own, done-fulfils x.want.0 x.at.0 x.did.0 x.did.1) in
+      let z = there R (a.answered x.state (number_of place) x.did.0) (b.answered y.0 (number_of place) x.did.0) x.left.0 (j.answers x.state y.0 place x.did.0 y.2 fulfils suit) x.left.1 in
+      let moved = process-together R p x.left.0 z.0 (set_holding place (after x.did.0 x.at.0) s) (set_holding place (after x.did.0 x.at.0) t) z.2 (place-together R place (after x.did.0 x.at.0) s t c) in
+      let made = made-together x.state y.0 x.did.0 (set_process p x.left.0 (set_holding place (after x.did.0 x.at.0) s)) (set_process p z.0 (set_holding place (after x.did.0 x.at.0) t)) x.makes.0 y.2 moved x.makes.1 in
+      let stays : stands is_acting b t p ≡ true = sym (stands-same a b R j s t c is_acting p) ∙ x.stands in (
+        record { system = made.0; done = Some x.did.0 },
+        action-of b p place t made.0 y.0 z.0 x.want.0 x.at.0 x.did.0 stays y.1 (sym shows.wanted ∙ x.want.1) x.there (sym (holding-same R s t c place) ∙ x.at.1) x.did.1 z.1 made.1,
+        subst (λ (k : Moved P). Correspond R k.system made.0) x.moved made.2,
+        sym (ap (λ (k : Moved P). k.done) x.moved),
       )
 
   pub step-together : (e : Event) (s : System P) (t : System Q) (m : Moved P) → Correspond R s t → EventSuits a e s → ((p : ℕ) (x : P) → numbered_from_one p s.processes ≡ Some x → a.number x ≡ p) → step a e s ≡ Some m → Together e t m

@@ -95,6 +95,34 @@ module _ {P : Type 0} (machine : Machine Name P) (limit : ℕ) where
     pub records : recorded done ≡ e.action
     pub leads : t ≡ changed e.process behind e.place (after done held) growth s
 
+  -- What of a move does not depend on the rest of the system makes it a move in another one, where as many local steps of its
+  -- process lead to the same state, and the place holds the same.
+  pub move-elsewhere : (e : Entry) (s t u v : System P) (m : IsMove e s t) (count : ℕ) (before : P) → numbered_from_one e.process u.processes ≡ Some before → Walks count before m.ready → holding_at e.place u ≡ Some m.held
+      → v ≡ changed e.process m.behind e.place (after m.done m.held) m.growth u → IsMove e u v
+  move-elsewhere e s t u v m count before is walks there leads = record {
+    count = count;
+    before = before;
+    ready = m.ready;
+    behind = m.behind;
+    want = m.want;
+    held = m.held;
+    done = m.done;
+    growth = m.growth;
+    is = is;
+    walks = walks;
+    acts = m.acts;
+    wants = m.wants;
+    among = m.among;
+    there = there;
+    does = m.does;
+    leaves = m.leaves;
+    grows = m.grows;
+    only = m.only;
+    makes = m.makes;
+    records = m.records;
+    leads = leads;
+  }
+
   -- an action of a run is an entry's move, without local steps
   pub act-moves : (p : ℕ) (place : Place) (s : System P) (m : Moved P) → s.book.limits.steps ≡ limit → step machine (acts p place) s ≡ Some m →
       (a : CellAction Name) × (m.done ≡ Some a) × ((stamp : ℕ) → IsMove (record { stamp = stamp; process = p; place = place; action = recorded a }) s m.system)

@@ -13,7 +13,7 @@ use Rattle.herm_runs.proofs.ActionParts.{step-parts}
 use Rattle.herm_runs.proofs.order.Commuting.{Growth, no_growth, one_port, one_process, grown, changed, change-lost, change-behind, process-still, unequal-numbers}
 use Rattle.herm_runs.proofs.Histories.{get-set_from_one, get-other_from_one, held-with_process}
 use Rattle.herm_runs.proofs.Numbered.{other-number}
-use Rattle.herm_runs.proofs.order.EntryMoves.{IsMove, act-moves}
+use Rattle.herm_runs.proofs.order.EntryMoves.{IsMove, move-elsewhere, act-moves}
 use Rattle.herm_runs.proofs.order.MovesRun.{RunsBetween, runs-join, local-run, move-run}
 use Rattle.herm_model.specs.Values.{Name}
 
@@ -53,34 +53,9 @@ module _ {P : Type 0} (machine : Machine Name P) (limit : ℕ) where
   local-own e s u v l m =
       let at_u : numbered_from_one e.process u.processes ≡ Some l.behind = ap (λ (x : System _). numbered_from_one e.process x.processes) l.leads ∙ get-set_from_one s.processes e.process l.before l.behind l.is in
       let same : l.behind ≡ m.before = some-injective (sym at_u ∙ m.is) in
-      record {
-        count = suc m.count;
-        before = l.before;
-        ready = m.ready;
-        behind = m.behind;
-        want = m.want;
-        held = m.held;
-        done = m.done;
-        growth = m.growth;
-        is = l.is;
-        walks = (
-          m.before,
-          l.locals,
-          l.does ∙ ap (λ x. Some x) same,
-          m.walks,
-        );
-        acts = m.acts;
-        wants = m.wants;
-        among = m.among;
-        there = sym (held-with_process e.place e.process l.behind s) ∙ ap (holding_at e.place) (sym l.leads) ∙ m.there;
-        does = m.does;
-        leaves = m.leaves;
-        grows = m.grows;
-        only = m.only;
-        makes = m.makes;
-        records = m.records;
-        leads = m.leads ∙ ap (changed e.process m.behind e.place (after m.done m.held) m.growth) l.leads ∙ change-lost e.process l.behind m.behind e.place (after m.done m.held) m.growth s;
-      }
+      move-elsewhere machine limit e u v s v m (suc m.count) l.before l.is (m.before, l.locals, l.does ∙ ap (λ x. Some x) same, m.walks)
+      (sym (held-with_process e.place e.process l.behind s) ∙ ap (holding_at e.place) (sym l.leads) ∙ m.there)
+      (m.leads ∙ ap (changed e.process m.behind e.place (after m.done m.held) m.growth) l.leads ∙ change-lost e.process l.behind m.behind e.place (after m.done m.held) m.growth s)
 
   -- and in front of another process's it can come later
   local-later : (p : ℕ) (e : Entry) (s u v : System P) → (p ≡ e.process → ⊥) → IsLocal p s u → IsMove machine limit e u v → (w : System P) × IsMove machine limit e s w × IsLocal p w v
@@ -88,29 +63,9 @@ module _ {P : Type 0} (machine : Machine Name P) (limit : ℕ) where
       let h = after m.done m.held in
       let w = changed e.process m.behind e.place h m.growth s in (
         w,
-        record {
-          count = m.count;
-          before = m.before;
-          ready = m.ready;
-          behind = m.behind;
-          want = m.want;
-          held = m.held;
-          done = m.done;
-          growth = m.growth;
-          is = sym (get-other_from_one s.processes p e.process l.behind (unequal-numbers p e.process d)) ∙ ap (λ (x : System _). numbered_from_one e.process x.processes) (sym l.leads) ∙ m.is;
-          walks = m.walks;
-          acts = m.acts;
-          wants = m.wants;
-          among = m.among;
-          there = sym (held-with_process e.place p l.behind s) ∙ ap (holding_at e.place) (sym l.leads) ∙ m.there;
-          does = m.does;
-          leaves = m.leaves;
-          grows = m.grows;
-          only = m.only;
-          makes = m.makes;
-          records = m.records;
-          leads = refl;
-        },
+        move-elsewhere machine limit e u v s w m m.count m.before
+            (sym (get-other_from_one s.processes p e.process l.behind (unequal-numbers p e.process d)) ∙ ap (λ (x : System _). numbered_from_one e.process x.processes) (sym l.leads) ∙ m.is) m.walks
+            (sym (held-with_process e.place p l.behind s) ∙ ap (holding_at e.place) (sym l.leads) ∙ m.there) refl,
         record {
           before = l.before;
           behind = l.behind;

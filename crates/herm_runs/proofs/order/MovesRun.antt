@@ -1,5 +1,5 @@
 -- An entry's move is a run of local steps and an action.
-use Rattle.std.proofs.Common.{◌≡◌, ℕ, zero, suc, List, [], ◌∷◌, ◌++◌, true, cond, Some, None, is_some, option_map, option_and_then, slice_get, slice_set, refl, sym, ap, subst, ◌∙◌}
+use Rattle.std.proofs.Common.{◌≡◌, ℕ, zero, suc, List, [], ◌∷◌, ◌++◌, true, Some, None, is_some, option_map, option_and_then, slice_get, slice_set, refl, sym, ap, subst, ◌∙◌}
 use Rattle.herm_model.specs.Lists.{any_pass}
 use Rattle.herm_model.specs.Values.{Cell, Name}
 use Rattle.herm_model.proofs.Options.{some-injective}
@@ -7,12 +7,13 @@ use Rattle.herm_journal.specs.PlaceStates.{PlaceState, after}
 use Rattle.herm_journal.specs.Entries.{Place, same_place, Entry, recorded}
 use Rattle.herm_journal.specs.Stamps.{entry_behind}
 use Rattle.herm_journal.specs.Messages.{CellReply, CellWant, CellAction}
-use Rattle.herm_system.specs.Systems.{System, Moved, Event, steps, acts, run_on, step, with_entry, with_made, set_process, set_holding, holding_at, act_at, behind_action, numbered_from_one, set_from_one, places_for, done_at, done_in, can, number_of, stands, standing, can_be_done, seen_as}
+use Rattle.herm_system.specs.Systems.{System, Moved, Event, steps, acts, run_on, step, with_entry, with_made, set_process, set_holding, holding_at, numbered_from_one, set_from_one, places_for, done_at, done_in, can, number_of, stands, standing, can_be_done, seen_as}
 use Rattle.herm_system.specs.Machines.{Machine, acting, is_local, is_acting}
 use Rattle.herm_runs.proofs.Stands.{stands-as, seen-local}
 use Rattle.herm_runs.proofs.Events.{IsRunBetween, both-runs, one-run}
 use Rattle.herm_runs.proofs.order.Commuting.{Growth, grown, changed, change-lost, set-again_from_one}
 use Rattle.herm_runs.proofs.Histories.{get-set_from_one, held-with_process}
+use Rattle.herm_runs.proofs.ActionParts.{action-of, step-of}
 use Rattle.herm_runs.proofs.order.EntryMoves.{found-passes, Walks, IsMove}
 
 -- a list with an element set to what it is
@@ -38,9 +39,7 @@ module _ {P : Type 0} (machine : Machine Name P) (limit : ℕ) where
   local-happens p s x y same is locals does =
       let stays : stands is_local machine s p ≡ true =
       stands-as is_local machine s p x is ∙ seen-local (machine.ready s.book.limits.steps x) (can_be_done (can s p) (machine.wanted x)) ∙ ap (λ l. is_local (machine.ready l x)) same ∙ locals in
-      ap (λ b. cond b (option_and_then (λ x. option_map (λ y. record { system = set_process p y s; done = None }) (machine.local_step x)) (numbered_from_one p s.processes)) None) stays
-      ∙ ap (option_and_then (λ x. option_map (λ y. record { system = set_process p y s; done = None }) (machine.local_step x))) is
-      ∙ ap (option_map (λ y. record { system = set_process p y s; done = None })) does
+      step-of machine p s x y stays is does
 
   pub action-happens : (p : ℕ) (place : Place) (s : System P) (x y : P) (w : CellWant Name) (h : PlaceState (Cell Name) (CellReply Name)) (a : CellAction Name) (g : Growth P) → s.book.limits.steps ≡ limit →
       numbered_from_one p s.processes ≡ Some x → machine.ready limit x ≡ acting → machine.wanted x ≡ Some w →
@@ -51,14 +50,7 @@ module _ {P : Type 0} (machine : Machine Name P) (limit : ℕ) where
       let able : can_be_done (can s p) (machine.wanted x) ≡ true = ap (can_be_done (can s p)) wants ∙ possible in
       let stays : stands is_acting machine s p ≡ true =
       stands-as is_acting machine s p x is ∙ ap (λ l. is_acting (standing machine l (can s p) x)) same ∙ ap (λ r. is_acting (seen_as r (can_be_done (can s p) (machine.wanted x)))) ready ∙ ap (λ b. is_acting (seen_as acting b)) able in
-      ap (λ b. cond b (option_and_then (λ x. option_and_then (act_at machine p place s x) (machine.wanted x)) (numbered_from_one p s.processes)) None) stays
-      ∙ ap (option_and_then (λ x. option_and_then (act_at machine p place s x) (machine.wanted x))) is
-      ∙ ap (option_and_then (act_at machine p place s x)) wants
-      ∙ ap (λ b. cond b (option_and_then (λ k. option_and_then (behind_action machine p place s x k) (done_at w k)) (holding_at place s)) None) among
-      ∙ ap (option_and_then (λ k. option_and_then (behind_action machine p place s x k) (done_at w k))) there
-      ∙ ap (option_and_then (behind_action machine p place s x h)) does
-      ∙ ap (option_and_then (λ next. option_map (λ t. record { system = t; done = Some a }) (with_made machine x a (set_process p next (set_holding place (after a h) s))))) leaves
-      ∙ ap (option_map (λ t. record { system = t; done = Some a })) (grows (set_process p y (set_holding place (after a h) s)))
+      action-of machine p place s (changed p y place (after a h) g s) x y w h a stays is wants among there does leaves (grows (set_process p y (set_holding place (after a h) s)))
 
   -- an event that happens is the first of a run
   event-runs : (e : Event) (s : System P) (m : Moved P) (journal : List Entry) → step machine e s ≡ Some m → run_on machine e (record { system = s; journal = journal }) ≡ Some (record { system = m.system; journal = with_entry journal e m.done })

@@ -19,7 +19,7 @@ use Rattle.herm_runs.proofs.Histories.{place-same, place-itself, get-other_from_
 use Rattle.herm_runs.proofs.RunsOrdered.{maker-absent}
 use Rattle.herm_runs.proofs.Ordered.{before-later, last-more}
 use Rattle.herm_runs.proofs.order.Commuting.{no_growth, grown, changed, changes-commute, process-still, holding-still, unequal-numbers, unequal-places}
-use Rattle.herm_runs.proofs.order.EntryMoves.{makes_more, IsMove}
+use Rattle.herm_runs.proofs.order.EntryMoves.{makes_more, IsMove, move-elsewhere}
 use Rattle.herm_system.specs.Machines.{Machine, inport_of}
 
 -- the tests by which an entry counts for a clock
@@ -182,53 +182,11 @@ module _ {P : Type 0} (machine : Machine Name P) (limit : ℕ) where
       let same_x : x ≡ n.before = some-injective (sym (ap (λ (y : System _). numbered_from_one f.process y.processes) m.leads ∙ process-still e.process f.process m.behind x e.place h m.growth s d is) ∙ n.is) in
       let same_j : j ≡ n.held = some-injective (sym (ap (holding_at f.place) m.leads ∙ holding-still e.process m.behind e.place f.place h j m.growth s g at) ∙ n.there) in (
         w,
-        record {
-          count = n.count;
-          before = n.before;
-          ready = n.ready;
-          behind = n.behind;
-          want = n.want;
-          held = n.held;
-          done = n.done;
-          growth = n.growth;
-          is = is ∙ ap (λ y. Some y) same_x;
-          walks = n.walks;
-          acts = n.acts;
-          wants = n.wants;
-          among = n.among;
-          there = at ∙ ap (λ y. Some y) same_j;
-          does = n.does;
-          leaves = n.leaves;
-          grows = n.grows;
-          only = n.only;
-          makes = n.makes;
-          records = n.records;
-          leads = refl;
-        },
-        record {
-          count = m.count;
-          before = m.before;
-          ready = m.ready;
-          behind = m.behind;
-          want = m.want;
-          held = m.held;
-          done = m.done;
-          growth = m.growth;
-          is = process-still f.process e.process n.behind m.before f.place k n.growth s (λ q. d (sym q)) m.is;
-          walks = m.walks;
-          acts = m.acts;
-          wants = m.wants;
-          among = m.among;
-          there = holding-still f.process n.behind f.place e.place k m.held n.growth s (λ q. g (sym q)) m.there;
-          does = m.does;
-          leaves = m.leaves;
-          grows = m.grows;
-          only = m.only;
-          makes = m.makes;
-          records = m.records;
-          leads = n.leads ∙ ap (changed f.process n.behind f.place k n.growth) m.leads
-              ∙ changes-commute e.process f.process m.behind n.behind m.before x e.place f.place h k m.held j m.growth n.growth s d g (one-grows e f s u u v m n g) m.is is m.there at;
-        },
+        move-elsewhere machine limit f u v s w n n.count n.before (is ∙ ap (λ y. Some y) same_x) n.walks (at ∙ ap (λ y. Some y) same_j) refl,
+        move-elsewhere machine limit e s u w v m m.count m.before (process-still f.process e.process n.behind m.before f.place k n.growth s (λ q. d (sym q)) m.is) m.walks
+            (holding-still f.process n.behind f.place e.place k m.held n.growth s (λ q. g (sym q)) m.there)
+            (n.leads ∙ ap (changed f.process n.behind f.place k n.growth) m.leads
+            ∙ changes-commute e.process f.process m.behind n.behind m.before x e.place f.place h k m.held j m.growth n.growth s d g (one-grows e f s u u v m n g) m.is is m.there at),
       )
 
   -- the stamps of the two in the other order, and those behind them

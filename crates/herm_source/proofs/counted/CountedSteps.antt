@@ -28,7 +28,8 @@ use Rattle.herm_forms.specs.OpenCalls.{Calling, calling_form, call_type}
 use Rattle.herm_forms.specs.Acts.{is_action, wants, settle, composed, arguments_at, is_out, leads_to}
 use Rattle.herm_forms.specs.Weights.{weight_made}
 use Rattle.herm_forms.proofs.Copies.{CopiesKinds, more-copies}
-use Rattle.herm_forms.proofs.Loads.{load, load_kept}
+use Rattle.herm_model.proofs.Loads.{load}
+use Rattle.herm_forms.proofs.Loads.{load_kept}
 use Rattle.herm_forms.proofs.Weights.{Spares}
 use Rattle.herm_forms.proofs.Begun.{begun, over, port_load, call_load, back_load}
 use Rattle.herm_forms.proofs.KeptForms.{recount-composed}
@@ -98,58 +99,28 @@ module _ (test : Kind → Bool) (of : IsOfWaiting test) (modules : Modules) (c :
   agrees-new : (y : State Name) (a : CellAction Name) → Answers {M = Cell Name} {R = CellReply Name} new_port a → Agrees y new_port a (port_load (one_of test) a) 0
   agrees-new y (make_port (Some n)) h = omega (arith, one-kind (an_inport n))
   agrees-new y (make_port None) h = refl
-  agrees-new y (make_process code weight_made) h = absurd h
-  agrees-new y (put number m) h = absurd h
-  agrees-new y (take number m) h = absurd h
-  agrees-new y (close count left) h = absurd h
-  agrees-new y (answer call r) h = absurd h
-  agrees-new y (hear call r) h = absurd h
+  agrees-new y a h = absurd h
 
   agrees-create : (y : State Name) (code : ℕ) (a : CellAction Name) → Answers {M = Cell Name} {R = CellReply Name} (new_process code) a → Agrees y (new_process code) a (port_load (one_of test) a) 0
   agrees-create y code (make_process code' (Some weight_made)) h = omega (arith, one-kind (an_inport weight_made.1))
   agrees-create y code (make_process code' None) h = refl
-  agrees-create y code (make_port weight_made) h = absurd h
-  agrees-create y code (put number m) h = absurd h
-  agrees-create y code (take number m) h = absurd h
-  agrees-create y code (close count left) h = absurd h
-  agrees-create y code (answer call r) h = absurd h
-  agrees-create y code (hear call r) h = absurd h
+  agrees-create y code a h = absurd h
 
   agrees-take : (y : State Name) (ports : List ℕ) (a : CellAction Name) → Answers {M = Cell Name} {R = CellReply Name} (to_take ports) a → Agrees y (to_take ports) a 0 0
   agrees-take y ports (take number m) h = refl
-  agrees-take y ports (make_port weight_made) h = absurd h
-  agrees-take y ports (make_process code weight_made) h = absurd h
-  agrees-take y ports (put number m) h = absurd h
-  agrees-take y ports (close count left) h = absurd h
-  agrees-take y ports (answer call r) h = absurd h
-  agrees-take y ports (hear call r) h = absurd h
+  agrees-take y ports a h = absurd h
 
   agrees-hear : (y : State Name) (a : CellAction Name) → Answers {M = Cell Name} {R = CellReply Name} to_hear a → Agrees y to_hear a 0 0
   agrees-hear y (hear call r) h = refl
-  agrees-hear y (make_port weight_made) h = absurd h
-  agrees-hear y (make_process code weight_made) h = absurd h
-  agrees-hear y (put number m) h = absurd h
-  agrees-hear y (take number m) h = absurd h
-  agrees-hear y (close count left) h = absurd h
-  agrees-hear y (answer call r) h = absurd h
+  agrees-hear y a h = absurd h
 
   agrees-close : (y : State Name) (n : ℕ) (a : CellAction Name) → Answers {M = Cell Name} {R = CellReply Name} (to_close n) a → Agrees y (to_close n) a 0 (one_of test (an_inport n))
   agrees-close y n (close count left) h = omega (arith, one-kind (an_inport n))
-  agrees-close y n (make_port weight_made) h = absurd h
-  agrees-close y n (make_process code weight_made) h = absurd h
-  agrees-close y n (put number m) h = absurd h
-  agrees-close y n (take number m) h = absurd h
-  agrees-close y n (answer call r) h = absurd h
-  agrees-close y n (hear call r) h = absurd h
+  agrees-close y n a h = absurd h
 
   agrees-answer : (y : State Name) (caller call : ℕ) (reply : CellReply Name) (a : CellAction Name) → Answers (to_answer caller call reply) a → Agrees y (to_answer caller call reply) a 0 (one_of test (a_callmessage caller call))
   agrees-answer y caller call reply (answer k r) h = omega (arith, one-kind (a_callmessage caller call))
-  agrees-answer y caller call reply (make_port weight_made) h = absurd h
-  agrees-answer y caller call reply (make_process code weight_made) h = absurd h
-  agrees-answer y caller call reply (put number m) h = absurd h
-  agrees-answer y caller call reply (take number m) h = absurd h
-  agrees-answer y caller call reply (close count left) h = absurd h
-  agrees-answer y caller call reply (hear k r) h = absurd h
+  agrees-answer y caller call reply a h = absurd h
 
   -- the call that a process has open then
   abbrev Opens : State Name → Option ℕ → Type 0
@@ -166,23 +137,13 @@ module _ (test : Kind → Bool) (of : IsOfWaiting test) (modules : Modules) (c :
   agrees-send : (y : State Name) (port : ℕ) (m : Cell Name) (a : CellAction Name) → Answers {R = CellReply Name} (to_put port m) a → ((i : ℕ) (d : Cell Name) → a ≡ put (Some i) d → Opens y None) → Agrees y (to_put port m) a 0 0
   agrees-send y port m (put (Some i) d) h opens = omega (arith, made-none y ((source modules).open_call y) ((source modules).number y) (opens i d refl))
   agrees-send y port m (put None d) h opens = refl
-  agrees-send y port m (make_port weight_made) h opens = absurd h
-  agrees-send y port m (make_process code weight_made) h opens = absurd h
-  agrees-send y port m (take number d) h opens = absurd h
-  agrees-send y port m (close count left) h opens = absurd h
-  agrees-send y port m (answer k r) h opens = absurd h
-  agrees-send y port m (hear k r) h opens = absurd h
+  agrees-send y port m a h opens = absurd h
 
   agrees-call : (y : State Name) (port k : ℕ) (m : Cell Name) (a : CellAction Name) → Answers {R = CellReply Name} (to_put port m) a → kind_of m ≡ a_callmessage y.frame.number k → ((i : ℕ) (d : Cell Name) → a ≡ put (Some i) d → Opens y (Some k))
       → Agrees y (to_put port m) a (one_of test (kind_of m)) (back_load (one_of test) a)
   agrees-call y port k m (put (Some i) d) h kind opens = omega (arith, ap (one_of test) kind, made-one y ((source modules).open_call y) y.frame.number k (opens i d refl))
   agrees-call y port k m (put None d) h kind opens = omega (arith, ap (λ (m : Cell Name). one_of test (kind_of m)) h)
-  agrees-call y port k m (make_port weight_made) h kind opens = absurd h
-  agrees-call y port k m (make_process code weight_made) h kind opens = absurd h
-  agrees-call y port k m (take number d) h kind opens = absurd h
-  agrees-call y port k m (close count left) h kind opens = absurd h
-  agrees-call y port k m (answer j r) h kind opens = absurd h
-  agrees-call y port k m (hear j r) h kind opens = absurd h
+  agrees-call y port k m a h kind opens = absurd h
 
   -- a message that was sent leaves no call open
   sent-call : (s t : State Name) (n : Node) (lost : List Path) (x : Path) (b : Frame Name) (o : Option (Cell Name)) → b.call ≡ None

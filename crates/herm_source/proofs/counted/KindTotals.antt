@@ -5,13 +5,13 @@ use Rattle.herm_model.specs.Lists.{total, list_of}
 use Rattle.herm_model.specs.Values.{Name, Kind, Cell, cell, Parts, no_parts, gap, part}
 use Rattle.herm_model.specs.Finalising.{waits}
 use Rattle.herm_model.proofs.Lists.{total-append}
-use Rattle.herm_journal.specs.Actions.{values, raised, gone, new_port, new_process, to_put, to_take, to_close, to_answer, to_hear, make_port, make_process, put, take, close, answer, hear}
+use Rattle.herm_journal.specs.Actions.{values, raised, gone, new_process, to_put, to_answer, make_process, put, take, close, hear}
 use Rattle.herm_journal.specs.Messages.{CellReply, CellWant, CellAction, cells_in}
 use Rattle.herm_forms.specs.Frames.{Loop}
 use Rattle.herm_forms.specs.Weights.{weight_made}
 use Rattle.herm_forms.specs.Modules.{Module}
-use Rattle.herm_forms.proofs.Loads.{load, load_in, load_all, load_reply, load_coming, load_going, load_loops, load_kept}
-use Rattle.herm_forms.proofs.Weights.{SparesPlain}
+use Rattle.herm_model.proofs.Loads.{SparesPlain, load, load_in, load_all}
+use Rattle.herm_forms.proofs.Loads.{load_reply, load_coming, load_going, load_loops, load_kept}
 use Rattle.herm_journal.specs.Weights.{weigh_serials}
 use Rattle.herm_system.specs.Machines.{Held, inport_of}
 use Rattle.herm_system.specs.Summary.{how_many}
@@ -79,29 +79,16 @@ module _ (test : Kind → Bool) where
 
   pub of-coming : (a : CellAction Name) → how_many test (kinds_coming a) ≡ load_coming nameless one_of a
   of-coming (put None m) = of-cell m
-  of-coming (put (Some k) m) = refl
   of-coming (take k m) = of-cell m
   of-coming (close count left) = of-cells left
   of-coming (hear call r) = of-reply r
-  of-coming (make_port weight_made) = refl
-  of-coming (make_process code weight_made) = refl
-  of-coming (answer call r) = refl
+  of-coming a = refl
 
   pub of-going : (modules : Modules) (x : State Name) (want : CellWant Name) (a : CellAction Name) → how_many test (kinds_going (source modules) x want a) ≡ load_going nameless one_of own_name x.frame want a
   of-going modules x (to_put port m) a = of-cell m
   of-going modules x (to_answer caller call r) a = of-reply r
   of-going modules x (new_process code) (make_process code' (Some weight_made)) = of-cell (inport_of (source modules) weight_made.1 x)
-  of-going modules x (new_process code) (make_process code' None) = refl
-  of-going modules x (new_process code) (make_port weight_made) = refl
-  of-going modules x (new_process code) (put number m) = refl
-  of-going modules x (new_process code) (take number m) = refl
-  of-going modules x (new_process code) (close count left) = refl
-  of-going modules x (new_process code) (answer call r) = refl
-  of-going modules x (new_process code) (hear call r) = refl
-  of-going modules x new_port a = refl
-  of-going modules x (to_take ports) a = refl
-  of-going modules x (to_close n) a = refl
-  of-going modules x to_hear a = refl
+  of-going modules x want a = refl
 
   nothing-finalised : (ns : List Name) → total nameless ns ≡ 0
   nothing-finalised [] = refl

@@ -1,9 +1,7 @@
 -- The port at which a process takes a message is one that it looks at, and its type there is that of an inport that it has.
 use Rattle.std.proofs.Common.{◌≡◌, inl, inr, ℕ, List, [], ◌∷◌, map, find, Bool, true, false, cond, Option, Some, None, option_map, option_and_then, refl, sym, ap, ◌∙◌, subst}
-use Rattle.std.proofs.lemmas.Bool.{eqb-true}
 use Rattle.std.proofs.Math.Bool.{or-false}
 use Rattle.std.specs.Prelude.{nat_eq}
-use mathlib.Core.Bool.{false≢true}
 use Rattle.herm_model.specs.Lists.{IsIn, any_pass, list_of}
 use Rattle.herm_model.specs.Paths.{Path}
 use Rattle.herm_model.specs.Types.{type_at}
@@ -13,7 +11,7 @@ use Rattle.herm_model.specs.Values.{a_callmessage, an_inport, Cell, cell, kind_o
 use Rattle.herm_model.specs.Typed.{HaveTypes}
 use Rattle.herm_model.proofs.Lists.{found-in}
 use Rattle.herm_model.proofs.Options.{some-injective, none-not_some, chain-some, map-some}
-use Rattle.herm_journal.specs.Actions.{values, new_port, new_process, to_put, to_take, to_close, to_answer, to_hear}
+use Rattle.herm_journal.specs.Actions.{new_port, new_process, to_put, to_take, to_close, to_answer, to_hear}
 use Rattle.herm_journal.specs.Actions
 use Rattle.herm_journal.proofs.Rising.{same-true}
 use Rattle.herm_forms.specs.Frames.{Name, Frame}
@@ -30,6 +28,7 @@ use Rattle.herm_source.specs.SeenBySystem.{ports_of, looks_at, port_type}
 use Rattle.herm_system.specs.Kinds.{each, typed_in}
 use Rattle.herm_runs.proofs.ActionParts.{cond-both}
 use Rattle.herm_source.proofs.incoming.SuitsReading.{type-read}
+use Rattle.herm_runs.proofs.SuitsStates.{is-some_of}
 
 -- what is found of a list that has such an element
 pub find-some : {X : Type 0} (test : X → Bool) (x : X) (xs : List X) → IsIn x xs → test x ≡ true → (y : X) × (find test xs ≡ Some y)
@@ -40,10 +39,6 @@ find-some {X} test x (z ∷ xs) (inr is) e = by_test (test z) (find-some test x 
     by_test : (b : Bool) → (y : X) × (find test xs ≡ Some y) → (y : X) × (cond b (Some z) (find test xs) ≡ Some y)
     by_test true h = (z, refl)
     by_test false h = h
-
-is-some_of : (n : ℕ) (o : Option ℕ) → any_pass (nat_eq n) (list_of (λ k. k ∷ []) o) ≡ true → o ≡ Some n
-is-some_of n None e = absurd (false≢true e)
-is-some_of n (Some k) e = ap (λ i. Some i) (sym (eqb-true n k (sym (or-false (nat_eq n k)) ∙ e)))
 
 some-looked : (n : ℕ) (i : Path) (s : State Name) → inport_at i s.frame ≡ Some n → looks_at n s i ≡ true
 some-looked n i s e = ap (λ o. any_pass (nat_eq n) (list_of (λ k. k ∷ []) o)) e ∙ or-false (nat_eq n n) ∙ same-true n

@@ -3,13 +3,11 @@ use Rattle.std.proofs.Common.{◌≡◌, ℕ, List, [], ◌∷◌, Bool, true, f
 use Rattle.std.specs.Prelude.{pred, length}
 use Rattle.herm_model.specs.Nodes.{Node}
 use Rattle.herm_model.specs.Targets.{Target}
-use Rattle.herm_model.specs.Values.{gaps, Kind, a_callmessage, Cell, part}
+use Rattle.herm_model.specs.Values.{Kind, a_callmessage, Cell}
 use Rattle.herm_model.proofs.Options.{none-not_some, some-injective, map-some}
 use Rattle.herm_forms.specs.Frames.{Name, Frame, Completion, goes, stays, stuck, counted_step, counted_action}
 use Rattle.herm_forms.specs.Exchanges
 use Rattle.herm_journal.specs.Messages.{CellWant, CellAction}
-use Rattle.herm_forms.specs.Exchanges.{receive_at, place_of_port, ports_at, inport_at, outport_at}
-use Rattle.herm_forms.specs.Callmessages.{Composed, compose, assemble, with_message, caller_of}
 use Rattle.herm_forms.specs.EdgeFinalising.{arrive}
 use Rattle.herm_forms.specs.Modules.{Module}
 use Rattle.herm_source.specs.States.{State, Next, an_item, a_reply, a_statement, nothing, next_of, node_at, call_or_statement, item_or, wanted, wanted_next, state_after, step_next, settle_next, begin, local_step, answered}
@@ -18,6 +16,7 @@ use Rattle.herm_journal.specs.Kinds.{HasKinds, AllKinds, IfWant, ActionKinds}
 use Rattle.herm_forms.proofs.known.HeldKinds.{gaps-kinds}
 use Rattle.herm_forms.proofs.known.KindsKept.{AllowsPlain, BodyKinds, All, went, stayed, never, all-act, is-arrive}
 use Rattle.herm_forms.proofs.known.KindsExchanged.{all-work, all-settle, all-settle_reply, work-wants, wants-kinds}
+use Rattle.herm_source.proofs.OpeningFrame.{opening_frame}
 
 module _ {N : Type 0} (name : Name → N) (of : Kind → Type 0) (allows : AllowsPlain of) where
   -- what comes next
@@ -87,16 +86,5 @@ module _ {N : Type 0} (name : Name → N) (of : Kind → Type 0) (allows : Allow
   pub begin-kinds : (c : Module) (code number : ℕ) (port : Cell N) → HasKinds of port → ((call : ℕ) → of (a_callmessage number call)) → BodyKinds of (begin c code number port).frame
   begin-kinds c code number port h own =
       is-arrive name of allows c c.entry
-      (record {
-        number = number;
-        variables = part port (gaps (pred (length c.variables)));
-        loops = [];
-        work = [];
-        call = None;
-        calls = 0;
-        steps = 0;
-        actions = 0;
-        serial = 0;
-        finalised = [];
-      })
+      (opening_frame c number port)
       ((h, gaps-kinds of N (pred (length c.variables))), tt, tt, own)

@@ -13,7 +13,7 @@ use Rattle.herm_model.specs.TypedStatements.{IsTypedForm}
 use Rattle.herm_model.specs.TypedStatements
 use Rattle.herm_model.proofs.Lists.{not_true}
 use Rattle.herm_model.proofs.Options.{some-injective, none-not_some, map-some, chain-some}
-use Rattle.herm_journal.specs.Actions.{values, gone, new_process, to_put, make_port, make_process, put, take, hear}
+use Rattle.herm_journal.specs.Actions.{values, gone, make_port, make_process, put, take, hear}
 use Rattle.herm_journal.specs.Actions
 use Rattle.herm_journal.specs.Messages.{CellReply, CellWant, CellAction, OfType, AreFull, is_inport, IsReplyTo, message_of_port, types_of_reply, cells_in}
 use Rattle.herm_journal.specs.PartTypes.{PartTypes, each, all_of, part_types_at, is_kind_at, IsPlaced, ArePlaced}
@@ -43,6 +43,7 @@ use Rattle.herm_source.proofs.counted.CountedSteps.{node-there, stands}
 use Rattle.herm_source.proofs.sound.SoundProcesses.{SuitsCode, put-wanted}
 use Rattle.herm_source.proofs.placed.TypedPlaces.{typed-placed, list-placed}
 use Rattle.herm_source.proofs.placed.PlacedSteps.{Own, own-agrees, Body', All, behind-is}
+use Rattle.herm_source.proofs.OpeningFrame.{opening_frame}
 
 -- what is listed where there is something
 pub in-some : {X Y : Type 0} (f : X → List Y) (y : Y) (o : Option X) (x : X) → o ≡ Some x → IsIn y (f x) → IsIn y (list_of f o)
@@ -185,18 +186,7 @@ module _ (Is : ℕ → Kind → Type 0) (c : Module) where
   pub begin-is : (code number port : ℕ) (n : Name) (t : ℕ) → slice_get c.variables 0 ≡ Some t → Own Is c t (an_inport port) → Body' Is c (begin c code number (cell n (an_inport port) no_parts)).frame
   begin-is code number port n t first h =
       arrive-is own_name c (Own Is c) agrees' (row_type c) c.entry
-      (record {
-        number = number;
-        variables = part (cell n (an_inport port) no_parts) (gaps (pred (length c.variables)));
-        loops = [];
-        work = [];
-        call = None;
-        calls = 0;
-        steps = 0;
-        actions = 0;
-        serial = 0;
-        finalised = [];
-      })
+      (opening_frame c number (cell n (an_inport port) no_parts))
       (by c.variables first, tt)
     where
       by : (ts : List ℕ) → slice_get ts 0 ≡ Some t → ArePlaced c.types (Own Is c) (each ts) (part (cell n (an_inport port) no_parts) (gaps (pred (length ts))))

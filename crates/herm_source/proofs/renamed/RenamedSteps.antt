@@ -3,13 +3,12 @@ use Rattle.std.proofs.Common.{◌≡◌, ℕ, List, [], ◌∷◌, map, Bool, tr
 use Rattle.std.specs.Prelude.{pred, option_and_then}
 use Rattle.herm_model.specs.Nodes.{Node}
 use Rattle.herm_model.specs.Targets.{Target}
-use Rattle.herm_model.specs.Values.{Cell, gaps, part}
+use Rattle.herm_model.specs.Values.{Cell, part}
 use Rattle.herm_model.specs.CellNames.{rename}
 use Rattle.herm_model.proofs.Renaming.{gaps-rename}
 use Rattle.herm_forms.specs.Frames.{Name, Frame, Completion, goes, stays, stuck, counted_step, counted_action}
 use Rattle.herm_forms.specs.Exchanges
 use Rattle.herm_journal.specs.Messages.{CellWant, CellAction}
-use Rattle.herm_forms.specs.Callmessages.{Composed, compose}
 use Rattle.herm_forms.specs.EdgeFinalising.{arrive}
 use Rattle.herm_forms.specs.Modules.{Module}
 use Rattle.herm_source.specs.States.{State, begin, Next, an_item, a_reply, a_statement, nothing, node_at, call_or_statement, item_or, next_of, state_after, wanted_next, wanted, step_next, local_step, settle_next, answered}
@@ -21,6 +20,7 @@ use Rattle.herm_forms.proofs.renamed.RenamedBodies.{rename_result}
 use Rattle.herm_forms.proofs.renamed.RenamedForms.{arrive-renamed}
 use Rattle.herm_forms.proofs.renamed.RenamedActions.{work_wants-renamed, work_done-renamed}
 use Rattle.herm_forms.proofs.renamed.RenamedActs.{again, act-renamed, wants-renamed, settle-renamed, settle_reply-renamed}
+use Rattle.herm_source.proofs.OpeningFrame.{opening_frame}
 
 module _ {N M : Type 0} (f : N → M) (name : Name → N) where
   -- states
@@ -97,6 +97,6 @@ module _ {N M : Type 0} (f : N → M) (name : Name → N) where
 
   pub begin-renamed : (c : Module) (code number : ℕ) (port : Cell N) → begin c code number (rename f port) ≡ rename_state f (begin c code number port)
   begin-renamed c code number port =
-      let first : Frame N = record { number = number; variables = part port (gaps (pred (length c.variables))); loops = []; work = []; call = None; calls = 0; steps = 0; actions = 0; serial = 0; finalised = [] } in
+      let first : Frame N = opening_frame c number port in
       ap (λ ps. record { module_number = code; point = c.entry; frame = arrive c c.entry (record (rename_body f first) { variables = part (rename f port) ps }) }) (sym (gaps-rename f (pred (length c.variables))))
       ∙ ap (λ (b : Frame M). record { module_number = code; point = c.entry; frame = b }) (arrive-renamed f c c.entry first)

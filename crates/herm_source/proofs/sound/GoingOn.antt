@@ -17,8 +17,7 @@ use Rattle.herm_journal.specs.Messages.{CellWant, CellAction, CellReply, is_inpo
 use Rattle.herm_journal.specs.PartTypes.{each}
 use Rattle.herm_forms.specs.Frames.{Name, Frame, counted_action}
 use Rattle.herm_forms.specs.Exchanges
-use Rattle.herm_forms.specs.Exchanges.{work_wants, inport_at, outport_at, ports_at}
-use Rattle.herm_forms.specs.Callmessages.{Composed, caller_of, return_wants}
+use Rattle.herm_forms.specs.Exchanges.{work_wants, inport_at, ports_at}
 use Rattle.herm_forms.specs.Modules.{Module, module_of}
 use Rattle.herm_forms.specs.Acts.{is_action, wants, given_back, given_at, given_by, settle_reply}
 use Rattle.herm_forms.specs.OpenCalls.{Calling, call_type, IsReply}

@@ -1,6 +1,6 @@
 -- A process of a typed and accepted module stays sound within itself, and where control paths lead.
 use Rattle.std.proofs.Common.{◌≡◌, ◌↔◌, inr, ℕ, List, [], ◌∷◌, Bool, true, false, cond, Option, Some, None, option_map, refl, sym, ap, ◌∙◌, subst, true≢false}
-use Rattle.std.specs.Prelude.{pred, length, slice_get, option_and_then, IsTrue, IsFalse}
+use Rattle.std.specs.Prelude.{slice_get, option_and_then, IsTrue, IsFalse}
 use Rattle.herm_model.specs.Lists.{IsIn, list_of, any_pass}
 use Rattle.herm_model.specs.Paths.{Fact, init, case, path_of, is_at_or_below}
 use Rattle.herm_model.specs.Types.{TypeTable, inport}
@@ -12,7 +12,7 @@ use Rattle.herm_model.specs.Nodes.{Node, Exit, exits, process_nodes, entry_of}
 use Rattle.herm_model.specs.Targets.{Target, node, end, end_by}
 use Rattle.herm_model.specs.ControlPaths.{flow_of, IsReached}
 use Rattle.herm_model.specs.Refusals.{Labels, label_at, AreExact, IsAccepted}
-use Rattle.herm_model.specs.Values.{Cell, cell, an_inport, no_parts, part, gaps}
+use Rattle.herm_model.specs.Values.{Cell, cell, an_inport, no_parts}
 use Rattle.herm_model.proofs.Lists.{not_true, in-map_from}
 use Rattle.herm_model.proofs.NodeExits.{exits-outcomes}
 use Rattle.herm_model.proofs.Reached.{same_outcome_self}
@@ -52,6 +52,7 @@ use Rattle.herm_source.proofs.placed.PlacedSteps.{find-own}
 use Rattle.herm_source.proofs.sound.Shapes.{AreLists, AreItems, IsShaped, shape-kept, fewer-shape, OnlyWorks, only-lets}
 use Rattle.herm_source.proofs.sound.LoopLists.{only-differ, arrived-kept, lists-at}
 use Rattle.herm_source.proofs.sound.OneForm.{rows-fit, Found, GoesWell, AnswersWell, acts-well, settles-well, replies-well}
+use Rattle.herm_source.proofs.OpeningFrame.{opening_frame}
 
 -- the facts that a process has, as a test
 abbrev pub has_of : Module → State Name → Fact → Bool
@@ -349,18 +350,7 @@ module _ (exceptions : ℕ) (types : TypeTable) (processes : List Process) (p : 
           let values =
           beginnings-sound types p labels good.exact deep t more e code number (cell m (an_inport port) no_parts)
           (typed-by types t (inport h.1 h.2) m (an_inport port) no_parts (subst (λ t. slice_get types t ≡ Some (inport h.1 h.2)) (sym type) h.4) tt refl) refl in
-          let first : Frame Name = record {
-            number = number;
-            variables = part (cell m (an_inport port) no_parts) (gaps (pred (length c.variables)));
-            loops = [];
-            work = [];
-            call = None;
-            calls = 0;
-            steps = 0;
-            actions = 0;
-            serial = 0;
-            finalised = [];
-          } in
+          let first : Frame Name = opening_frame c number (cell m (an_inport port) no_parts) in
           let shape : IsShaped c None x.frame =
           is-arrive own_name (IsShaped c None) (IsShaped c None) (shape-kept c None) (fewer-shape c None) c c.entry first (((λ l h. absurd h), tt), (λ item h. absurd h), refl) in (
             sound-of c x (same_facts c (label_at labels (entry_of p)) (has_of c x) x.frame.variables (λ f. sym (idle-has c x f shape.2)) values) (arrived-lists c c.entry first shape.0) shape.1 (λ k e. none-not_some (sym shape.2 ∙ e)),

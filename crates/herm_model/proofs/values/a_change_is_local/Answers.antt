@@ -1,5 +1,6 @@
 use Rattle.std.proofs.Common.{◌∷◌}
-use Rattle.herm_model.proofs.Places.{cell_at-set_same, cell_at-set_below, cell_at-set_above, cell_at-set_apart, read_at-change_at, weigh-change_at}
+use Rattle.herm_model.proofs.Places.{cell_at-set_same, cell_at-set_below, cell_at-set_above, cell_at-set_apart, read_at-change_at}
+use Rattle.herm_model.proofs.NamesWeigh.{weigh-change_at}
 use Rattle.herm_model.proofs.values.a_change_is_local.Goals as goal
 
 pub returns-clause-at : goal.returns-clause-at

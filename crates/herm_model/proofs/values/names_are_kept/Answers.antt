@@ -1,4 +1,4 @@
-use Rattle.herm_model.proofs.Places.{weigh-set_at, weigh-finalised}
+use Rattle.herm_model.proofs.NamesWeigh.{weigh-set_at, weigh-finalised}
 use Rattle.herm_model.proofs.values.names_are_kept.Goals as goal
 
 pub returns-clause-change : goal.returns-clause-change
