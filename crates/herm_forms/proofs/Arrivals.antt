@@ -6,7 +6,7 @@ use Rattle.herm_model.specs.Facts.{IsClosed}
 use Rattle.herm_model.specs.Statements.{Process}
 use Rattle.herm_model.specs.Targets.{Target, node, end, end_by}
 use Rattle.herm_model.specs.ControlPaths.{flow_of, held_after_edge, IsReached}
-use Rattle.herm_model.specs.Refusals.{Labels, label_at, AreExact}
+use Rattle.herm_model.specs.Labels.{Labels, label_at, AreExact}
 use Rattle.herm_model.specs.laws.FlowLaws.{goes_on}
 use Rattle.herm_model.proofs.DifferentOutcomes.{process-EdgesDiffer}
 use Rattle.herm_model.proofs.Reached.{reached-IsLedTo, reached-led}

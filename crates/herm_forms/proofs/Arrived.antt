@@ -10,7 +10,7 @@ use Rattle.herm_model.specs.Paths.{Path, Fact, init, case, parent, is_at_or_belo
 use Rattle.herm_model.specs.Types.{TypeTable, part_of, is_variant, is_within_depth, greatest_depth, enters_component, passes_component, held_parts, part_paths, variable_paths}
 use Rattle.herm_model.specs.Facts.{facts_from, facts_to, prefixes, IsClosed}
 use Rattle.herm_model.specs.Targets.{Target}
-use Rattle.herm_model.specs.Refusals.{label_at}
+use Rattle.herm_model.specs.Labels.{label_at}
 use Rattle.herm_model.specs.Values.{Cell, cell, Parts, no_parts, gap, part, opens, cell_at, has_value, set_part, set_at, change_part, change_inside, clear_at}
 use Rattle.herm_model.specs.FactsOfValues.{HasExactly}
 use Rattle.herm_model.specs.Typed.{partly, a_value, exactly, Fits, HasType, HaveTypes}

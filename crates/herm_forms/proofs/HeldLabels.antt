@@ -9,7 +9,7 @@ use Rattle.herm_model.specs.Facts.{IsClosed}
 use Rattle.herm_model.specs.Statements.{Process}
 use Rattle.herm_model.specs.Targets.{Target, node, end, end_by}
 use Rattle.herm_model.specs.ControlPaths.{Edge, Point, Flow, Hop, flow_of, held_after_edge, held_at_start, IsControlPath, IsReached}
-use Rattle.herm_model.specs.Refusals.{Labels, label_at, AreExact}
+use Rattle.herm_model.specs.Labels.{Labels, label_at, AreExact}
 use Rattle.herm_model.specs.laws.FlowLaws.{EdgesDiffer, IsLedTo, goes_on}
 use Rattle.herm_model.proofs.FactTests.{got-IsIn}
 use Rattle.herm_model.proofs.Walks.{walk-common}

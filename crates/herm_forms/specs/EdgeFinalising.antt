@@ -1,8 +1,8 @@
--- A process module made ready to run, and what an edge finalises.
+-- What an edge of control finalises, in its order.
 use Rattle.std.specs.Prelude.{Bool}
 use Rattle.herm_model.specs.Paths.{Path, init}
 use Rattle.herm_model.specs.Targets.{Target}
-use Rattle.herm_model.specs.Refusals.{label_at}
+use Rattle.herm_model.specs.Labels.{label_at}
 use Rattle.herm_model.specs.Values.{has_value}
 use Rattle.herm_model.specs.Finalising.{excess}
 use Rattle.herm_forms.specs.Frames.{Frame, drop}

@@ -4,7 +4,7 @@ use Rattle.herm_model.specs.Types.{TypeTable}
 use Rattle.herm_model.specs.Statements.{Statement, simple, choosing, repeating, leaving, trying, Block, no_statements, statement, Blocks, no_blocks, block, Handlers, no_handlers, handler, numbers_of, numbers_of_block, Process}
 use Rattle.herm_model.specs.Nodes.{Node, process_nodes, entry_of}
 use Rattle.herm_model.specs.Targets.{Target}
-use Rattle.herm_model.specs.Refusals.{Labels}
+use Rattle.herm_model.specs.Labels.{Labels}
 
 -- a loop, by its statement's number and how many statements it has, its own counted
 pub record Span : Type 0 where

@@ -5,7 +5,7 @@ use Rattle.herm_model.specs.Paths.{Fact, same_fact, is_at_or_below, path_of}
 use Rattle.herm_model.specs.Outcomes.{same_outcome}
 use Rattle.herm_model.specs.Targets.{Target, node, end, end_by}
 use Rattle.herm_model.specs.ControlPaths.{Edge, Point, Flow, Hop, Standing, held_after_edge, held_at_start, walk, edge_at, edge_from, Holds}
-use Rattle.herm_model.specs.Refusals.{Labels, label_at, AreInductive}
+use Rattle.herm_model.specs.Labels.{Labels, label_at, AreInductive}
 use Rattle.herm_model.proofs.Lists.{found-in}
 
 -- an edge that a hop takes is one of the point's

@@ -1,4 +1,4 @@
--- The handlers around a statement, and where a raised exception leads. Language reference, "Exceptions".
+-- The handlers of each `try` around a statement, and where a raised exception leads. Language reference, "Exceptions".
 use Rattle.std.specs.Prelude.{ℕ, List, [], ◌∷◌, cond, nat_eq}
 use Rattle.herm_model.specs.Targets.{Target, end_by}
 

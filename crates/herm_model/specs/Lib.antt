@@ -15,6 +15,7 @@ pub mod Outcomes
 pub mod Nodes
 pub mod StatementTable
 pub mod Refusals
+pub mod Labels
 pub mod StraightLines
 pub mod TypedExpressions
 pub mod laws

@@ -1,11 +1,10 @@
--- Refusals of typestate: what is missing where, each with a path, and labels that say what holds.
-use Rattle.std.specs.Prelude.{◌≡◌, ◌↔◌, ℕ, List, [], ◌∷◌, map, flat_map, Bool, true, false, Some, slice_get}
-use Rattle.herm_model.specs.Lists.{IsIn, numbered}
+-- Refusals of typestate: what is missing where, each with a path.
+use Rattle.std.specs.Prelude.{ℕ, List, [], ◌∷◌, map, flat_map}
+use Rattle.herm_model.specs.Lists.{numbered}
 use Rattle.herm_model.specs.Paths.{Fact}
 use Rattle.herm_model.specs.Types.{TypeTable}
 use Rattle.herm_model.specs.Statements.{Process}
-use Rattle.herm_model.specs.Targets.{Target, node, end, end_by}
-use Rattle.herm_model.specs.ControlPaths.{Edge, Point, Flow, flow_of, Hop, held_after_edge, held_at_start, IsReached, Holds, LacksBy}
+use Rattle.herm_model.specs.ControlPaths.{Point, Flow, flow_of, Hop, Holds, LacksBy}
 
 -- a fact that the point at a place needs
 pub record Demand : Type 0 where
@@ -40,24 +39,3 @@ IsMissing types p refusals = AreRefusals (flow_of types p) (demands (flow_of typ
 -- A process is accepted where nothing is missing. Language reference, "Refusals of typestate".
 abbrev pub IsAccepted : TypeTable → Process → Type 0
 IsAccepted types p = IsMissing types p []
-
--- at each place, a test for facts
-abbrev pub Labels : Type 0
-Labels = ℕ → Fact → Bool
-
--- the label at a target: no fact at an end
-abbrev pub label_at : Labels → Target → Fact → Bool
-label_at labels (node i) f = labels i f
-label_at labels end f = false
-label_at labels (end_by e) f = false
-
--- Labels flow where the entry's label has facts of the start alone, and along each edge each fact of the label
--- that it leads to is held behind the edge, given that the facts of the label before are.
-pub record AreInductive (flow : Flow) (labels : Labels) : Type 0 where
-  pub begins : (f : Fact) → label_at labels flow.entry f ≡ true → held_at_start f ≡ true
-  pub goes_on : (i : ℕ) (p : Point) (e : Edge) (f : Fact) → slice_get flow.points i ≡ Some p → IsIn e p.edges → label_at labels e.target f ≡ true → held_after_edge e f (labels i f) ≡ true
-
--- The labels of the points that a path reaches have exactly the facts that hold there.
--- Language reference, "Held".
-abbrev pub AreExact : Flow → Labels → Type 0
-AreExact flow labels = (i : ℕ) (f : Fact) → IsReached flow (node i) → (labels i f ≡ true) ↔ Holds flow f i

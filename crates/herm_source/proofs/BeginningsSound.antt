@@ -6,7 +6,7 @@ use Rattle.herm_model.specs.Paths.{Path, Fact, init, same_path}
 use Rattle.herm_model.specs.Nodes.{entry_of}
 use Rattle.herm_model.specs.Targets.{Target, node, end, end_by}
 use Rattle.herm_model.specs.ControlPaths.{flow_of, held_at_start, IsReached, IsControlPath}
-use Rattle.herm_model.specs.Refusals.{label_at}
+use Rattle.herm_model.specs.Labels.{label_at}
 use Rattle.herm_model.specs.Values.{Cell, cell, Parts, no_parts, gaps, part, inside, has_value, kind_of, opens}
 use Rattle.herm_model.specs.FactsOfValues.{HasExactly}
 use Rattle.herm_model.specs.Typed.{HaveTypes}

@@ -4,7 +4,7 @@ use Rattle.herm_model.specs.Outcomes.{Outcome, same_outcome}
 use Rattle.herm_model.specs.Nodes.{Node, Exit, exits, process_nodes}
 use Rattle.herm_model.specs.Targets.{Target, node}
 use Rattle.herm_model.specs.ControlPaths.{flow_of, edge, point, held_after_edge, IsReached}
-use Rattle.herm_model.specs.Refusals.{label_at}
+use Rattle.herm_model.specs.Labels.{label_at}
 use Rattle.herm_model.specs.laws.FlowLaws.{goes_on}
 use Rattle.herm_model.proofs.Lists.{in-map, found-in, slice_get-map}
 use Rattle.herm_model.proofs.DifferentOutcomes.{process-EdgesDiffer}

@@ -6,7 +6,8 @@ use Rattle.herm_model.specs.Statements.{Process}
 use Rattle.herm_model.specs.Nodes.{Node}
 use Rattle.herm_model.specs.StatementTable.{needs}
 use Rattle.herm_model.specs.ControlPaths.{flow_of}
-use Rattle.herm_model.specs.Refusals.{AreExact, IsAccepted}
+use Rattle.herm_model.specs.Labels.{AreExact}
+use Rattle.herm_model.specs.Refusals.{IsAccepted}
 use Rattle.herm_model.specs.FactsOfValues.{satisfies}
 use Rattle.herm_journal.specs.PlaceStates.{Limits}
 use Rattle.herm_journal.specs.Entries.{Text}

@@ -6,7 +6,7 @@ use Rattle.herm_model.specs.Nodes.{Node, entry_of, process_nodes}
 use Rattle.herm_model.specs.Targets.{node}
 use Rattle.herm_model.specs.Outcomes.{Outcome}
 use Rattle.herm_model.specs.ControlPaths.{flow_of, IsReached}
-use Rattle.herm_model.specs.Refusals.{Labels, label_at, AreExact}
+use Rattle.herm_model.specs.Labels.{Labels, label_at, AreExact}
 use Rattle.herm_model.specs.Values.{Cell, kind_of, opens}
 use Rattle.herm_model.specs.Typed.{HasType}
 use Rattle.herm_forms.specs.Frames.{Name, Frame, goes}

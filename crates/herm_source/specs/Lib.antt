@@ -2,7 +2,7 @@ pub mod Modules
 pub mod States
 pub mod Local
 pub mod Instance
-pub mod Labels
+pub mod LabelRounds
 pub mod Renaming
 pub mod Arriving
 pub mod Checked

@@ -7,7 +7,7 @@ use Rattle.herm_model.specs.Types.{TypeTable, predefined}
 use Rattle.herm_model.specs.Nodes.{Node, process_nodes}
 use Rattle.herm_model.specs.Targets.{end}
 use Rattle.herm_model.specs.ControlPaths.{Flow, flow_of, held_at_start}
-use Rattle.herm_model.specs.Refusals.{AreExact}
+use Rattle.herm_model.specs.Labels.{AreExact}
 use Rattle.herm_model.specs.Values.{gap, gaps, Cell}
 use Rattle.herm_model.specs.FactsOfValues.{satisfies}
 use Rattle.herm_journal.specs.Actions.{close}

@@ -7,7 +7,7 @@ use Rattle.herm_model.specs.Types.{predefined}
 use Rattle.herm_model.specs.Nodes.{Node, nodes_in, process_nodes}
 use Rattle.herm_model.specs.Targets.{node}
 use Rattle.herm_model.specs.ControlPaths.{Flow, held_at_start}
-use Rattle.herm_model.specs.Refusals.{AreExact}
+use Rattle.herm_model.specs.Labels.{AreExact}
 use Rattle.herm_model.specs.Values.{Cell, gaps}
 use Rattle.herm_model.specs.FactsOfValues.{satisfies}
 use Rattle.herm_model.specs.Texts.{text_of}

@@ -10,7 +10,8 @@ use Rattle.herm_model.specs.Nodes.{Node, process_nodes, Exit, exits}
 use Rattle.herm_model.specs.Targets.{Target, node, end, end_by}
 use Rattle.herm_model.specs.StatementTable.{needs, makes}
 use Rattle.herm_model.specs.ControlPaths.{Edge, Point, Flow, flow_of, Hop, walk, IsControlPath, IsReached, Holds}
-use Rattle.herm_model.specs.Refusals.{Demand, demands, Refusal, AreRefusals, IsAccepted, Labels, AreInductive, AreExact}
+use Rattle.herm_model.specs.Refusals.{Demand, demands, Refusal, AreRefusals, IsAccepted}
+use Rattle.herm_model.specs.Labels.{Labels, AreInductive, AreExact}
 
 -- each number is below all that come after it
 abbrev pub Rise : List ℕ → Type 0

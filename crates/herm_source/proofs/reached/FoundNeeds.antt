@@ -9,7 +9,8 @@ use Rattle.herm_model.specs.StatementTable.{needs}
 use Rattle.herm_model.specs.Nodes.{Node, process_nodes}
 use Rattle.herm_model.specs.Targets.{Target, node, end, end_by}
 use Rattle.herm_model.specs.ControlPaths.{flow_of, point, IsReached}
-use Rattle.herm_model.specs.Refusals.{Demand, demands_at, demands, IsAccepted, Labels, AreExact}
+use Rattle.herm_model.specs.Refusals.{Demand, demands_at, demands, IsAccepted}
+use Rattle.herm_model.specs.Labels.{Labels, AreExact}
 use Rattle.herm_model.specs.Values.{Parts}
 use Rattle.herm_model.specs.FactsOfValues.{satisfies, HasExactly}
 use Rattle.herm_model.proofs.Lists.{in-map, in-flat_map, slice_get-map}

@@ -9,7 +9,7 @@ use Rattle.herm_model.specs.Outcomes.{Outcome, same_outcome}
 use Rattle.herm_model.specs.Nodes.{Node, Exit, exits, process_nodes, entry_of}
 use Rattle.herm_model.specs.Targets.{Target, node, end, end_by}
 use Rattle.herm_model.specs.ControlPaths.{flow_of, edge, point, held_at_start, IsReached}
-use Rattle.herm_model.specs.Refusals.{Labels}
+use Rattle.herm_model.specs.Labels.{Labels}
 use Rattle.herm_model.specs.laws.FlowLaws.{goes_on}
 use Rattle.herm_model.specs.Values.{Cell}
 use Rattle.herm_model.proofs.Lists.{in-map, found-in, slice_get-map}

@@ -7,7 +7,7 @@ use Rattle.herm_model.specs.Types.{TypeTable}
 use Rattle.herm_model.specs.Calls.{led_to}
 use Rattle.herm_model.specs.Statements.{Process, Form, New, Send, Receive, Select, Arm, Call, Return, ReturnBy, Create}
 use Rattle.herm_model.specs.Nodes.{Node}
-use Rattle.herm_model.specs.Refusals.{Labels}
+use Rattle.herm_model.specs.Labels.{Labels}
 use Rattle.herm_model.specs.Values.{Kind, a_callmessage, an_inport, an_outport, Cell, cell, no_parts, gap, part}
 use Rattle.herm_model.proofs.Lists.{not_true, in-append_right}
 use Rattle.herm_model.proofs.Options.{none-not_some, some-injective, chain-some, map-some}

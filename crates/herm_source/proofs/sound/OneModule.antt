@@ -11,7 +11,8 @@ use Rattle.herm_model.specs.Outcomes.{Outcome, same_outcome, outcomes}
 use Rattle.herm_model.specs.Nodes.{Node, Exit, exits, process_nodes, entry_of}
 use Rattle.herm_model.specs.Targets.{Target, node, end, end_by}
 use Rattle.herm_model.specs.ControlPaths.{flow_of, IsReached}
-use Rattle.herm_model.specs.Refusals.{Labels, label_at, AreExact, IsAccepted}
+use Rattle.herm_model.specs.Labels.{Labels, label_at, AreExact}
+use Rattle.herm_model.specs.Refusals.{IsAccepted}
 use Rattle.herm_model.specs.Values.{Cell, cell, an_inport, no_parts}
 use Rattle.herm_model.proofs.Lists.{not_true, in-map_from}
 use Rattle.herm_model.proofs.NodeExits.{exits-outcomes}

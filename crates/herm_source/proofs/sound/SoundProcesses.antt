@@ -5,7 +5,7 @@ use Rattle.herm_model.specs.Types.{TypeTable}
 use Rattle.herm_model.specs.Statements.{Process}
 use Rattle.herm_model.specs.Nodes.{Node}
 use Rattle.herm_model.specs.ControlPaths.{flow_of, IsReached}
-use Rattle.herm_model.specs.Refusals.{Labels}
+use Rattle.herm_model.specs.Labels.{Labels}
 use Rattle.herm_model.specs.Values.{Cell, cell, an_inport, no_parts}
 use Rattle.herm_model.proofs.Lists.{not_true}
 use Rattle.herm_model.proofs.FactTests.{got-IsIn}

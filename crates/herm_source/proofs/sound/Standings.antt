@@ -7,7 +7,7 @@ use Rattle.herm_model.specs.Nodes.{Node, process_nodes}
 use Rattle.herm_model.specs.Targets.{Target, node, end, end_by}
 use Rattle.herm_model.specs.ControlPaths.{flow_of}
 use Rattle.herm_model.specs.laws.FlowLaws.{IsThere, IsLedTo, begins, goes_on}
-use Rattle.herm_model.specs.Refusals.{Labels}
+use Rattle.herm_model.specs.Labels.{Labels}
 use Rattle.herm_model.specs.Values.{Cell}
 use Rattle.herm_model.proofs.FactTests.{got-IsIn}
 use Rattle.herm_model.proofs.NodePlaces.{process_count, flow_length, entry-there, edges-there}

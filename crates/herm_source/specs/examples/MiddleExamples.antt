@@ -3,7 +3,7 @@ use Rattle.std.specs.Prelude.{ℕ, List, [], ◌∷◌, map, filter, flat_map, B
 use Rattle.herm_model.specs.Lists.{all_pass, any_pass, list_of}
 use Rattle.herm_model.specs.Paths.{Path, init, is_at_or_below}
 use Rattle.herm_model.specs.Types.{all_parts, variable_paths}
-use Rattle.herm_model.specs.Refusals.{label_at}
+use Rattle.herm_model.specs.Labels.{label_at}
 use Rattle.herm_model.specs.Values.{Name, Kind, has_value, size}
 use Rattle.herm_journal.specs.Messages.{CellWant}
 use Rattle.herm_journal.specs.PartTypes.{has_no_number}

@@ -2,7 +2,7 @@
 use Rattle.std.specs.Prelude.{ℕ, List, [], ◌∷◌, map, flat_map, Option, option_map, codes, ℤ}
 use Rattle.herm_journal.specs.PlaceStates.{Limits, port_with}
 use Rattle.herm_journal.specs.Entries.{Text}
-use Rattle.herm_source.specs.Labels.{ready}
+use Rattle.herm_source.specs.LabelRounds.{ready}
 use Rattle.herm_source.specs.Modules.{Program, Modules}
 use Rattle.herm_system.specs.Systems.{Run, start, System, opening, first_message}
 use Rattle.herm_system.specs.Rounds.{rounds}

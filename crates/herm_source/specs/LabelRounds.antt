@@ -1,4 +1,4 @@
--- Labels: of each node's place the facts that are held on every control path to it.
+-- Labels in rounds, for computed examples: of each node's place the facts that are held on every control path to it.
 use Rattle.std.specs.Prelude.{ℕ, zero, suc, List, [], ◌∷◌, ◌++◌, map, filter, Bool, not, Option, Some, None}
 use Rattle.herm_model.specs.Lists.{any_pass, list_of}
 use Rattle.herm_model.specs.Paths.{Fact, init, same_fact, path_of, is_at_or_below}
