@@ -16,13 +16,14 @@ use Rattle.herm_parser.specs.Parsing.{IsParsed}
 use Rattle.herm_parser.proofs.OneAnswer.{one_parse}
 use Rattle.herm_meaning.specs.Names.{NamedTable, behind_predefined, predefined_names, predefined_exception_names}
 use Rattle.herm_meaning.specs.Items.{Placed, module_items, items_from, items_of, types_by, types_in, exceptions_by, exceptions_in}
+use Rattle.herm_naming.specs.Meaning.{meaning as program_meaning, main_number}
 use Rattle.herm_meaning.specs.Meaning.{part_names, numbered_shape, outline, meant_shape, meaning}
 use Rattle.herm_meaning.specs.Marks.{Mark, a_type, an_exception, mark, shape_marks, Place, places_in, places_by, places_from, places}
 use Rattle.herm_meaning.specs.DefinitionFaults.{Fault as Wrong, AreFaults, AreFaultsOf}
 use Rattle.herm_meaning.proofs.Unique.{one-list}
 use Rattle.herm_compile.specs.FirstPhase.{HasModules, HaveModules}
 use Rattle.herm_compile.specs.SecondPhase.{definition_fault}
-use Rattle.herm_compile.specs.OneDefinition.{HaveOneTable, AreOneList, TypesOrFaults}
+use Rattle.herm_compile.specs.OneDefinition.{HaveOneTable, AreOneList, TypesOrFaults, HaveOneProgram}
 use Rattle.herm_compile.proofs.NamedPlaces.{Core, core_by, core_of, cores_of, same_cores}
 
 -- ---- what is taken from items
@@ -170,13 +171,21 @@ have_same number (bytes ∷ files) a b owners others of_a of_b =
       of_a.5 ∙ (ap (λ n. replicate n number ++ of_a.3) count ∙ (ap (λ os. replicate (length of_b.0) number ++ os) more.1 ∙ sym of_b.5)),
     )
 
+have_views : (number : ℕ) (files : List (List ℕ)) (a b : List Module) (owners others : List ℕ) → HaveModules number files a owners → HaveModules number files b others → map module_view a ≡ map module_view b
+have_views number [] a b owners others of_a of_b = ap (map module_view) (of_a.0 ∙ sym of_b.0)
+have_views number (bytes ∷ files) a b owners others of_a of_b =
+    let own = has_same bytes of_a.0 of_b.0 of_a.1 of_b.1 in
+    let more = have_views (suc number) files of_a.2 of_b.2 of_a.3 of_b.3 of_a.6 of_b.6 in
+    ap (map module_view) of_a.4 ∙ (map-append module_view of_a.0 of_a.2
+    ∙ (ap (λ vs. vs ++ map module_view of_a.2) own.0 ∙ (ap (λ vs. map module_view of_b.0 ++ vs) more ∙ (sym (map-append module_view of_b.0 of_b.2) ∙ ap (map module_view) (sym of_b.4)))))
+
 same_items : (a b : List Module) → map cores_of a ≡ map cores_of b → map placed_core (items_of a) ≡ map placed_core (items_of b)
 same_items a b same = items_are 0 a ∙ (ap (cores_from 0) same ∙ sym (items_are 0 b))
 
 pub one_table : HaveOneTable
 one_table files table other a b =
     let same = have_same 0 files a.modules b.modules a.owners b.owners a.read b.read in
-    a.meant ∙ (same_meaning (items_of a.modules) (items_of b.modules) (same_items a.modules b.modules same.0) ∙ sym b.meant)
+    a.are.meant ∙ (same_meaning (items_of a.modules) (items_of b.modules) (same_items a.modules b.modules same.0) ∙ sym b.are.meant)
 
 pub one_list : AreOneList
 one_list files faults others a b =
@@ -188,5 +197,15 @@ one_list files faults others a b =
 pub types_or_faults : TypesOrFaults
 types_or_faults files table faults a b =
     let same = have_same 0 files a.modules b.modules a.owners b.owners a.read b.read in
-    let there = same_faults (items_of a.modules) (items_of b.modules) (same_items a.modules b.modules same.0) [] a.right in
+    let there = same_faults (items_of a.modules) (items_of b.modules) (same_items a.modules b.modules same.0) [] a.are.right in
     b.some (one-list (outline (items_of b.modules)) (places (items_of b.modules)) b.list [] b.are there)
+
+pub one_program : HaveOneProgram
+one_program files table other processes others main number a b =
+    let same = have_same 0 files a.modules b.modules a.owners b.owners a.read b.read in
+    let views = have_views 0 files a.modules b.modules a.owners b.owners a.read b.read in
+    let tables = a.types.meant ∙ (same_meaning (items_of a.modules) (items_of b.modules) (same_items a.modules b.modules same.0) ∙ sym b.types.meant) in (
+      tables,
+      a.meant ∙ (ap (λ t. program_meaning t (map module_view a.modules)) tables ∙ (ap (program_meaning other) views ∙ sym b.meant)),
+      a.main_is ∙ (ap main_number views ∙ sym b.main_is),
+    )

@@ -9,7 +9,8 @@ use Rattle.herm_model.specs.Refusals.{IsMissing, IsAccepted}
 use Rattle.herm_compile.specs.Straight.{process_of, gaps, refusal_of, IsStep}
 use Rattle.herm_compile.specs.View.{Seen, fault_view}
 use Rattle.herm_meaning.specs.Names.{NamedTable}
-use Rattle.herm_compile.specs.SecondPhase.{HaveTypes}
+use Rattle.herm_model.specs.Statements.{Process}
+use Rattle.herm_compile.specs.ThirdPhase.{HaveProgram}
 use Rattle.herm_compile.specs.Refused.{reported, starts, not_built, AreNotBuilt, AreMissingFacts, IfRefused, IsExactRefusal, IsLater, AreLater}
 use Rattle.herm_compile.specs.declared.fault.CompileFault.{CompileFault}
 use Rattle.herm_compile.specs.declared.fault.CompileFault.TheVariants.{Refused, Memory}
@@ -189,10 +190,10 @@ pub more_files_later : (bytes more : List ℕ) (files : List (List ℕ)) (fault 
 more_files_later bytes more files (Refused faults) one = inl (record { none = λ names lines f. f; one = one })
 more_files_later bytes more files Memory one = tt
 
--- what is rightly said of files that mean types
-pub later_refused : (files : List (List ℕ)) (types : NamedTable) (fault : CompileFault) → HaveTypes files types → IfRefused fault (λ faults. AreLater files faults) → IsExactRefusal files fault
-later_refused files types (Refused faults) have later = inr (inr (types, have, later))
-later_refused files types Memory have later = tt
+-- what is rightly said of files that mean a program
+pub later_refused : (files : List (List ℕ)) (types : NamedTable) (processes : List Process) (main : ℕ) (fault : CompileFault) → HaveProgram files types processes main → IfRefused fault (λ faults. AreLater files faults) → IsExactRefusal files fault
+later_refused files types processes main (Refused faults) have later = inr (inr (inr (types, processes, main, have, later)))
+later_refused files types processes main Memory have later = tt
 
 -- ---- the judgement
 

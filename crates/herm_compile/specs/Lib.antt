@@ -10,6 +10,7 @@ pub mod Refused
 pub mod Added
 pub mod Spots
 pub mod SecondPhase
+pub mod ThirdPhase
 pub mod Phases
 pub mod OneDefinition
 pub mod RefusalWords

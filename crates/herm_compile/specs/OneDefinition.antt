@@ -1,8 +1,10 @@
--- Files have one answer in the second phase (Language reference, "Refusals of definitions").
+-- Files have one answer in the second phase, and mean one program (Language reference, "Refusals of definitions", "Processes").
 use Rattle.std.specs.Prelude.{◌≡◌, ℕ, List, map}
 use Rattle.herm_meaning.specs.Names.{NamedTable}
 use Rattle.herm_compile.specs.View.{fault_view}
+use Rattle.herm_model.specs.Statements.{Process}
 use Rattle.herm_compile.specs.SecondPhase.{HaveTypes, AreMisdefined}
+use Rattle.herm_compile.specs.ThirdPhase.{HaveProgram}
 use Rattle.herm_compile.specs.declared.fault.Fault.{Fault}
 
 -- Files mean one table of types at most.
@@ -16,3 +18,8 @@ AreOneList = (files : List (List ℕ)) (faults others : List Fault) → AreMisde
 -- Files that mean types have no faults of definitions.
 abbrev pub TypesOrFaults : Type 0
 TypesOrFaults = (files : List (List ℕ)) (table : NamedTable) (faults : List Fault) → HaveTypes files table → AreMisdefined files faults → ⊥
+
+-- Files mean one program at most, over one table of types.
+abbrev pub HaveOneProgram : Type 0
+HaveOneProgram = (files : List (List ℕ)) (table other : NamedTable) (processes others : List Process) (main number : ℕ) → HaveProgram files table processes main → HaveProgram files other others number
+    → (table ≡ other) × (processes ≡ others) × (main ≡ number)

@@ -1,12 +1,25 @@
 -- What a phase says of the files.
-use Rattle.std.specs.Prelude.{ℕ, List, Result, Ok, Err}
+use Rattle.std.specs.Prelude.{ℕ, List, map, Result, Ok, Err}
 use Rattle.std.specs.declared.vec.Vec.{Vec}
 use Rattle.std.specs.declared.alloc.Global.{Global}
 use Rattle.herm_meaning.specs.Names.{NamedTable}
-use Rattle.herm_compile.specs.SecondPhase.{HaveTypes, AreMisdefined}
+use Rattle.herm_syntax.specs.declared.modules.Module.{Module}
+use Rattle.herm_typed.specs.View.{typed_process_view}
+use Rattle.herm_resolve.specs.declared.program.Program.{Program}
+use Rattle.herm_compile.specs.SecondPhase.{AreTypesOf, AreMisdefined}
+use Rattle.herm_compile.specs.ThirdPhase.{HaveProgram, AreMisnamed}
 use Rattle.herm_compile.specs.declared.fault.Fault.{Fault}
 
 -- the types that the definitions mean, or their faults
-abbrev pub IsDefined : List (List ℕ) → Result NamedTable (Vec Fault Global) → Type 0
-IsDefined files (Ok types) = HaveTypes files types
-IsDefined files (Err faults) = AreMisdefined files faults.items
+abbrev pub IsDefined : List (List ℕ) → List Module → Result NamedTable (Vec Fault Global) → Type 0
+IsDefined files modules (Ok types) = AreTypesOf modules types
+IsDefined files modules (Err faults) = AreMisdefined files faults.items
+
+-- these are the processes and the number of main of the program that the files' modules mean
+abbrev pub HaveThisProgram : List (List ℕ) → NamedTable → Program → Type 0
+HaveThisProgram files types program = HaveProgram files types (map typed_process_view program.processes.items) program.main
+
+-- the program that the modules mean, or their faults of names and types
+abbrev pub IsResolution : List (List ℕ) → NamedTable → Result Program (Vec Fault Global) → Type 0
+IsResolution files types (Ok program) = HaveThisProgram files types program
+IsResolution files types (Err faults) = AreMisnamed files faults.items

@@ -4,6 +4,7 @@ use Rattle.herm_lexer.specs.declared.fault.LexFault.TheVariants as lexical
 use Rattle.herm_compile.specs.declared.phase.FileFault.{FileFault}
 use Rattle.herm_compile.specs.declared.phase.FileFault.TheVariants.{Byte, Token as NoToken, TooLong, Syntax, Nesting}
 use Rattle.herm_meaning.specs.DefinitionFaults.{Code, unknown, twice, cycle, deep, bad_key, bad_state}
+use Rattle.herm_naming.specs.StatementFaults as naming
 use Rattle.std.specs.List.{flat_map}
 use Rattle.herm_model.specs.ControlPaths as control
 use Rattle.herm_compile.specs.Form.{name_of}
@@ -24,6 +25,15 @@ definition_words cycle = codes "cycle"
 definition_words deep = codes "deep"
 definition_words bad_key = codes "bad key"
 definition_words bad_state = codes "bad state"
+
+abbrev pub name_words : naming.Code → List ℕ
+name_words naming.unknown = codes "unknown"
+name_words naming.twice = codes "twice"
+name_words naming.wrong_type = codes "type"
+name_words naming.not_copyable = codes "not copyable"
+name_words naming.unreachable = codes "unreachable"
+name_words naming.no_main = codes "no main"
+name_words naming.too_many = codes "too many"
 
 -- a space, a statement's number and that it went on
 abbrev pub hop_text : control.Hop → List ℕ

@@ -11,7 +11,9 @@ use Rattle.herm_compile.specs.View.{Seen, fault_view}
 use Rattle.herm_compile.specs.Places.{line_number_at, column_at}
 use Rattle.herm_meaning.specs.Names.{NamedTable}
 use Rattle.herm_compile.specs.FirstPhase.{AreFirstFaults}
-use Rattle.herm_compile.specs.SecondPhase.{HaveTypes, AreMisdefined}
+use Rattle.herm_model.specs.Statements.{Process}
+use Rattle.herm_compile.specs.SecondPhase.{AreMisdefined}
+use Rattle.herm_compile.specs.ThirdPhase.{HaveProgram, AreMisnamed}
 use Rattle.herm_compile.specs.declared.check.Gap.{Gap}
 use Rattle.herm_compile.specs.declared.compiled.Line.{Line}
 use Rattle.herm_compile.specs.declared.fault.Fault.{Fault}
@@ -72,14 +74,17 @@ AreLacking [] faults = ⊥
 AreLacking (bytes ∷ []) faults = AreMissingFacts bytes faults
 AreLacking (bytes ∷ more ∷ files) faults = ⊥
 
--- Files that mean types are refused as files of no program, or for missing facts.
+-- Files that mean a program are refused as files of none that is built, or for missing facts.
 abbrev pub AreLater : List (List ℕ) → List Fault → Type 0
 AreLater files faults = AreNotBuilt files faults ⊎ AreLacking files faults
 
 -- Files are refused by the first phase that has a fault in them: with one fault for each file that has no trees, or with those
--- of their definitions, or with what is said of files that mean types (Language reference, "Refusals").
+-- of their definitions, or with those of names and types, or with what is said of files that mean a program (Language reference,
+-- "Refusals").
 abbrev pub AreRefused : List (List ℕ) → List Fault → Type 0
-AreRefused files faults = AreUnread files faults ⊎ AreMisdefined files faults ⊎ ((types : NamedTable) × HaveTypes files types × AreLater files faults)
+AreRefused files faults =
+    AreUnread files faults ⊎ AreMisdefined files faults ⊎ AreMisnamed files faults
+    ⊎ ((types : NamedTable) × (processes : List Process) × (main : ℕ) × HaveProgram files types processes main × AreLater files faults)
 
 -- Want of memory says nothing of the files.
 abbrev pub IfRefused : CompileFault → (List Fault → Type 0) → Type 0
@@ -89,6 +94,6 @@ IfRefused Memory holds = Unit {0}
 abbrev pub IsExactRefusal : List (List ℕ) → CompileFault → Type 0
 IsExactRefusal files fault = IfRefused fault (λ faults. AreRefused files faults)
 
--- A file whose definitions have no fault is rightly refused.
+-- A file that means a program is refused as one of none that is built.
 abbrev pub IsLater : List ℕ → CompileFault → Type 0
 IsLater bytes fault = IfRefused fault (λ faults. AreNotBuilt (bytes ∷ []) faults ⊎ AreMissingFacts bytes faults)

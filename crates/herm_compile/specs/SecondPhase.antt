@@ -15,13 +15,17 @@ use Rattle.herm_compile.specs.RefusalWords.{definition_words}
 abbrev pub definition_fault : List (List ℕ) → (owners : List ℕ) → Wrong → Seen
 definition_fault files owners f = spot_fault files owners f.module' f.span.start (rank f.code) (definition_words f.code)
 
--- The files' definitions have no fault, and mean this table (Language reference, "Types").
+-- The definitions of these modules have no fault, and mean this table (Language reference, "Types").
+pub record AreTypesOf (modules : List Module) (table : NamedTable) : Type 0 where
+  pub right : AreFaultsOf (items_of modules) []
+  pub meant : table ≡ meaning (items_of modules)
+
+-- The definitions of the files' modules have no fault, and mean this table.
 pub record HaveTypes (files : List (List ℕ)) (table : NamedTable) : Type 0 where
   pub modules : List Module
   pub owners : List ℕ
   pub read : HaveModules 0 files modules owners
-  pub right : AreFaultsOf (items_of modules) []
-  pub meant : table ≡ meaning (items_of modules)
+  pub are : AreTypesOf modules table
 
 -- The files' definitions have faults, which are these in the order of the text.
 pub record AreMisdefined (files : List (List ℕ)) (faults : List Fault) : Type 0 where

@@ -1,5 +1,6 @@
 //! What the compiler gives: the names and lines of a program.
 use herm_base::Word;
+use herm_resolve::Program;
 use herm_types::TypeTable;
 
 /// A line of a program. A variable is its place among the declared strings, from 0.
@@ -22,10 +23,11 @@ pub struct Lines {
     pub lines: Vec<Line>,
 }
 
-/// A checked program: its types, the names of its declared strings, and its lines.
+/// A checked program: its types, its processes by number, the names of its declared strings, and its lines.
 #[derive(Drop)]
 pub struct Compiled {
     pub types: TypeTable,
+    pub program: Program,
     pub names: Vec<Word>,
     pub lines: Vec<Line>,
 }

@@ -85,7 +85,7 @@ pub fn types_of(
     read: &ReadFiles,
 ) -> Result<Result<TypeTable, Vec<Fault>>, AllocError>
     requires { HaveModules 0 (map (λ file. file.1.items) files.now) read.now.modules.items read.now.owners.items }
-    ensures { IfOk result (λ said. IsDefined (map (λ file. file.1.items) files.now) said) }
+    ensures { IfOk result (λ said. IsDefined (map (λ file. file.1.items) files.now) read.now.modules.items said) }
 {
     match define(alloc, read.modules.as_slice()) {
         Ok(types) => Ok(Ok(types)),

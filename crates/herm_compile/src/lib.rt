@@ -12,6 +12,7 @@ mod phrase;
 mod places;
 mod program;
 mod refusal;
+mod resolution;
 mod spots;
 mod stop;
 
@@ -23,9 +24,9 @@ ghost use Rattle.herm_compile.specs.Form.{IsOfForm, AreOfForm, IsFormBy, IsProgr
 ghost use Rattle.herm_compile.specs.Straight.{process_of, gaps};
 ghost use Rattle.herm_compile.specs.View.{fault_view};
 ghost use Rattle.herm_compile.specs.FirstPhase.{HasTrees, HaveModules, HaveTrees, TreesOrFault};
-ghost use Rattle.herm_compile.specs.SecondPhase.{HaveTypes};
-ghost use Rattle.herm_compile.specs.Phases.{IsDefined};
-ghost use Rattle.herm_compile.specs.OneDefinition.{HaveOneTable, AreOneList, TypesOrFaults};
+ghost use Rattle.herm_compile.specs.SecondPhase.{HaveTypes, AreTypesOf};
+ghost use Rattle.herm_compile.specs.Phases.{IsDefined, HaveThisProgram, IsResolution};
+ghost use Rattle.herm_compile.specs.OneDefinition.{HaveOneTable, AreOneList, TypesOrFaults, HaveOneProgram};
 ghost use Rattle.herm_compile.specs.Refused.{IsExactRefusal, IsLater, AreLater, IfRefused, not_built, reported, starts};
 
 use check::gaps_of;
@@ -35,22 +36,26 @@ use definitions::types_of;
 pub use fault::{CompileFault, Fact, Fault, Hop, MissingFact, Outcome, Path};
 use herm_base::Word;
 use herm_lexer::{LexFault, Token, lex};
+use herm_resolve::Program;
 use herm_types::TypeTable;
 use phase::{ReadFiles, read_files};
 use places::starts_of;
 use program::program_of;
 use refusal::faults_of;
+use resolution::resolution_of;
 use std::alloc::{AllocError, Global};
 use stop::Stop;
 
 /// Compiles files, phase by phase; each phase judges the files only where the phases before it have no fault. First each file is read, in
 /// their order: of files that have no trees, the one fault of each is given. Then the definitions of all modules are read into
-/// the table of types, or refused with the faults at their names. Of files that mean types, a single one is compiled where it is of
+/// the table of types, or refused with the faults at their names. Then the processes of all modules are read into the typed
+/// program, or refused with the faults of their names and types. Of files that mean a program, a single one is compiled where it is of
 /// a straight-line program in which no fact is missing; it is refused with a fault for each missing fact where it is of one.
 /// All others are refused with the one fault `not built`.
 pub fn compile(alloc: Global, files: &[(Word, Vec<u8>)]) -> Result<Compiled, CompileFault>
     ensures read { IfOk result (λ c. HaveTrees (map (λ file. file.1.items) files.now)) }
     ensures types { IfOk result (λ c. HaveTypes (map (λ file. file.1.items) files.now) c.types) }
+    ensures program { IfOk result (λ c. HaveThisProgram (map (λ file. file.1.items) files.now) c.types c.program) }
     ensures form { IfOk result (λ c. AreOfForm (map (λ file. file.1.items) files.now) c.names.items c.lines.items) }
     ensures accepted { IfOk result (λ c. IsAccepted predefined (process_of (length c.names.items) c.lines.items)) }
     ensures refused { IfErr result (λ e. IsExactRefusal (map (λ file. file.1.items) files.now) e) }
@@ -76,11 +81,12 @@ pub fn trees_or_fault()
     ensures { TreesOrFault }
 {}
 
-/// Files have one answer of the second phase: one table of types, or one list of faults.
+/// Files have one answer of the second phase: one table of types, or one list of faults. They mean one program at most.
 pub fn one_definition()
     ensures types { HaveOneTable }
     ensures faults { AreOneList }
     ensures either { TypesOrFaults }
+    ensures program { HaveOneProgram }
 {}
 
 /// Compiles files that all have trees.
@@ -92,12 +98,13 @@ fn compile_read(
     requires trees { HaveTrees (map (λ file. file.1.items) files.now) }
     requires modules { HaveModules 0 (map (λ file. file.1.items) files.now) read.now.modules.items read.now.owners.items }
     ensures types { IfOk result (λ c. HaveTypes (map (λ file. file.1.items) files.now) c.types) }
+    ensures program { IfOk result (λ c. HaveThisProgram (map (λ file. file.1.items) files.now) c.types c.program) }
     ensures form { IfOk result (λ c. AreOfForm (map (λ file. file.1.items) files.now) c.names.items c.lines.items) }
     ensures accepted { IfOk result (λ c. IsAccepted predefined (process_of (length c.names.items) c.lines.items)) }
     ensures refused { IfErr result (λ e. IsExactRefusal (map (λ file. file.1.items) files.now) e) }
 {
     match types_of(alloc, files, read) {
-        Ok(Ok(types)) => compile_typed(alloc, files, types),
+        Ok(Ok(types)) => compile_typed(alloc, files, read, types),
         Ok(Err(faults)) => Err(CompileFault::Refused(faults)),
         Err(_) => Err(CompileFault::Memory),
     }
@@ -107,20 +114,47 @@ fn compile_read(
 fn compile_typed(
     alloc: Global,
     files: &[(Word, Vec<u8>)],
+    read: &ReadFiles,
     types: TypeTable,
 ) -> Result<Compiled, CompileFault>
     requires trees { HaveTrees (map (λ file. file.1.items) files.now) }
-    requires types { HaveTypes (map (λ file. file.1.items) files.now) types }
+    requires modules { HaveModules 0 (map (λ file. file.1.items) files.now) read.now.modules.items read.now.owners.items }
+    requires types { AreTypesOf read.now.modules.items types }
     ensures types { IfOk result (λ c. HaveTypes (map (λ file. file.1.items) files.now) c.types) }
+    ensures program { IfOk result (λ c. HaveThisProgram (map (λ file. file.1.items) files.now) c.types c.program) }
+    ensures form { IfOk result (λ c. AreOfForm (map (λ file. file.1.items) files.now) c.names.items c.lines.items) }
+    ensures accepted { IfOk result (λ c. IsAccepted predefined (process_of (length c.names.items) c.lines.items)) }
+    ensures refused { IfErr result (λ e. IsExactRefusal (map (λ file. file.1.items) files.now) e) }
+{
+    match resolution_of(alloc, files, read, &types) {
+        Ok(Ok(program)) => compile_program(alloc, files, types, program),
+        Ok(Err(faults)) => Err(CompileFault::Refused(faults)),
+        Err(_) => Err(CompileFault::Memory),
+    }
+}
+
+/// Compiles files that mean this program over these types.
+fn compile_program(
+    alloc: Global,
+    files: &[(Word, Vec<u8>)],
+    types: TypeTable,
+    program: Program,
+) -> Result<Compiled, CompileFault>
+    requires trees { HaveTrees (map (λ file. file.1.items) files.now) }
+    requires types { HaveTypes (map (λ file. file.1.items) files.now) types }
+    requires program { HaveThisProgram (map (λ file. file.1.items) files.now) types program }
+    ensures types { IfOk result (λ c. HaveTypes (map (λ file. file.1.items) files.now) c.types) }
+    ensures program { IfOk result (λ c. HaveThisProgram (map (λ file. file.1.items) files.now) c.types c.program) }
     ensures form { IfOk result (λ c. AreOfForm (map (λ file. file.1.items) files.now) c.names.items c.lines.items) }
     ensures accepted { IfOk result (λ c. IsAccepted predefined (process_of (length c.names.items) c.lines.items)) }
     ensures refused { IfErr result (λ e. IsExactRefusal (map (λ file. file.1.items) files.now) e) }
 {
     match compile_lines(alloc, files) {
-        Ok(program) => Ok(Compiled {
+        Ok(straight) => Ok(Compiled {
             types,
-            names: program.names,
-            lines: program.lines,
+            program,
+            names: straight.names,
+            lines: straight.lines,
         }),
         Err(fault) => Err(fault),
     }

@@ -99,11 +99,11 @@ fn refusals_have_their_places_and_paths(rt: HostRuntime) -> Result<(), Fail> {
         ("s := \"a\" -- \"\n;-- }\n}--", "1 2"),
         ("s := \"a\\t\";\n}", "0/4:6: F2 token|"),
         ("s : = \"a\";\n}", "0/4:3: F4 syntax|"),
-        ("t := \"a\";\n}", "0/1:1: F12 not built|"),
+        ("t := \"a\";\n}", "0/4:1: F14 unknown|"),
         ("receive m from start;\n}", "0/1:1: F12 not built|"),
         ("} }", "0/4:3: F4 syntax|"),
-        ("send s to m.outport;\n}", "0/1:1: F12 not built|"),
-        ("s := 7;\n}", "0/1:1: F12 not built|"),
+        ("send s to m.outport;\n}", "0/4:1: F14 unknown|"),
+        ("s := 7;\n}", "0/4:1: F16 type|"),
         ("", "0/3:24: F4 syntax|"),
         ("-- behind the last token", "0/3:24: F4 syntax|"),
     ];
@@ -117,14 +117,13 @@ fn refusals_have_their_places_and_paths(rt: HostRuntime) -> Result<(), Fail> {
 }
 
 #[test]
-fn names_that_are_taken_are_not_built(rt: HostRuntime) -> Result<(), Fail> {
-    let built = "0/1:1: F12 not built|";
+fn names_that_are_taken_are_refused(rt: HostRuntime) -> Result<(), Fail> {
     let cases = [
         ("s: string, t: string", "2 2"),
-        ("s: string, s: string", built),
-        ("s: string, t: string, s: string", built),
-        ("m: string, s: string", built),
-        ("s: string, start: string", built),
+        ("s: string, s: string", "0/1:67: F15 twice|"),
+        ("s: string, t: string, s: string", "0/1:78: F15 twice|"),
+        ("m: string, s: string", "0/1:56: F15 twice|"),
+        ("s: string, start: string", "0/1:67: F15 twice|"),
     ];
     for (declared, expected) in cases {
         let file = format!(in rt.alloc();
@@ -140,12 +139,12 @@ fn names_that_are_taken_are_not_built(rt: HostRuntime) -> Result<(), Fail> {
 fn definitions_are_refused_over_all_files(rt: HostRuntime) -> Result<(), Fail> {
     let right: &[u8] = b"definitions d { type a = enum {x}; }";
     let cases: [(&[u8], &[u8], &str); 6] = [
-        (right, b"", "0/1:1: F12 not built|"),
+        (right, b"", "0/0:0: F19 no main|"),
         (right, right, "1/1:22: F7 twice|"),
         (
             b"definitions d { type r = record {k: a}; }",
             right,
-            "0/1:1: F12 not built|",
+            "0/0:0: F19 no main|",
         ),
         (
             b"process p(s: a) { }",
@@ -184,7 +183,7 @@ fn a_fault_of_the_bytes_is_the_one_refusal(rt: HostRuntime) -> Result<(), Fail> 
         (b"12a \xff", "0/1:1: F2 token|"),
         (b"9223372036854775808", "0/1:1: F3 too long|"),
         (b"9223372036854775807", "0/1:1: F4 syntax|"),
-        (b"", "0/1:1: F12 not built|"),
+        (b"", "0/0:0: F19 no main|"),
     ];
     for (bytes, expected) in cases {
         let found = answer(rt.alloc(), bytes)?;
@@ -199,12 +198,19 @@ fn each_file_has_its_one_fault_in_order(rt: HostRuntime) -> Result<(), Fail> {
         b"process main(start: main_start) { var m: main_message; receive m from start; }";
     let unread: &[u8] = b"process 12a";
     let cut: &[u8] = b"process main(start: main_start) { send";
-    let built = "0/1:1: F12 not built|";
-    let cases: [(&[&[u8]], &str); 10] = [
-        (&[], built),
+    let other: &[u8] = b"process p(s: main_start) { var m: main_message; receive m from s; }";
+    let lost: &[u8] = b"process p(s: main_start) { leave; send s to s; }";
+    let cases: [(&[&[u8]], &str); 13] = [
+        (&[], "0/0:0: F19 no main|"),
         (&[good], "0 1"),
-        (&[good, good], built),
-        (&[b"", b"definitions d { }"], built),
+        (&[good, other], "0/1:1: F12 not built|"),
+        (&[good, good], "1/1:9: F15 twice|"),
+        (&[other, good, other], "2/1:9: F15 twice|"),
+        (
+            &[b"definitions d { }", lost, good, lost],
+            "1/1:28: F14 unknown|1/1:35: F16 type|3/1:9: F15 twice|3/1:28: F14 unknown|3/1:35: F16 type|",
+        ),
+        (&[b"", b"definitions d { }"], "0/0:0: F19 no main|"),
         (&[cut, unread], "0/1:39: F4 syntax|1/1:9: F2 token|"),
         (&[unread, cut], "0/1:9: F2 token|1/1:39: F4 syntax|"),
         (&[good, cut, b"definitions d { }"], "1/1:39: F4 syntax|"),
@@ -285,7 +291,7 @@ fn each_limit_is_taken_and_no_more(rt: HostRuntime) -> Result<(), Fail> {
     let built = "0/1:1: F12 not built|";
     let cases = [
         ((1, 1, 1023, 1), "1 1024"),
-        ((1, 1, 1024, 1), built),
+        ((1, 1, 1024, 1), "0/1:9: F20 too many|"),
         ((4000, 1, 1, 1), "4000 2"),
         ((4001, 1, 1, 1), built),
         ((1, 58, 1, 1), "1 2"),

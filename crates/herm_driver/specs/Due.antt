@@ -10,7 +10,8 @@ use Rattle.herm_compile.specs.Form.{IsOfForm}
 use Rattle.herm_compile.specs.Straight.{process_of}
 use Rattle.herm_compile.specs.FirstPhase.{HaveTrees}
 use Rattle.herm_meaning.specs.Names.{NamedTable}
-use Rattle.herm_compile.specs.SecondPhase.{HaveTypes}
+use Rattle.herm_model.specs.Statements.{Process}
+use Rattle.herm_compile.specs.ThirdPhase.{HaveProgram}
 use Rattle.herm_compile.specs.Refused.{AreRefused}
 use Rattle.herm_model.specs.Types.{predefined}
 use Rattle.herm_model.specs.Refusals.{IsAccepted}
@@ -28,16 +29,16 @@ abbrev pub IsReportOf : ℕ → List Line → ℕ → List ℕ → Option Report
 IsReportOf count lines status text None = ⊥
 IsReportOf count lines status text (Some report) = IsReported count lines [] (report_view report status text)
 
--- The bytes have trees, their definitions have no fault, and they are an accepted program, whose run is reported, with the status
--- and the text: the status is 0, and the text has a line for each string that is sent.
+-- The bytes have trees, they mean a typed program without a fault, which is of the form that is built and accepted, and whose run is
+-- reported, with the status and the text: the status is 0, and the text has a line for each string that is sent.
 abbrev pub IsDone : List ℕ → ℕ → List ℕ → Option Report → Type 0
 IsDone bytes status text report =
-    (status ≡ 0) × HaveTrees (bytes ∷ []) × (types : NamedTable) × HaveTypes (bytes ∷ []) types × (names : List (List ℕ)) × (lines : List Line) × IsOfForm bytes names lines
+    (status ≡ 0) × HaveTrees (bytes ∷ []) × (types : NamedTable) × (processes : List Process) × (main : ℕ) × HaveProgram (bytes ∷ []) types processes main × (names : List (List ℕ)) × (lines : List Line) × IsOfForm bytes names lines
     × IsAccepted predefined (process_of (length names) lines) × (text ≡ console_text (sent (length names) lines))
     × IsReportOf (length names) lines status text report
 
--- the bytes are refused: they have a fault, or their definitions have faults, or they are of no program that is built, or facts are
--- missing in it; a line for each fault
+-- the bytes are refused: they have a fault, or their definitions, their names or their types have, or they are of no program that is built, or facts
+-- are missing in it; a line for each fault
 abbrev pub IsRefusal : List ℕ → List ℕ → ℕ → List ℕ → Option Report → Type 0
 IsRefusal name bytes status text report =
     (status ≡ 1) × (faults : List Fault) × AreRefused (bytes ∷ []) faults × (text ≡ refusals_text name faults)

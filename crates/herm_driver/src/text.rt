@@ -1,7 +1,7 @@
 //! The texts that the program writes.
 ghost use Rattle.std.specs.Prelude.{◌≡◌, ◌∷◌, ◌++◌, IfOk, OnOk, codes, map, string_bytes, decimal};
 ghost use Rattle.herm_driver.specs.Texts.{usage_text, file_text, console_text, newline};
-ghost use Rattle.herm_driver.specs.RefusalLines.{refusal_text, refusals_text};
+ghost use Rattle.herm_driver.specs.RefusalLines.{place_text, refusal_text, refusals_text};
 ghost use Rattle.herm_world.specs.StringTexts.{unquoted};
 
 use herm_compile::Fault;
@@ -38,13 +38,8 @@ fn push_decimal(alloc: Global, out: &mut Vec<u8>, number: u32) -> Result<(), All
     out.extend_from_slice(digits.as_bytes())
 }
 
-/// Appends the place of a refusal: the file, the line and the column.
-fn push_place(
-    alloc: Global,
-    out: &mut Vec<u8>,
-    name: &[u8],
-    fault: &Fault,
-) -> Result<(), AllocError>
+/// Appends a file, a line and a column.
+fn push_spot(alloc: Global, out: &mut Vec<u8>, name: &[u8], fault: &Fault) -> Result<(), AllocError>
     ensures { OnOk result (out.new.items
         ≡ out.old.items ++ (name.now ++ 58 ∷ decimal fault.now.line ++ 58 ∷ decimal fault.now.column)) }
 {
@@ -53,6 +48,23 @@ fn push_place(
     push_decimal(alloc, out, fault.line)?;
     out.push(b':')?;
     push_decimal(alloc, out, fault.column)
+}
+
+/// Appends the place of a refusal. A fault of no file is the program's.
+fn push_place(
+    alloc: Global,
+    out: &mut Vec<u8>,
+    name: &[u8],
+    fault: &Fault,
+) -> Result<(), AllocError>
+    ensures { OnOk result (out.new.items ≡ out.old.items ++ place_text name.now fault.now) }
+{
+    if fault.line == 0 {
+        out.extend_from_slice(b"hermes")?;
+        return Ok(());
+    }
+    push_spot(alloc, out, name, fault)?;
+    Ok(())
 }
 
 /// Appends the rest of a refusal's line: its code and its words.

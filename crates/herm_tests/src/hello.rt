@@ -80,8 +80,8 @@ fn a_failing_write_cuts_the_text_off(rt: HostRuntime) -> Result<(), Fail> {
 #[test]
 fn other_files_are_refused(rt: HostRuntime) -> Result<(), Fail> {
     let rows: [(&str, &[u8], &[u8]); 7] = [
-        ("empty", b"", b"a.hm:1:1: F12 not built\n"),
-        ("a comment", b"-- hi", b"a.hm:1:1: F12 not built\n"),
+        ("empty", b"", b"hermes: F19 no main\n"),
+        ("a comment", b"-- hi", b"hermes: F19 no main\n"),
         (
             "cut",
             b"process main(start: main_start) {",

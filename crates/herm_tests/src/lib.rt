@@ -8,4 +8,6 @@ mod hello;
 #[cfg(test)]
 mod loads;
 #[cfg(test)]
+mod names;
+#[cfg(test)]
 mod straight;

@@ -80,7 +80,7 @@ fn lines_run_or_are_refused_where_a_fact_is_missing(rt: HostRuntime) -> Result<(
             0,
             "a\nb\"\\\n",
         ),
-        (&["s := 7;"], 1, "a.hm:1:1: F12 not built\n"),
+        (&["s := 7;"], 1, "a.hm:4:3: F16 type\n"),
     ];
     for (lines, status, text) in rows {
         let bytes = program(rt.alloc(), lines)?;

@@ -1,3 +1,4 @@
 pub mod Chains
 pub mod Numbered
 pub mod SeenArms
+pub mod SeenBlocks

@@ -2,3 +2,4 @@
 pub mod View
 pub mod Raising
 pub mod Outcomes
+pub mod Blocks

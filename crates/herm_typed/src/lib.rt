@@ -11,4 +11,5 @@ pub use expressions::{
     TypedSum, TypedUnary,
 };
 pub use outcome_list::{Outcome, outcomes};
+pub use raises::{Raises, expression_raises};
 pub use statements::{TypedForm, TypedProcess, TypedStmt, TypedVar};

@@ -37,8 +37,8 @@ at-end E n console strings rest arg S none entries said count =
 
 pub counts-are : (lines : List Line) (S : List Text) (stepped acted made queued : ℕ) → stepped ≡ length lines → acted ≡ length S + 2 → made ≡ 5 + sets lines → queued ≡ length S → counts_from stepped acted made queued ≡ counts_of lines S
 counts-are lines S stepped acted made queued s a m q =
-    let gone : made - 1 - queued ≡ 4 + sets lines - length S = omega arith in
-    same-counts stepped (length lines) acted (length S + 2) made (5 + sets lines) 1 1 queued (length S) (made - 1 - queued) (4 + sets lines - length S) s a m refl q gone
+    let gone : made - 1 - queued ≡ 5 + sets lines - 1 - length S = omega arith in
+    same-counts stepped (length lines) acted (length S + 2) made (5 + sets lines) 1 1 queued (length S) (made - 1 - queued) (5 + sets lines - 1 - length S) s a m refl q gone
 
 texts-are : (S : List Text) → map quoted S ≡ map string_text S
 texts-are [] = refl

@@ -85,11 +85,11 @@ final-counts c limits q p g lines strings ledger totals serial_first steps_first
     let made : made_in one (source (modules_with c)) s ≡ 5 + sets lines = omega (arith, serials-one (λ n. (1, n)) 0 p.serial, totals.serial) in
     let held : held_in one (source (modules_with c)) s ≡ 1 = omega (arith, held-weighs (modules_with c) one (state_of end (body_of (gap (gap (gaps (length p.slots)))) [] p.steps (suc p.actions) p.serial ((g ++ (0, 1) ∷ []) ++ []))) c refl, gaps-weigh one (length p.slots)) in
     let queued : queued_in one s ≡ length strings = omega (arith, strings-weigh p.queue strings totals.queue) in
-    let gone : finalised_in one (source (modules_with c)) s ≡ 4 + sets lines - length strings = omega (arith, ledger one) in
+    let gone : finalised_in one (source (modules_with c)) s ≡ 5 + sets lines - 1 - length strings = omega (arith, ledger one) in
     let small = sets-few lines in
     let steps : p.steps + 0 ≡ length (TheVariants.Receive ∷ lines) = omega (arith, totals.steps) in
     let acted : suc p.actions + 0 ≡ length strings + 2 = omega (arith, totals.actions) in
-    same-counts (p.steps + 0) (length (TheVariants.Receive ∷ lines)) (suc p.actions + 0) (length strings + 2) (cut (made_in one (source (modules_with c)) s)) (5 + sets lines) (cut (held_in one (source (modules_with c)) s)) 1 (cut (queued_in one s)) (length strings) (cut (finalised_in one (source (modules_with c)) s)) (4 + sets lines - length strings)
+    same-counts (p.steps + 0) (length (TheVariants.Receive ∷ lines)) (suc p.actions + 0) (length strings + 2) (cut (made_in one (source (modules_with c)) s)) (5 + sets lines) (cut (held_in one (source (modules_with c)) s)) 1 (cut (queued_in one s)) (length strings) (cut (finalised_in one (source (modules_with c)) s)) (5 + sets lines - 1 - length strings)
     steps acted (few-cut (made_in one (source (modules_with c)) s) (omega arith) ∙ made) (few-cut (held_in one (source (modules_with c)) s) (omega arith) ∙ held) (few-cut (queued_in one s) (omega arith) ∙ queued) (few-cut (finalised_in one (source (modules_with c)) s) (omega arith) ∙ gone)
 
 -- at most one string for each line is sent

@@ -77,24 +77,8 @@ sets (Set n string ∷ lines) = suc (sets lines)
 sets (Send n ∷ lines) = sets lines
 sets (Discard n ∷ lines) = sets lines
 
--- The numbers of a straight-line program's run that sends these strings. Language reference, "The summary".
-abbrev pub counts_of : List Line → (strings : List Text) → Counts
-counts_of lines strings = record {
-  processes = 1;
-  ended = 1;
-  waiting = 0;
-  stopped = 0;
-  ports = 2;
-  unclosed = 1;
-  steps = length lines;
-  actions = length strings + 2;
-  made = 5 + sets lines;
-  held = 1;
-  queued = length strings;
-  finalised = 4 + sets lines - length strings;
-}
-
--- the same by numbers: of steps, actions, cells made and strings queued
+-- The numbers of a straight-line program's run, by those of steps, actions, cells made and strings queued. Language reference,
+-- "The summary".
 abbrev pub counts_from : (stepped acted made queued : ℕ) → Counts
 counts_from stepped acted made queued = record {
   processes = 1;
@@ -110,6 +94,10 @@ counts_from stepped acted made queued = record {
   queued = queued;
   finalised = made - 1 - queued;
 }
+
+-- the same of the run of these lines, which sends these strings
+abbrev pub counts_of : List Line → (strings : List Text) → Counts
+counts_of lines strings = counts_from (length lines) (length strings + 2) (5 + sets lines) (length strings)
 
 -- The report of lines that send these strings: the text is a line for each.
 -- Language reference, "Straight-line programs".

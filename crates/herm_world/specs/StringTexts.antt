@@ -1,22 +1,16 @@
 -- The text of a string value, and how the string is read back from it.
 -- Language reference, "Text of a value".
 use Rattle.std.specs.Prelude.{ℕ, List, [], ◌∷◌, ◌++◌, nat_eq, if◌then◌else◌, Bool, true, false}
+use Rattle.herm_model.specs.Texts.{escaped}
 
--- a byte as it stands inside the quotes: a newline, a quote and a backslash are escaped
-abbrev pub escaped_byte : ℕ → List ℕ
-escaped_byte b =
-    if nat_eq b 10 then 92 ∷ 110 ∷ []
-    else if nat_eq b 34 then 92 ∷ 34 ∷ []
-    else if nat_eq b 92 then 92 ∷ 92 ∷ []
-    else b ∷ []
-
-abbrev pub escaped : List ℕ → List ℕ
-escaped [] = []
-escaped (b ∷ bs) = escaped_byte b ++ escaped bs
+-- the bytes as they stand inside the quotes
+abbrev pub escaped_all : List ℕ → List ℕ
+escaped_all [] = []
+escaped_all (b ∷ bs) = escaped b ++ escaped_all bs
 
 -- the text of a string: its bytes between quotes, escaped
 abbrev pub quoted : List ℕ → List ℕ
-quoted s = 34 ∷ escaped s ++ 34 ∷ []
+quoted s = 34 ∷ escaped_all s ++ 34 ∷ []
 
 -- the bytes that an escaped text stands for, up to the closing quote; the flag says that a backslash stood before
 abbrev pub unescaped : Bool → List ℕ → List ℕ

@@ -1,12 +1,13 @@
 //! The text of a string value, and the string that such a text stands for.
 ghost use Rattle.std.specs.Prelude.{◌≡◌, ◌++◌, OnOk, false};
-ghost use Rattle.herm_world.specs.StringTexts.{escaped_byte, quoted, unescaped, unquoted};
+ghost use Rattle.herm_model.specs.Texts.{escaped};
+ghost use Rattle.herm_world.specs.StringTexts.{quoted, unescaped, unquoted};
 
 use std::alloc::AllocError;
 
 /// Appends a byte of a string as it stands inside the quotes.
 fn push_escaped(out: &mut Vec<u8>, byte: u8) -> Result<(), AllocError>
-    ensures { OnOk result (out.new.items ≡ out.old.items ++ escaped_byte byte) }
+    ensures { OnOk result (out.new.items ≡ out.old.items ++ escaped byte) }
 {
     match byte {
         b'\n' => out.extend_from_slice(b"\\n"),

@@ -1,0 +1,9 @@
+pub mod Passed
+pub mod Numbered
+pub mod Finding
+pub mod Components
+pub mod Written
+pub mod Counting
+pub mod Counted
+pub mod Declared
+pub mod Repeated

@@ -1,0 +1,14 @@
+pub mod Meant
+pub mod Placed
+pub mod Sizes
+pub mod Joined
+pub mod ReachParts
+pub mod ReachLed
+pub mod ReachHeld
+pub mod ReachMarks
+pub mod ReachCode
+pub mod ReachSizes
+pub mod Refusing
+pub mod Within
+pub mod WellFormed
+pub mod Judging

@@ -1,0 +1,5 @@
+use Rattle.herm_resolve.proofs.Judging.{all_refused}
+use Rattle.herm_resolve.proofs.program.judged.Goals as goal
+
+pub returns-clause-refusals : goal.returns-clause-refusals
+returns-clause-refusals c = all_refused c.args.known.now c.args.modules.now c.requires.of c.in_ok-processes.processes.items c.processes_of.new.faults.items c.in_ok-processes.ensures.judged c.add_main.new.faults.items c.in_ok-add_main.ensures.added

@@ -1,0 +1,5 @@
+-- The refusals of the processes of a program, and each process by what is known of the program.
+pub mod Judged
+pub mod Refused
+-- Control through a part of the text.
+pub mod Reach
