@@ -1,6 +1,7 @@
 //! Definitions of types: what they mean, and each wrong name.
 #![tactic(auto)]
 
+mod calls;
 mod context;
 mod definitions;
 mod facts;

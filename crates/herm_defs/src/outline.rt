@@ -1,13 +1,10 @@
 //! Shapes with numbers in place of names.
-ghost use Rattle.std.specs.Prelude.{◌≡◌, ◌<◌, ◌^◌, ◌++◌, [], ◌∷◌, cond, IfOk, OnOk, map, length};
-ghost use Rattle.std.specs.List.{list_any};
-ghost use Rattle.std.specs.Str.{bytes_eq};
+ghost use Rattle.std.specs.Prelude.{◌≡◌, ◌<◌, ◌^◌, IfOk, map, length};
 ghost use Rattle.herm_syntax.specs.View.{name_view, field_view, param_form_view, raise_form_view, shape_form_view};
 ghost use Rattle.herm_types.specs.View.{mode_view, param_view, raise_decl_view, shape_view, parts_view};
 ghost use Rattle.herm_meaning.specs.Walks.{place_of};
-ghost use Rattle.herm_meaning.specs.Meaning.{mode_meant, parameter_meant, raising_meant, kept_places, numbered_shape, part_names};
+ghost use Rattle.herm_meaning.specs.Meaning.{mode_meant, parameter_meant, raising_numbered, numbered_shape, part_names};
 ghost use Rattle.herm_syntax.specs.View as views;
-ghost use Rattle.herm_defs.specs.Few.{part_total};
 
 use crate::names::Names;
 use herm_base::{ExcNo, Name, TypeNo, Word};
@@ -57,7 +54,11 @@ fn mode_of(mode: ModeForm) -> Mode
     }
 }
 
-fn params_of(alloc: Global, types: &Names, params: &[ParamForm]) -> Result<Vec<Param>, AllocError>
+pub fn params_of(
+    alloc: Global,
+    types: &Names,
+    params: &[ParamForm],
+) -> Result<Vec<Param>, AllocError>
     requires { length types.now < 2 ^ 32 }
     ensures types { IfOk result (λ v. map param_view v.items ≡ map (parameter_meant types.now) (map param_form_view params.now)) }
     ensures names { IfOk result (λ v. map (λ p. p.name) v.items ≡ map (λ p. p.1.0) (map param_form_view params.now)) }
@@ -72,72 +73,32 @@ fn params_of(alloc: Global, types: &Names, params: &[ParamForm]) -> Result<Vec<P
     Ok(numbered)
 }
 
-fn any_is(names: &[Name], name: &[u8]) -> bool
-    ensures { result ≡ list_any (λ n. bytes_eq name.now (name_view n)) names.now }
-{
-    names.iter().any(|other| name == other.text.bytes())
-}
-
-fn is_among(names: &[Name], name: &[u8]) -> bool
-    ensures { result ≡ list_any (bytes_eq name.now) (map name_view names.now) }
-{
-    any_is(names, name)
-}
-
-fn push_if(numbers: &mut Vec<u32>, test: bool, number: u32) -> Result<(), AllocError>
-    ensures { OnOk result (numbers.new.items ≡ numbers.old.items ++ cond test (number ∷ []) []) }
-{
-    if test {
-        numbers.push(number)?;
-        return Ok(());
-    }
-    Ok(())
-}
-
-/// The places of the parameters that are kept, rising.
-fn kept_places(alloc: Global, params: &[ParamForm], keeps: &[Name]) -> Result<Vec<u32>, AllocError>
-    requires { length params.now < 2 ^ 31 }
-    ensures { IfOk result (λ v. v.items ≡ kept_places 0 (map (λ p. p.1.0) (map param_form_view params.now)) (map name_view keeps.now)) }
-{
-    let mut kept = Vec::new(alloc);
-    if keeps.is_empty() {
-        return Ok(kept);
-    }
-    for (place, param) in params.iter().enumerate() {
-        let test = is_among(keeps, param.field.name.text.bytes());
-        push_if(&mut kept, test, place as u32)?;
-    }
-    Ok(kept)
-}
-
 fn raises_of(
     alloc: Global,
-    types: &Names,
     exceptions: &Names,
-    params: &[ParamForm],
     raises: &[RaiseForm],
 ) -> Result<Vec<RaiseDecl>, AllocError>
-    requires few { length params.now < 2 ^ 31 }
     requires exceptions { length exceptions.now < 2 ^ 32 }
-    ensures { IfOk result (λ v. map raise_decl_view v.items ≡ map (raising_meant types.now exceptions.now (map param_form_view params.now)) (map raise_form_view raises.now)) }
+    ensures { IfOk result (λ v. map raise_decl_view v.items ≡ map (raising_numbered exceptions.now) (map raise_form_view raises.now)) }
 {
     let mut numbered = Vec::new(alloc);
     for raise in raises {
         let exc = ExcNo(exceptions.number(raise.name.text.bytes()));
-        let keeps = kept_places(alloc, params, raise.keeps.as_slice())?;
-        numbered.push(RaiseDecl { exc, keeps })?;
+        numbered.push(RaiseDecl {
+            exc,
+            keeps: Vec::new(alloc),
+        })?;
     }
     Ok(numbered)
 }
 
-/// A shape with numbers in place of names, without keys and facts.
+/// A shape with numbers in place of names, without keys, facts and kept parameters.
 pub fn numbered_shape(
     alloc: Global,
     types: &Names,
     exceptions: &Names,
     shape: &ShapeForm,
 ) -> Result<Shape, AllocError>
-    requires few { part_total shape.now < 2 ^ 31 }
     requires types { length types.now < 2 ^ 32 }
     requires exceptions { length exceptions.now < 2 ^ 32 }
     ensures shape { IfOk result (λ s. shape_view s ≡ numbered_shape types.now exceptions.now (shape_form_view shape.now)) }
@@ -169,13 +130,7 @@ pub fn numbered_shape(
         }),
         ShapeForm::CallMessage { params, raises } => {
             let numbered = params_of(alloc, types, params.as_slice())?;
-            let raised = raises_of(
-                alloc,
-                types,
-                exceptions,
-                params.as_slice(),
-                raises.as_slice(),
-            )?;
+            let raised = raises_of(alloc, exceptions, raises.as_slice())?;
             Ok(Shape::CallMessage {
                 params: numbered,
                 raises: raised,

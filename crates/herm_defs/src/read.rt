@@ -1,4 +1,4 @@
-//! Keys and declared facts are looked up in the outline of definitions.
+//! Keys, declared facts and kept parameters are looked up in the outline of definitions.
 ghost use Rattle.std.specs.Prelude.{◌≡◌, ◌<◌, ◌^◌, ◌++◌, [], ◌∷◌, IfOk, OnOk, map, flat_map, length};
 ghost use Rattle.herm_syntax.specs.View.{name_view, dfact_view, shape_form_view};
 ghost use Rattle.herm_types.specs.View.{fact_view, shape_view, parts_view};
@@ -8,6 +8,7 @@ ghost use Rattle.herm_model.specs.Facts.{full_facts};
 ghost use Rattle.herm_defs.specs.Few.{part_total};
 ghost use Rattle.herm_defs.specs.Steps.{init_meant, full_meant, case_meant};
 
+use crate::calls::call_of;
 use crate::fields::{place_in, walk_fields};
 use crate::names::Names;
 use crate::outline::numbered_shape;
@@ -179,7 +180,7 @@ fn facts_of(
     Ok(facts)
 }
 
-/// A shape with its key and its declared facts, which are looked up in the outline.
+/// A shape with its key, its declared facts and its kept parameters, which are looked up in the outline.
 pub fn read_shape(
     alloc: Global,
     types: &Names,
@@ -211,6 +212,11 @@ pub fn read_shape(
                 message: t,
                 facts: declared,
             })
+        }
+        ShapeForm::CallMessage { params, raises } => {
+            let (params, raises) = (params.as_slice(), raises.as_slice());
+            let shape = call_of(alloc, types, exceptions, params, raises)?;
+            Ok(shape)
         }
         _ => {
             let shape = numbered_shape(alloc, types, exceptions, form)?;

@@ -1,14 +1,18 @@
--- A table and the same without keys and declared facts: depth, paths, what is reached and what is copyable are the same.
+-- A table and the same without keys, declared facts and kept parameters: depth, paths, what is reached and what is copyable are the same.
 use Rattle.std.proofs.Common.{◌≡◌, ℕ, zero, suc, List, [], ◌∷◌, ◌++◌, map, flat_map, slice_get, Bool, false, Option, Some, None, option_map, option_and_then, is_some, refl, sym, ◌∙◌, ap, ap₂, subst}
 use Rattle.herm_model.specs.Lists.{IsIn, all_pass, map_or, list_of}
-use Rattle.herm_model.specs.Types.{Shape, boolean, integer, text, polymorph, names, fields, cases, rows, inport, outport, callmessage, TypeTable, named_types, is_within_depth, all_parts, full_parts, part_paths_within}
+use Rattle.herm_model.specs.Types.{Raised, Shape, boolean, integer, text, polymorph, names, fields, cases, rows, inport, outport, callmessage, TypeTable, named_types, is_within_depth, all_parts, full_parts, part_paths_within}
 use Rattle.herm_model.specs.Copyable.{is_plain, is_composed, IsCopyable, plain, composed}
 use Rattle.herm_model.specs.TypedExpressions.{is_scalar_shape}
 use Rattle.herm_model.specs.WellFormedTables.{Reaches, at_once, further, field_type, field_below, IsType}
 use Rattle.herm_model.proofs.Lists.{slice_get-map}
 use Rattle.herm_model.proofs.Options.{map-some, is_some-map}
 
--- the shape without its key and its declared facts
+-- without what it keeps
+abbrev pub unkept : Raised → Raised
+unkept r = record { exception = r.exception; kept = [] }
+
+-- the shape without its key, its declared facts and its kept parameters
 abbrev pub bare : Shape → Shape
 bare boolean = boolean
 bare integer = integer
@@ -20,7 +24,7 @@ bare (cases ts) = cases ts
 bare (rows row key) = rows row []
 bare (inport message declared) = inport message []
 bare (outport port) = outport port
-bare (callmessage ps rs) = callmessage ps rs
+bare (callmessage ps rs) = callmessage ps (map unkept rs)
 
 pub bare-named : (s : Shape) → named_types (bare s) ≡ named_types s
 bare-named boolean = refl

@@ -1,16 +1,19 @@
--- A table without its keys and declared facts keeps the rules where the table does.
-use Rattle.std.proofs.Common.{◌≤◌, ℕ, List, [], ◌∷◌, map, length, IsTrue, refl, sym, ◌∙◌, ap, subst}
-use Rattle.herm_model.specs.Lists.{all_pass}
+-- A table without its keys, declared facts and kept parameters keeps the rules where the table does.
+use Rattle.std.proofs.Common.{◌≤◌, ◌<◌, ℕ, List, [], ◌∷◌, map, length, IsTrue, refl, sym, ◌∙◌, ap, subst}
+use Rattle.herm_model.specs.Lists.{IsIn, all_pass}
+use Rattle.herm_model.specs.Statements.{Differ}
+use Rattle.herm_model.specs.laws.FlowLaws.{Rise}
 use Rattle.herm_model.specs.Types as types
 use Rattle.herm_model.specs.Types.{TypeTable, predefined, named_types, is_within_depth, all_parts, part_paths, greatest_depth}
 use Rattle.herm_model.specs.TypedExpressions.{HasShape}
 use Rattle.herm_model.specs.WellFormedTables.{IsWellFormedTable, NamesTypes, RaisesKnown, RaisesDifferent, HasKey, LeadsToInport, CopiesInputs, DeclaresFields, DeclaresOneCase, KeepsReturned, KeepsRising, KeepsNoneDisconnected, greatest_paths, is_definable}
-use Rattle.herm_model.proofs.Lists.{and-both, both-and, length-map}
+use Rattle.herm_model.proofs.Lists.{and-both, both-and, in-map_from, length-map}
 use Rattle.herm_meaning.specs.Names.{IsWellNamed}
 use Rattle.herm_meaning.specs.Items.{Placed, types_in, exceptions_in}
 use Rattle.herm_meaning.specs.Meaning.{part_names, numbered_shape, type_names, exception_names, outline, meaning}
 use Rattle.herm_meaning.specs.DefinitionFaults.{AreFaultsOf}
-use Rattle.herm_meaning.proofs.Forgotten.{bare, bare-of, of-bare, bare-type, reached-bare, bare-copyable, within-bare, steps-bare, bare-all, type-bare}
+use Rattle.herm_meaning.proofs.Forgotten.{bare, unkept, bare-of, of-bare, bare-type, reached-bare, bare-copyable, within-bare, steps-bare, bare-all, type-bare}
+use Rattle.herm_meaning.proofs.NameRules.{map-map}
 use Rattle.herm_meaning.proofs.WellNamed.{same, part_each, well-named}
 
 bare-definable : (ss : List types.Shape) → IsTrue (all_pass is_definable ss) → IsTrue (all_pass is_definable (map bare ss))
@@ -62,7 +65,7 @@ module _ (exceptions : ℕ) (full : TypeTable) (good : IsWellFormedTable excepti
   raised (types.rows row key) h = tt
   raised (types.inport message declared) h = tt
   raised (types.outport port) h = tt
-  raised (types.callmessage ps rs) h = h
+  raised (types.callmessage ps rs) h = λ r i. let from = in-map_from unkept r rs i in subst (λ (s : types.Raised). s.exception < exceptions) (sym from.2) (h from.0 from.1)
 
   raised-apart : (s : types.Shape) → RaisesDifferent s → RaisesDifferent (bare s)
   raised-apart types.boolean h = tt
@@ -75,7 +78,7 @@ module _ (exceptions : ℕ) (full : TypeTable) (good : IsWellFormedTable excepti
   raised-apart (types.rows row key) h = tt
   raised-apart (types.inport message declared) h = tt
   raised-apart (types.outport port) h = tt
-  raised-apart (types.callmessage ps rs) h = h
+  raised-apart (types.callmessage ps rs) h = subst (λ ns. Differ ns) (sym (map-map (λ (r : types.Raised). r.exception) unkept (λ (r : types.Raised). r.exception) rs (λ r. refl))) h
 
   keyed : (s : types.Shape) → HasKey full s → HasKey lean (bare s)
   keyed types.boolean h = tt
@@ -153,7 +156,13 @@ module _ (exceptions : ℕ) (full : TypeTable) (good : IsWellFormedTable excepti
   keeping (types.rows row key) h = (tt, tt, tt)
   keeping (types.inport message declared) h = (tt, tt, tt)
   keeping (types.outport port) h = (tt, tt, tt)
-  keeping (types.callmessage ps rs) h = h
+  keeping (types.callmessage ps rs) h = (returned, rising, λ r i e. let from = in-map_from unkept r rs i in ap (λ (s : types.Raised). s.kept) from.2)
+    where
+      returned : KeepsReturned (types.callmessage ps (map unkept rs))
+      returned r i k j = let from = in-map_from unkept r rs i in absurd (subst (λ (s : types.Raised). IsIn k s.kept) from.2 j)
+
+      rising : KeepsRising (types.callmessage ps (map unkept rs))
+      rising r i = let from = in-map_from unkept r rs i in subst (λ (s : types.Raised). Rise s.kept) (sym from.2) tt
 
   all-keeping : (t : ℕ) (s : types.Shape) → HasShape lean t s → KeepsReturned s × KeepsRising s × KeepsNoneDisconnected s
   all-keeping = each-bare (λ s. KeepsReturned s × KeepsRising s × KeepsNoneDisconnected s) (λ t s e. keeping s (good.kept_returned t s e, good.kept_rising t s e, good.kept_disconnected t s e))

@@ -20,14 +20,14 @@ use Rattle.herm_syntax.specs.View.{param_form_view, raise_form_view, dfact_view,
 use Rattle.herm_meaning.specs.Names.{NamedTable, predefined_names, predefined_parts, predefined_exception_names, part_count, IsWellNamed}
 use Rattle.herm_meaning.specs.Items.{Placed, types_in, exceptions_in}
 use Rattle.herm_meaning.specs.Walks.{place_of}
-use Rattle.herm_meaning.specs.Meaning.{part_names, numbered_shape, meant_shape, outline, meaning}
+use Rattle.herm_meaning.specs.Meaning.{part_names, parameter_meant, raising_meant, raising_numbered, numbered_shape, meant_shape, outline, meaning}
 use Rattle.herm_meaning.specs.Marks.{a_type, in_turn, param_marks, raise_marks, mark, shape_marks, places, places_from}
 use Rattle.herm_meaning.specs.DefinitionFaults.{twice, cycle, deep, bad_state, IsRight, MeetsNoCycle, MeetsNoUnknown, HasBadShape, AreFaultsOf}
 use Rattle.herm_meaning.proofs.FaultlessPlaces.{AllRight, no-faults, MarksRight, left-right, right-right, Stands, types-stand, exceptions-stand}
 use Rattle.herm_meaning.proofs.NamePlaces.{at-in, differ-before}
 use Rattle.herm_meaning.proofs.NameRules as names
 use Rattle.herm_meaning.proofs.NameRules.{below, map-map}
-use Rattle.herm_meaning.proofs.Forgotten.{bare, bare-named, of-bare, type-bare, reaches-bare, within-bare, steps-bare, bare-all}
+use Rattle.herm_meaning.proofs.Forgotten.{bare, unkept, bare-named, of-bare, type-bare, reaches-bare, within-bare, steps-bare, bare-all}
 use Rattle.herm_meaning.proofs.TypeRules as rules
 use Rattle.herm_meaning.proofs.TypeRules.{IsSound, not-false}
 use Rattle.herm_meaning.proofs.FactRules as facts
@@ -63,7 +63,7 @@ meant-bare o (Cases cs) = refl
 meant-bare o (Rows row keys) = refl
 meant-bare o (Inport message facts) = refl
 meant-bare o (Outport port) = refl
-meant-bare o (CallMessage params raises) = refl
+meant-bare o (CallMessage params raises) = ap (types.callmessage (map (parameter_meant o.names) params)) (sym (map-map unkept (raising_meant o.names o.exceptions params) (raising_numbered o.exceptions) raises (λ r. refl)))
 
 meant-definable : (o : NamedTable) (s : Shape) → IsTrue (is_definable (meant_shape o s))
 meant-definable o (Names values) = refl
@@ -107,7 +107,7 @@ raises-bare n (types.cases ts) h = tt
 raises-bare n (types.rows row key) h = tt
 raises-bare n (types.inport message declared) h = tt
 raises-bare n (types.outport port) h = tt
-raises-bare n (types.callmessage ps rs) h = h
+raises-bare n (types.callmessage ps rs) h = λ r i. let from = in-map_from unkept r rs i in subst (λ (s : types.Raised). s.exception < n) (sym from.2) (h from.0 from.1)
 
 map-same : {X Y : Type 0} (f g : X → Y) (xs : List X) → ((x : X) → f x ≡ g x) → map f xs ≡ map g xs
 map-same f g [] e = refl

@@ -32,12 +32,19 @@ kept_places i (name ∷ names) keeps = cond (list_any (bytes_eq name) keeps) (i 
 abbrev pub parameter_meant : List Letters → Param → types.Parameter
 parameter_meant names p = record { mode = mode_meant p.0; content = place_of names p.1.1 }
 
+-- an exception that may be raised, before what it keeps is looked up
+abbrev pub raising_numbered : List Letters → Raising → types.Raised
+raising_numbered exceptions r = record { exception = place_of exceptions r.0; kept = [] }
+
 module _ (names exceptions : List Letters) where
   abbrev pub raising_meant : List Param → Raising → types.Raised
   raising_meant params r = record { exception = place_of exceptions r.0; kept = kept_places 0 (map (λ p. p.1.0) params) r.1 }
 
-  -- The shape with numbers in place of names, and an inport without facts. A name that is not there has the number of
-  -- all names, which is no type's and no exception's.
+  abbrev pub meant_call : List Param → List Raising → types.Shape
+  meant_call params raises = types.callmessage (map (parameter_meant names) params) (map (raising_meant params) raises)
+
+  -- The shape with numbers in place of names, without a table's key, an inport's facts and what exceptions keep. A name that is
+  -- not there has the number of all names, which is no type's and no exception's.
   abbrev pub numbered_shape : Shape → types.Shape
   numbered_shape (Names values) = types.names (length values)
   numbered_shape (Fields fs) = types.fields (map (λ f. place_of names f.1) fs)
@@ -45,7 +52,7 @@ module _ (names exceptions : List Letters) where
   numbered_shape (Rows row keys) = types.rows (place_of names row) []
   numbered_shape (Inport message facts) = types.inport (place_of names message) []
   numbered_shape (Outport port) = types.outport (place_of names port)
-  numbered_shape (CallMessage params raises) = types.callmessage (map (parameter_meant names) params) (map (raising_meant params) raises)
+  numbered_shape (CallMessage params raises) = types.callmessage (map (parameter_meant names) params) (map (raising_numbered exceptions) raises)
 
 -- the names of all types and exceptions, predefined ones first
 abbrev pub type_names : List Placed → List Letters
@@ -54,7 +61,7 @@ type_names items = predefined_names ++ map (λ d. d.0) (types_in items)
 abbrev pub exception_names : List Placed → List Letters
 exception_names items = predefined_exception_names ++ exceptions_in items
 
--- The definitions by number, before keys and declared facts are looked up in it. A name that is defined twice means its
+-- The definitions by number, before keys, declared facts and kept parameters are looked up in it. A name that is defined twice means its
 -- first definition, and the later one has a number too.
 abbrev pub outline : List Placed → NamedTable
 outline items = behind_predefined (record {
@@ -70,10 +77,11 @@ fact_meant table message (InitFact p) = at_end (walk_fields table message p) (λ
 fact_meant table message (FullFact p) = at_end (walk_fields table message p) (λ places t. full_facts table.shapes t (0 ∷ places))
 fact_meant table message (CaseFact p c) = at_end (walk_fields table message p) (λ places t. case (0 ∷ places) (place_of (parts_of table t) c) ∷ [])
 
--- the shape with the keys and the declared facts looked up in an outline
+-- the shape with its key, its declared facts and its kept parameters, which are looked up in an outline
 abbrev pub meant_shape : NamedTable → Shape → types.Shape
 meant_shape table (Rows row keys) = types.rows (place_of table.names row) (map (place_of (parts_of table (place_of table.names row))) keys)
 meant_shape table (Inport message facts) = types.inport (place_of table.names message) (flat_map (fact_meant table (place_of table.names message)) facts)
+meant_shape table (CallMessage params raises) = meant_call table.names table.exceptions params raises
 meant_shape table s = numbered_shape table.names table.exceptions s
 
 -- The table that definitions without a fault mean. Language reference, "Types".

@@ -4,7 +4,7 @@ use Rattle.std.specs.Str.{bytes_eq}
 use Rattle.herm_syntax.specs.Trees.{Param}
 use Rattle.herm_syntax.specs.View.{name_view, param_form_view}
 use Rattle.herm_defs.proofs.Keeping.{kept-none, kept-more, empty-is}
-use Rattle.herm_defs.proofs.outline.kept_places.Goals as goal
+use Rattle.herm_defs.proofs.calls.kept_places.Goals as goal
 
 pub returns-then-is_empty : goal.returns-then-is_empty
 returns-then-is_empty c = rw (c.new-kept.ensures.items, empty-is name_view c.args.keeps.now c.if-is_empty.ensures) (sym (kept-none 0 (map (λ (p : Param). p.1.0) (map param_form_view c.args.params.now))))
