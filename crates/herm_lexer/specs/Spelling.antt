@@ -2,6 +2,7 @@
 use Rattle.std.specs.Prelude.{◌≡◌, ◌≢◌, ℕ, pos, negsuc, ◌+◌, ◌≤◌, ◌==◌, ◌||◌, Bool, false, IsTrue, IsFalse, List, [], ◌∷◌, ◌++◌, length, if◌then◌else◌}
 use Rattle.std.specs.List.{AllByRecursion, flat_map}
 use Rattle.herm_base.specs.Decimal.{IsDecimalText}
+use Rattle.herm_model.specs.Texts.{escaped}
 use Rattle.herm_lexer.specs.Bytes.{is_blank, is_line_byte, is_name_byte}
 pub use Rattle.herm_alphabet.specs.Tokens.{IsName, is_content, IsWithinLimit}
 use Rattle.herm_alphabet.specs.KeywordLetters.{letters, characters}
@@ -15,10 +16,6 @@ use Rattle.herm_lexer.specs.declared.piece.Piece.{Piece}
 use Rattle.herm_lexer.specs.declared.piece.Piece.TheVariants.{Blank, Comment, Token as Lexeme}
 
 -- ---- tokens
-
--- how a byte of a string's content is written: `\n`, `\"`, `\\`, or the byte itself
-abbrev pub escaped : ℕ → List ℕ
-escaped b = if b == 10 then 92 ∷ 110 ∷ [] else if b == 34 then 92 ∷ 34 ∷ [] else if b == 92 then 92 ∷ 92 ∷ [] else b ∷ []
 
 -- The bytes that a token is written as, of whatever length: the letters of a keyword, another name,
 -- the decimal text of a number, the content of a string between two `"`, and the characters of a sign.
