@@ -1,9 +1,9 @@
 // Examples of programs that are checked, and of some that are not.
 
-ghost use Rattle.std.specs.Prelude.{◌≡◌, [], ◌∷◌, Some, true, false};
+ghost use Rattle.std.specs.Prelude.{◌≡◌, [], ◌∷◌, Some, pos, true, false};
 ghost use Rattle.herm_model.specs.Statements.{block, no_blocks, no_statements};
-ghost use Rattle.herm_model.specs.Values.{an_inport};
-ghost use Rattle.herm_source.specs.examples.CheckedExamples.{CanBeChecked, choosing_code, component_target, is_stuck_behind, IsTypedAt, nested_loops, other_port, stands_behind, Stand};
+ghost use Rattle.herm_model.specs.Values.{a_scalar, an_integer, a_variant, an_inport};
+ghost use Rattle.herm_source.specs.examples.CheckedExamples.{CanBeChecked, choosing_code, component_target, is_stuck_behind, IsTypedAt, nested_loops, other_port, other_port_types, port_to_component, port_variant_types, stands_behind, would_stand_behind, Stand};
 ghost use Rattle.herm_source.specs.examples.ComponentPrograms.{taken_apart};
 ghost use Rattle.herm_source.specs.examples.CallPrograms.{kept_parameter};
 ghost use Rattle.herm_source.specs.examples.Programs.{two_senders};
@@ -31,11 +31,23 @@ pub fn targets_in_components_are_stuck()
     ensures untyped { IsTypedAt component_target 3 → ⊥ }
 {}
 
+/// A target that passes through a component would break typed places: a port that is moved to the other component than the one that
+/// is there would stand at a place of that one's type, were a component's place like a field's. So the statement is not
+/// typed, and there is no such place.
+pub fn targets_in_components_break_places()
+    ensures stuck { is_stuck_behind 2 port_to_component ≡ Some true }
+    ensures untyped { IsTypedAt port_to_component 2 → ⊥ }
+    ensures before { stands_behind 2 port_to_component ≡ Some ((7, an_inport 1) ∷ (8, a_variant 1) ∷ (1, a_scalar (an_integer (pos 1))) ∷ []) }
+    ensures stood { Stand port_variant_types ((7, an_inport 1) ∷ (8, a_variant 1) ∷ (1, a_scalar (an_integer (pos 1))) ∷ []) }
+    ensures behind { would_stand_behind 2 port_to_component ≡ Some ((8, a_variant 1) ∷ (1, an_inport 1) ∷ []) }
+    ensures broken { Stand port_variant_types ((8, a_variant 1) ∷ (1, an_inport 1) ∷ []) → ⊥ }
+{}
+
 /// Where a port is moved to a place of another type, which the rules on types forbid, it stands there no more as it should.
 pub fn untyped_moves_break_places()
     ensures before { stands_behind 0 other_port ≡ Some ((7, an_inport 1) ∷ []) }
-    ensures stood { Stand ((7, an_inport 1) ∷ []) }
+    ensures stood { Stand other_port_types ((7, an_inport 1) ∷ []) }
     ensures behind { stands_behind 1 other_port ≡ Some ((8, an_inport 1) ∷ []) }
     ensures untyped { IsTypedAt other_port 0 → ⊥ }
-    ensures broken { Stand ((8, an_inport 1) ∷ []) → ⊥ }
+    ensures broken { Stand other_port_types ((8, an_inport 1) ∷ []) → ⊥ }
 {}

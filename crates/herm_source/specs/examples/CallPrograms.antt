@@ -1,5 +1,5 @@
 -- Small programs that call, as terms. Each comment has the program as it is written.
-use Rattle.std.specs.Prelude.{ℕ, ◌+◌, List, [], ◌∷◌, ◌++◌, codes}
+use Rattle.std.specs.Prelude.{ℕ, List, [], ◌∷◌, ◌++◌, codes}
 use Rattle.herm_model.specs.Types.{TypeTable, predefined, fields, inport, outport, callmessage, by_in, by_inout, Raised}
 use Rattle.herm_model.specs.Expressions.{path}
 use Rattle.herm_model.specs.Statements.{Assign, New, Discard, Connect, Send, Create, Call, Return, ReturnBy, Statement, simple, trying, Handlers, no_handlers, handler, Process}

@@ -5,7 +5,7 @@ use Rattle.herm_model.specs.Types.{TypeTable, predefined, cases, inport}
 use Rattle.herm_model.specs.Statements.{simple, choosing, repeating, leaving, Blocks, Assign, Move, Discard, Unite, Case, For, New, Process}
 use Rattle.herm_model.specs.Nodes.{Node}
 use Rattle.herm_model.specs.TypedStatements.{IsTypedForm}
-use Rattle.herm_model.specs.Values.{Kind, an_inport, cell, no_parts}
+use Rattle.herm_model.specs.Values.{Kind, an_inport, cell, Parts, no_parts, part_at, set_part, change_part, name_of, kind_of, parts_of}
 use Rattle.herm_model.specs.examples.RefusedProcesses.{in_order}
 use Rattle.herm_journal.specs.PartTypes.{each}
 use Rattle.herm_forms.specs.Frames.{Name}
@@ -64,6 +64,15 @@ abbrev pub component_target : Module
 component_target = ready 3 (predefined ++ cases (1 ∷ 2 ∷ []) ∷ []) (process_of (7 ∷ 8 ∷ 1 ∷ []) (
     simple (Assign (variable 2) (a_number 1)) ∷ simple (Unite (variable 1) 0 (variable 2)) ∷ simple (Assign (variable 2) (a_number 2)) ∷ simple (Move (variable 2) (part_in 1 0)) ∷ []))
 
+-- type either = variant { a: main_start, b: integer };
+-- a process p(start: main_start) { var v: either, k: integer; k := 1; unite v.b from k; move start to v.a; }, which is not typed either
+abbrev pub port_variant_types : TypeTable
+port_variant_types = predefined ++ cases (7 ∷ 1 ∷ []) ∷ []
+
+abbrev pub port_to_component : Module
+port_to_component = ready 3 port_variant_types (process_of (7 ∷ 8 ∷ 1 ∷ []) (
+    simple (Assign (variable 2) (a_number 1)) ∷ simple (Unite (variable 1) 1 (variable 2)) ∷ simple (Move (variable 0) (part_in 1 0)) ∷ []))
+
 -- type other = inport of integer;  a process p(start: main_start) { var i: other; move start to i; discard i; }, which is not typed either
 abbrev pub other_port_types : TypeTable
 other_port_types = predefined ++ inport 1 [] ∷ []
@@ -75,5 +84,13 @@ other_port = ready 3 other_port_types (process_of (7 ∷ 8 ∷ []) (simple (Move
 abbrev pub stands_behind : ℕ → Module → Option (List (ℕ × Kind))
 stands_behind n c = option_map (λ (s : State Name). typed_in c.types (each c.variables) s.frame.variables) (stepped_from n c)
 
-abbrev pub Stand : List (ℕ × Kind) → Type 0
-Stand xs = (t : ℕ) (k : Kind) → IsIn (t, k) xs → StandsAt other_port_types (4 ∷ 7 ∷ []) (λ _ _. None) t k
+abbrev pub Stand : TypeTable → List (ℕ × Kind) → Type 0
+Stand types xs = (t : ℕ) (k : Kind) → IsIn (t, k) xs → StandsAt types (4 ∷ 7 ∷ []) (λ _ _. None) t k
+
+-- the variables with what stands in the first of them at the first place in the second, were a component's place like a field's
+abbrev pub moved_into : Parts Name → Parts Name
+moved_into ps = change_part 1 (λ c. cell (name_of c) (kind_of c) (set_part 0 (part_at 0 ps) (parts_of c))) (set_part 0 None ps)
+
+-- what would then stand in the variables behind so many steps
+abbrev pub would_stand_behind : ℕ → Module → Option (List (ℕ × Kind))
+would_stand_behind n c = option_map (λ (s : State Name). typed_in c.types (each c.variables) (moved_into s.frame.variables)) (stepped_from n c)
