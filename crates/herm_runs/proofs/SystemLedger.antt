@@ -144,7 +144,7 @@ cond-some false o y e = none-not_some e
 
 -- what each event leaves, by one weight
 module _ {P : Type 0} (machine : Machine Name P) (w : Name → ℕ) where
-  abbrev Balance : System P → Type 0
+  abbrev pub Balance : System P → Type 0
   Balance s = made_in w machine s ≡ held_in w machine s + queued_in w s + finalised_in w machine s
 
   step-balance : (s : System P) (p : ℕ) (x y : P) → numbered_from_one p s.processes ≡ Some x →
@@ -207,7 +207,7 @@ module _ {P : Type 0} (machine : Machine Name P) (keeps : KeepsLedger machine) (
       subst (λ (x : Moved P). Balance machine w x.system) parts.moved
       (action-balance p place s parts.makes.0 parts.state parts.left.0 parts.want.0 parts.at.0 parts.did.0 parts.is parts.at.1 parts.want.1 parts.did.1 parts.left.1 parts.makes.1 balance)
 
-  event-balance : (e : Event) (s : System P) (m : Moved P) → step machine e s ≡ Some m → Balance machine w s → Balance machine w m.system
+  pub event-balance : (e : Event) (s : System P) (m : Moved P) → step machine e s ≡ Some m → Balance machine w s → Balance machine w m.system
   event-balance (steps p) s m e balance = local-event p s m e balance
   event-balance (acts p place) s m e balance = action-event p place s m e balance
 
@@ -218,7 +218,7 @@ module _ {P : Type 0} (machine : Machine Name P) (keeps : KeepsLedger machine) (
       let m = map-some _ (step machine e r.system) b.0 b.1 in
       run-balance events b.0 t b.2 (subst (λ (x : Run P). Balance machine w x.system) m.2 (event-balance e r.system m.0 m.1 balance))
 
-  opening-balance : (limits : Limits) (argument : Text) (first : P) → machine.begin machine.main 1 main_port ≡ Some first → Balance machine w (opening machine limits argument)
+  pub opening-balance : (limits : Limits) (argument : Text) (first : P) → machine.begin machine.main 1 main_port ≡ Some first → Balance machine w (opening machine limits argument)
   opening-balance limits argument first is =
       let s : System P = record (opening machine limits argument) { processes = list_of (λ x. x ∷ []) (Some first) } in
       let balance : Balance machine w s = omega (arith, keeps.begins w machine.main 1 main_port first is) in

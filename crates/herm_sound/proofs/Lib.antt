@@ -1,0 +1,5 @@
+pub mod Acted
+pub mod Places
+pub mod Counted
+pub mod ReplyCells
+pub mod OpenPorts
