@@ -3,3 +3,7 @@ pub mod Places
 pub mod Counted
 pub mod ReplyCells
 pub mod OpenPorts
+pub mod TypedCells
+pub mod MadeSystems
+pub mod Changes
+pub mod ActionChanges
