@@ -100,7 +100,7 @@ module _ {P : Type 0} (machine : Machine Name P) (Is : P → Type 0) (keeps : Ke
     act-comes more calls w place h a (answered caller call r rs) at has all t j member = absurd member
 
   -- an action that can be, taken apart
-  action-change : (ports : List ℕ) (s : System P) → IsSoundWith machine Is ports s → (p : ℕ) (place : Place) (m : Moved P) (parts : ActionParts machine p place s m)
+  pub action-change : (ports : List ℕ) (s : System P) → IsSoundWith machine Is ports s → (p : ℕ) (place : Place) (m : Moved P) (parts : ActionParts machine p place s m)
       → IsChange machine Is keeps ports s parts.makes.0 p parts.state parts.left.0 (Some parts.want.0) (number_of place) parts.did.0
   action-change ports s sound p place m parts =
       let x = parts.state in

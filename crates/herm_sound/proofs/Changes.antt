@@ -85,7 +85,7 @@ module _ {P : Type 0} (machine : Machine Name P) (Is : P → Type 0) (keeps : Ke
 
   -- a local step
   module _ (ports : List ℕ) (s : System P) (sound : IsSoundWith machine Is ports s) where
-    local-change : (p : ℕ) (x y : P) → numbered_from_one p s.processes ≡ Some x → machine.local_step x ≡ Some y → IsChange ports s (set_process p y s) p x y None 0 (make_port None)
+    pub local-change : (p : ℕ) (x y : P) → numbered_from_one p s.processes ≡ Some x → machine.local_step x ≡ Some y → IsChange ports s (set_process p y s) p x y None 0 (make_port None)
     local-change p x y is does =
         let before = sound.processes p x is in
         let number = (sound.numbers.processes p x is).0 in

@@ -7,3 +7,7 @@ pub mod TypedCells
 pub mod MadeSystems
 pub mod Changes
 pub mod ActionChanges
+pub mod OpenCalls
+pub mod KeptCalls
+pub mod KeptStanding
+pub mod KeptSound
