@@ -35,11 +35,11 @@ use Rattle.herm_sound.proofs.OpenCalls.{counted, only-one, CallOf, call-of, open
 use Rattle.herm_sound.proofs.KeptCalls.{IsPlaced, WasOpen, no-replies, calls-before, opens-move}
 use Rattle.herm_sound.proofs.KeptStanding.{got-more, got-either, there-too, calls_of, all-behind, or_else, more, calls_by, answered-call}
 
-inports-wait : (n : ℕ) → IsOfWaiting (is_inport_of n)
+pub inports-wait : (n : ℕ) → IsOfWaiting (is_inport_of n)
 inports-wait n (an_inport m) h = refl
 inports-wait n k h = not_true h
 
-callmessages-wait : (q i : ℕ) → IsOfWaiting (is_callmessage_of q i)
+pub callmessages-wait : (q i : ℕ) → IsOfWaiting (is_callmessage_of q i)
 callmessages-wait q i (a_callmessage p k) h = refl
 callmessages-wait q i k h = not_true h
 

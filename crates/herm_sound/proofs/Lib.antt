@@ -11,3 +11,4 @@ pub mod OpenCalls
 pub mod KeptCalls
 pub mod KeptStanding
 pub mod KeptSound
+pub mod OpeningSound

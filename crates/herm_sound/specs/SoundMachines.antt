@@ -2,7 +2,6 @@
 use Rattle.std.specs.Prelude.{◌≡◌, ◌⊎◌, ◌<◌, ◌≤◌, ℕ, suc, List, [], ◌∷◌, Option, Some, None, slice_get, option_and_then, IsTrue, ⊤}
 use Rattle.herm_model.specs.Lists.{IsIn, list_of}
 use Rattle.herm_model.specs.Calls.{led_to}
-use Rattle.herm_model.specs.Texts
 use Rattle.herm_model.specs.Typed.{is_text}
 use Rattle.herm_model.specs.Values.{Name, Kind, a_callmessage, an_inport, an_outport, Cell, cell, no_parts}
 use Rattle.herm_journal.specs.Actions.{gone, new_port, new_process, to_put, to_take, to_close, to_answer, to_hear, put, hear}
@@ -15,7 +14,7 @@ use Rattle.herm_system.specs.Sound.{console_type}
 use Rattle.herm_system.specs.Suiting.{Answers, Suits}
 use Rattle.herm_runs.specs.Counting.{KeepsCounts}
 use Rattle.herm_runs.specs.laws.ProcessLaws.{KeepsNumbers, KeepsLedger}
-use Rattle.herm_sound.specs.Standing.{at_type, AllStand, typed_places, typed_coming, typed_made, typed_going}
+use Rattle.herm_sound.specs.Standing.{at_type, StandsAt, AllStand, typed_places, typed_coming, typed_made, typed_going}
 
 module _ {P : Type 0} (machine : Machine Name P) where
   -- An open call is opened by a message that is placed, closed by a reply that is heard, and by nothing else.
@@ -74,3 +73,30 @@ module _ {P : Type 0} (machine : Machine Name P) where
     pub processes : StaysSound Is
     pub wants : (x : P) (want : CellWant Name) → Is x → machine.wanted x ≡ Some want → HasFor first_type new_type x want
     pub standing : (ports : List ℕ) (calls : ℕ → ℕ → Option ℕ) → KeepsStanding first_type new_type Is ports calls
+
+  -- A system begins with a process of main, whose port is of an inport type of which the first message with a text is one, with its
+  -- cells at places of their types; and the console's type is an inport type. Language reference, "Opening state".
+  pub record BeginsSound (first_type : ℕ → Option ℕ) : Type 0 where
+    pub main : (x : P) × (machine.begin machine.main 1 main_port ≡ Some x)
+    pub port_type : ℕ
+    pub types : first_type machine.main ≡ Some port_type
+    pub inport : IsTrue (is_inport (slice_get machine.types port_type))
+    pub console : IsTrue (is_inport (slice_get machine.types console_type))
+    pub message : (argument : Text) → IsTrue (is_text argument) → IsMessage machine.types port_type (first_message argument)
+    pub stands : (argument : Text) (u : ℕ) → message_of_port machine.types port_type ≡ Some u
+        → AllStand machine.types (console_type ∷ port_type ∷ []) (λ caller call. None) (typed_of machine.types u (first_message argument))
+
+  -- A process that is sound within itself goes on: a local step that is next is there; where an action is next something is wanted;
+  -- and each answer to it is taken, where what comes in suits. Language reference, "Sound states".
+  pub record GoesOn (Is : P → Type 0) : Type 0 where
+    pub local_steps : (limit : ℕ) (x : P) → Is x → IsTrue (is_local (machine.ready limit x)) → (y : P) × (machine.local_step x ≡ Some y)
+    pub wants : (limit : ℕ) (x : P) → Is x → IsTrue (is_acting (machine.ready limit x)) → (want : CellWant Name) × (machine.wanted x ≡ Some want)
+    pub answers : (x : P) (want : CellWant Name) (at : ℕ) (a : CellAction Name) → Is x → machine.wanted x ≡ Some want → Answers want a → Suits machine x at a → (y : P) × (machine.answered x at a ≡ Some y)
+
+  -- Steps and actions are counted from 0 on, and none is made beyond its limit. Language reference, "Limits".
+  pub record KeepsLimits : Type 0 where
+    pub begins : (code number : ℕ) (port : Cell Name) (x : P) → machine.begin code number port ≡ Some x → (machine.steps x ≡ 0) × (machine.actions x ≡ 0)
+    pub local_steps : (limit : ℕ) (x y : P) → IsTrue (is_local (machine.ready limit x)) → machine.local_step x ≡ Some y
+        → (machine.steps y ≡ suc (machine.steps x)) × (machine.actions y ≡ machine.actions x) × (machine.steps x < limit)
+    pub answers : (limit : ℕ) (x y : P) (at : ℕ) (a : CellAction Name) → IsTrue (is_acting (machine.ready limit x)) → machine.answered x at a ≡ Some y
+        → (machine.actions y ≡ suc (machine.actions x)) × (machine.actions x < greatest_actions) × (machine.steps x ≤ machine.steps y) × (machine.steps x ≤ limit → machine.steps y ≤ limit)

@@ -1,11 +1,90 @@
 -- What is claimed of sound states, over any machine.
-use Rattle.std.specs.Prelude.{◌≡◌, Some}
-use Rattle.herm_model.specs.Values.{Name}
-use Rattle.herm_system.specs.Machines.{Machine}
-use Rattle.herm_system.specs.Systems.{System, Moved, Event, step}
-use Rattle.herm_system.specs.Sound.{IsSoundFor}
+use Rattle.std.specs.Prelude.{◌≡◌, ◌+◌, ◌*◌, ◌≤◌, ◌<◌, ◌&&◌, ℕ, suc, max, List, Bool, true, false, nat_eq, length, Some, is_some, IsTrue}
+use Rattle.herm_model.specs.Lists.{any_pass}
+use Rattle.herm_model.specs.Typed.{is_text}
+use Rattle.herm_model.specs.Values.{Name, Cell}
+use Rattle.herm_journal.specs.Actions.{Action, close, answer}
+use Rattle.herm_journal.specs.PlaceStates.{Limits}
+use Rattle.herm_journal.specs.Entries.{Text, Place, port, reply_cell, same_place, Entry}
+use Rattle.herm_journal.specs.Messages.{CellReply, CellWant}
+use Rattle.herm_system.specs.Machines.{Machine, is_local, is_acting, greatest_actions}
+use Rattle.herm_system.specs.Systems.{System, Moved, Event, steps, acts, step, Run, run, start, opening, numbered_from_one, places_for, done_in, stands, IsFinal}
+use Rattle.herm_system.specs.Rounds.{rounds}
+use Rattle.herm_system.specs.Kinds.{unfinalised, replies_of, is_callmessage_of, has_open, is_open_port}
+use Rattle.herm_system.specs.Reports.{IsAlong}
+use Rattle.herm_system.specs.Sound.{one_if, IsSoundFor}
+use Rattle.herm_system.specs.Summary.{how_many}
+
+-- A state is one of these. So is said any property of states, by the type of those that have it.
+abbrev pub IsAmong : {J P : Type 0} → (J → P) → P → Type 0
+IsAmong {J} state x = (j : J) × (state j ≡ x)
+
+-- the entry is of a close of this port
+abbrev pub is_close : {M R : Type 0} → Action M R → Bool
+is_close (close count left) = true
+is_close a = false
+
+abbrev pub closes : ℕ → Entry → Bool
+closes n e = same_place e.place (port n) && is_close e.action
+
+-- no more events than this can be: processes, at least one, and of each its steps and its actions
+abbrev pub most_events : Limits → ℕ
+most_events limits = max 1 limits.processes * (limits.steps + greatest_actions)
 
 module _ {P : Type 0} (machine : Machine Name P) (Is : P → Type 0) where
   -- What an event leaves of a sound state is a sound state. Language reference, "Sound states".
   abbrev pub StepsKeepSound : Type 0
   StepsKeepSound = (e : Event) (s : System P) (m : Moved P) → step machine e s ≡ Some m → IsSoundFor machine Is s → IsSoundFor machine Is m.system
+
+  -- So is what a list of events leaves.
+  abbrev pub RunsKeepSound : Type 0
+  RunsKeepSound = (events : List Event) (r t : Run P) → run machine events r ≡ Some t → IsSoundFor machine Is r.system → IsSoundFor machine Is t.system
+
+  -- The state at the start is sound, with any text as the argument. Language reference, "Opening state".
+  abbrev pub OpeningIsSound : Type 0
+  OpeningIsSound = (limits : Limits) (argument : Text) → IsTrue (is_text argument) → IsSoundFor machine Is (opening machine limits argument)
+
+  -- So each state that events lead to is sound, and each along a journal.
+  abbrev pub RunsAreSound : Type 0
+  RunsAreSound = (limits : Limits) (argument : Text) (events : List Event) (r : Run P) → IsTrue (is_text argument) → run machine events (start machine limits argument) ≡ Some r → IsSoundFor machine Is r.system
+
+  abbrev pub StatesAlongAreSound : Type 0
+  StatesAlongAreSound = (limits : Limits) (argument : Text) (journal : List Entry) (s : System P) → IsTrue (is_text argument) → IsAlong machine (opening machine limits argument) journal s → IsSoundFor machine Is s
+
+  -- In a sound state each process that is to make a local step makes it; each that can act can do so at some place, and at each place
+  -- where something of what it wants can be done. Language reference, "Sound states".
+  pub record GoOnFrom (s : System P) (p : ℕ) : Type 0 where
+    pub local_steps : IsTrue (stands is_local machine s p) → (m : Moved P) × (step machine (steps p) s ≡ Some m)
+    pub actions : IsTrue (stands is_acting machine s p) → (place : Place) × (m : Moved P) × (step machine (acts p place) s ≡ Some m)
+    pub places : IsTrue (stands is_acting machine s p) → (x : P) (want : CellWant Name) (place : Place) → numbered_from_one p s.processes ≡ Some x → machine.wanted x ≡ Some want
+        → IsTrue (any_pass (same_place place) (places_for p want)) → IsTrue (is_some (done_in want s place)) → (m : Moved P) × (step machine (acts p place) s ≡ Some m)
+
+  abbrev pub NoneIsStuck : Type 0
+  NoneIsStuck = (s : System P) (p : ℕ) → IsSoundFor machine Is s → GoOnFrom s p
+
+  -- In a sound state a port that is closed was open, and a call that is answered is open, with no reply to it so far and then one, and no
+  -- callmessage of it that could be answered again. Language reference, "Sound states".
+  abbrev pub ClosesOpenPorts : Type 0
+  ClosesOpenPorts = (s : System P) (p n count : ℕ) (left : List (Cell Name)) (m : Moved P) → IsSoundFor machine Is s → step machine (acts p (port n)) s ≡ Some m → m.done ≡ Some (close count left)
+      → (is_open_port s n ≡ true) × (is_open_port m.system n ≡ false)
+
+  abbrev pub replies_to : System P → (caller call : ℕ) → ℕ
+  replies_to s q k = how_many (λ (r : ℕ × CellReply Name). nat_eq r.0 k) (replies_of s q)
+
+  abbrev pub AnswersOpenCalls : Type 0
+  AnswersOpenCalls = (s : System P) (p q k : ℕ) (r : CellReply Name) (m : Moved P) → IsSoundFor machine Is s → step machine (acts p (reply_cell q)) s ≡ Some m → m.done ≡ Some (answer k r)
+      → (has_open machine s q k ≡ true) × (replies_to s q k ≡ 0) × (replies_to m.system q k ≡ 1) × (how_many (is_callmessage_of q k) (unfinalised machine m.system) ≡ 0)
+
+  -- Along a run each port that was made was closed once where it is not open, and not yet where it is; and no port was closed twice.
+  -- Language reference, "Ports".
+  abbrev pub PortsCloseOnce : Type 0
+  PortsCloseOnce = (limits : Limits) (argument : Text) (events : List Event) (r : Run P) → IsTrue (is_text argument) → run machine events (start machine limits argument) ≡ Some r → (n : ℕ)
+      → (n < length r.system.ports → how_many (closes n) r.journal + one_if (is_open_port r.system n) ≡ 1) × (how_many (closes n) r.journal ≤ 1)
+
+  -- A run has at most so many events as its limits say. Language reference, "Limits".
+  abbrev pub EventsAreBounded : Type 0
+  EventsAreBounded = (limits : Limits) (argument : Text) (events : List Event) (r : Run P) → run machine events (start machine limits argument) ≡ Some r → length events ≤ most_events limits
+
+  -- So many rounds suffice, and one more: they lead to a state in which no process can step. Language reference, "Rounds".
+  abbrev pub RoundsSuffice : Type 0
+  RoundsSuffice = (limits : Limits) (argument : Text) → IsTrue (is_text argument) → 1 ≤ limits.processes → (t : Run P) × (rounds (suc (most_events limits)) machine (start machine limits argument) ≡ Some t) × IsFinal machine t.system
