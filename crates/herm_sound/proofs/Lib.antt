@@ -12,3 +12,4 @@ pub mod KeptCalls
 pub mod KeptStanding
 pub mod KeptSound
 pub mod OpeningSound
+pub mod NotStuck
