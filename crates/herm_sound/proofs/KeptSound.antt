@@ -103,7 +103,7 @@ module _ {P : Type 0} (machine : Machine Name P) (Is : P → Type 0) (keeps : Ke
             is_put a = None
 
     -- a port that is to be closed is open
-    to-close-open : (n : ℕ) → w ≡ Some (to_close n) → open_at s.ports n ≡ true
+    pub to-close-open : (n : ℕ) → w ≡ Some (to_close n) → open_at s.ports n ≡ true
     to-close-open n e =
         let there = in-held machine ports s (an_inport n) p x change.was (change.has (to_close n) e).0 in
         let some = counted (is_inport_of n) (an_inport n) (unfinalised machine s) there (same-true n) in
@@ -127,7 +127,7 @@ module _ {P : Type 0} (machine : Machine Name P) (Is : P → Type 0) (keeps : Ke
         by t (inl e) before = before e
         by t (inr h) before = change.grows.inports t h
 
-    answers-kept : (q k : ℕ) → how_many (is_callmessage_of q k) (unfinalised machine u) + how_many (λ (r : ℕ × CellReply Name). nat_eq r.0 k) (replies_of u q) ≡ one_if (has_open machine u q k)
+    pub answers-kept : (q k : ℕ) → how_many (is_callmessage_of q k) (unfinalised machine u) + how_many (λ (r : ℕ × CellReply Name). nat_eq r.0 k) (replies_of u q) ≡ one_if (has_open machine u q k)
     answers-kept q k =
         omega (
           arith,

@@ -13,3 +13,4 @@ pub mod KeptStanding
 pub mod KeptSound
 pub mod OpeningSound
 pub mod NotStuck
+pub mod ActOnce
