@@ -14,3 +14,4 @@ pub mod KeptSound
 pub mod OpeningSound
 pub mod NotStuck
 pub mod ActOnce
+pub mod ClosedOnce

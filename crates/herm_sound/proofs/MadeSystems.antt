@@ -42,6 +42,11 @@ made_port (make_port (Some n)) = Some n
 made_port (make_process code (Some made)) = Some made.1
 made_port a = None
 
+-- a callmessage that is made is no inport
+pub no-inports : (n number : ℕ) (o : Option OpenCall) → how_many (is_inport_of n) (list_of (λ (call : OpenCall). a_callmessage number call.number ∷ []) o) ≡ 0
+no-inports n number None = refl
+no-inports n number (Some call) = refl
+
 -- with what an action makes
 module _ {P : Type 0} (machine : Machine Name P) (x : P) (a : CellAction Name) (s t : System P) (makes : with_made machine x a s ≡ Some t) where
   pub made-messages : (X : ℕ → Cell Name → Type 0) (before : Ports) → QueuedFrom X before s.ports → QueuedFrom X before t.ports
@@ -97,10 +102,6 @@ module _ {P : Type 0} (machine : Machine Name P) (x : P) (a : CellAction Name) (
       by (make_process code (Some made)) e =
           let m = map-some _ (machine.begin code made.0 (inport_of machine made.1 x)) t e in subst (λ (t : System P). length t.ports ≡ length s.ports + 1) m.2 (omega (arith, more-length s.ports empty_port))
       by a e = subst (λ (t : System P). length t.ports ≡ length s.ports + 0) (some-injective e) (omega arith)
-
-  no-inports : (n number : ℕ) (o : Option OpenCall) → how_many (is_inport_of n) (list_of (λ (call : OpenCall). a_callmessage number call.number ∷ []) o) ≡ 0
-  no-inports n number None = refl
-  no-inports n number (Some call) = refl
 
   one-port : (ports : Ports) (n i : ℕ) → i ≡ length ports → one_if (open_at (ports ++ empty_port ∷ []) n) ≡ one_if (open_at ports n) + how_many (is_inport_of n) (an_inport i ∷ [])
   one-port ports n i last = by (nat_eq i n) refl
