@@ -15,3 +15,4 @@ pub mod OpeningSound
 pub mod NotStuck
 pub mod ActOnce
 pub mod ClosedOnce
+pub mod BoundedEvents
