@@ -1,24 +1,20 @@
 -- In a sound state ports that are closed were open, and calls that are answered are open and have no answer yet.
-use Rattle.std.proofs.Common.{◌≡◌, ◌⊎◌, inl, inr, ℕ, zero, suc, ◌+◌, ◌≤◌, ◌<◌, List, [], ◌∷◌, ◌++◌, length, Bool, true, false, cond, Option, Some, None, option_and_then, refl, sym, ap, subst, ◌∙◌, arith, true≢false}
-use Rattle.std.proofs.lemmas.Bool.{eqb-true, eqb-false}
-use Rattle.std.specs.Prelude.{nat_eq, nat_lt, ◌&&◌, IsTrue}
-use Rattle.std.proofs.lemmas.Bool.Decides.{nat_tests}
-use Rattle.herm_model.specs.Lists.{IsIn, list_of}
-use Rattle.herm_model.specs.Values.{Name, Kind, a_callmessage, an_inport, Cell}
-use Rattle.herm_model.proofs.Options.{some-injective, none-not_some, chain-some, map-some}
+use Rattle.std.proofs.Common.{◌≡◌, ◌⊎◌, inl, inr, ℕ, ◌+◌, List, [], ◌∷◌, length, Bool, true, false, cond, Option, Some, None, refl, sym, ap, ◌∙◌, arith}
+use Rattle.std.specs.Prelude.{nat_eq, ◌&&◌}
+use Rattle.herm_model.specs.Lists.{IsIn}
+use Rattle.herm_model.specs.Values.{Name, a_callmessage, an_inport}
+use Rattle.herm_model.proofs.Options.{some-injective, none-not_some}
 use Rattle.herm_journal.proofs.Rising.{same-true}
-use Rattle.herm_journal.specs.Actions.{gone, new_port, to_close, to_answer, make_port, make_process, put, take, close, answer, hear}
-use Rattle.herm_journal.specs.PlaceStates.{Port, empty_port, after}
-use Rattle.herm_journal.specs.Entries.{Place, port, reply_cell, book, same_place, Entry, recorded}
-use Rattle.herm_journal.specs.Stamps.{entry_behind}
+use Rattle.herm_journal.specs.Actions.{gone, to_close, to_answer, close, answer}
+use Rattle.herm_journal.specs.Entries.{Place, port, reply_cell}
 use Rattle.herm_journal.specs.Messages.{CellReply, CellWant, CellAction, IsReplyTo}
-use Rattle.herm_system.specs.Machines.{Machine, inport_of}
+use Rattle.herm_system.specs.Machines.{Machine}
 use Rattle.herm_system.specs.Kinds.{kinds_by, unfinalised, replies_of, has_open, is_open_port, is_inport_of, is_callmessage_of}
-use Rattle.herm_system.specs.Sound.{one_if, IsSoundWith, IsSoundFor}
+use Rattle.herm_system.specs.Sound.{one_if}
 use Rattle.herm_system.specs.Summary.{how_many}
-use Rattle.herm_system.specs.Systems.{System, Moved, Event, steps, acts, Run, run, run_on, step, start, with_made, with_entry, number_of, numbered_from_one}
+use Rattle.herm_system.specs.Systems.{System, Moved, numbered_from_one}
 use Rattle.herm_runs.specs.Counting.{kinds_made, kinds_ended}
-use Rattle.herm_runs.proofs.ActionParts.{ActionParts, action-parts}
+use Rattle.herm_runs.proofs.ActionParts.{action-parts}
 use Rattle.herm_sound.specs.Standing.{typed_places}
 use Rattle.herm_sound.specs.SoundMachines.{KeepsSound}
 use Rattle.herm_sound.specs.laws.SoundLaws.{ClosesOpenPorts, AnswersOpenCalls}
@@ -27,7 +23,7 @@ use Rattle.herm_sound.proofs.ActionChanges.{action-change}
 use Rattle.herm_sound.proofs.OpenCalls.{counted, only-one}
 use Rattle.herm_sound.proofs.OpenPorts.{open_at}
 use Rattle.herm_sound.proofs.TypedCells.{in-held, in-places, typed-unfinalised}
-use Rattle.herm_sound.proofs.KeptSound.{inports-wait, callmessages-wait, to-close-open, answers-kept}
+use Rattle.herm_sound.proofs.KeptSound.{callmessages-wait, to-close-open}
 
 -- the port of a place, and the process of a reply cell
 abbrev port_number : Place → Option ℕ

@@ -1,15 +1,15 @@
 -- What is done at a place, in ten cases: what was wanted, what is there, and the action.
-use Rattle.std.proofs.Common.{◌≡◌, ◌⊎◌, inl, inr, ℕ, suc, List, [], ◌∷◌, map, length, Bool, true, false, cond, Option, Some, None, option_map, option_and_then, slice_get, refl, sym, ap, subst, ◌∙◌}
+use Rattle.std.proofs.Common.{◌≡◌, ◌⊎◌, inl, inr, ℕ, List, [], ◌∷◌, map, length, Bool, true, false, cond, Option, Some, None, refl, sym, ap, subst, ◌∙◌}
 use Rattle.std.proofs.lemmas.Bool.{eqb-true}
 use Rattle.std.proofs.Math.Bool.{or-false}
-use Rattle.std.specs.Prelude.{nat_eq, ⊤}
+use Rattle.std.specs.Prelude.{nat_eq}
 use mathlib.Core.Bool.{false≢true}
 use Rattle.herm_model.specs.Lists.{IsIn, any_pass}
 use Rattle.herm_model.specs.Values.{Name, Cell}
 use Rattle.herm_model.proofs.Lists.{or-either, length-map}
-use Rattle.herm_model.proofs.Options.{some-injective, none-not_some, map-some}
+use Rattle.herm_model.proofs.Options.{some-injective, none-not_some}
 use Rattle.herm_journal.specs.Actions.{new_port, new_process, to_put, to_take, to_close, to_answer, to_hear, make_port, make_process, put, take, close, answer, hear}
-use Rattle.herm_journal.specs.PlaceStates.{Book, Port, first_of, left_in, Replies, PlaceState, a_port, replies, a_book, next_port, next_process}
+use Rattle.herm_journal.specs.PlaceStates.{Book, Port, left_in, Replies, PlaceState, a_port, replies, a_book, next_port, next_process}
 use Rattle.herm_journal.specs.Entries.{Place, port, reply_cell, book, same_place}
 use Rattle.herm_journal.specs.Messages.{CellReply, CellWant, CellAction}
 use Rattle.herm_system.specs.Suiting.{Answers}

@@ -1,35 +1,34 @@
 -- What an action changes in a sound state.
-use Rattle.std.proofs.Common.{◌≡◌, ◌⊎◌, inl, inr, ℕ, zero, suc, ◌+◌, List, [], ◌∷◌, ◌++◌, map, flat_map, length, Bool, true, false, cond, Option, Some, None, option_map, option_and_then, slice_get, refl, sym, ap, subst, ◌∙◌, arith}
+use Rattle.std.proofs.Common.{◌≡◌, ◌⊎◌, inl, inr, ℕ, ◌+◌, List, [], ◌∷◌, ◌++◌, length, Option, Some, None, option_and_then, slice_get, refl, sym, ap, subst, ◌∙◌, arith}
 use Rattle.std.specs.Prelude.{IsTrue}
 use Rattle.herm_model.specs.Lists.{IsIn, list_of, total}
-use Rattle.herm_model.specs.Values.{Name, Kind, an_inport, Cell}
+use Rattle.herm_model.specs.Values.{Name, an_inport, Cell}
 use Rattle.herm_model.proofs.Options.{some-injective, none-not_some, chain-some}
-use Rattle.herm_journal.specs.Actions.{new_port, new_process, to_put, to_take, to_close, to_answer, to_hear, make_port, make_process, put, take, close, answer, hear}
+use Rattle.herm_journal.specs.Actions.{to_take}
 use Rattle.herm_journal.specs.PlaceStates.{Port, PlaceState, after}
-use Rattle.herm_journal.specs.Entries.{Place, port, reply_cell, book}
+use Rattle.herm_journal.specs.Entries.{Place}
 use Rattle.herm_journal.specs.Messages.{CellReply, CellWant, CellAction, cells_in, is_inport, message_of_port, types_of_reply}
 use Rattle.herm_system.specs.Machines.{OpenCall, Machine}
 use Rattle.herm_system.specs.Summary.{how_many}
-use Rattle.herm_system.specs.Systems.{System, Moved, numbered_from_one, set_from_one, holding_at, set_holding, with_made, set_process, number_of}
-use Rattle.herm_system.specs.Kinds.{unfinalised, typed_of, typed_list, replies_of, is_inport_of, is_callmessage_of}
+use Rattle.herm_system.specs.Systems.{System, Moved, numbered_from_one, holding_at, set_holding, set_process, number_of}
+use Rattle.herm_system.specs.Kinds.{unfinalised, typed_of, typed_list, replies_of}
 use Rattle.herm_system.specs.Sound.{IsSoundWith}
-use Rattle.herm_system.specs.Suiting.{Answers, Suits}
-use Rattle.herm_runs.specs.Counting.{IsOfWaiting, kinds_made, kinds_ended}
+use Rattle.herm_system.specs.Suiting.{Answers}
 use Rattle.herm_runs.proofs.ActionParts.{ActionParts}
 use Rattle.herm_runs.proofs.Numbered.{set-found_from_one, lengths-stay}
 use Rattle.herm_runs.proofs.Stands.{IsNew, made-found, unmoved-absent}
 use Rattle.herm_runs.proofs.SuitsStates.{done-suits}
 use Rattle.herm_runs.proofs.SystemLedger.{processes-stay, total-from_one}
-use Rattle.herm_sound.specs.Standing.{StandsAt, AllStand, typed_places, typed_coming, typed_made, typed_going}
-use Rattle.herm_sound.specs.SoundMachines.{CallMoves, HasFor, KeepsSound}
+use Rattle.herm_sound.specs.Standing.{StandsAt, AllStand, typed_coming, typed_going}
+use Rattle.herm_sound.specs.SoundMachines.{HasFor, KeepsSound}
 use Rattle.herm_sound.proofs.Acted.{Holding, port_of, IsAct, port_made, port_refused, process_made, process_refused, placed, came_back, taken, closed, answered, heard, acted, act-answers}
 use Rattle.herm_sound.proofs.Places.{QueuedFrom, act-queued, IsPut, IsAnswered, port-there, cell-there}
-use Rattle.herm_sound.proofs.Counted.{of_process, queued, unfinalised-parts, act-moves, made-counts}
+use Rattle.herm_sound.proofs.Counted.{of_process, unfinalised-parts, act-moves, made-counts}
 use Rattle.herm_sound.proofs.ReplyCells.{own-from_one, other-from_one, RepliedFrom, replied, heard_of, act-replied, act-replies}
-use Rattle.herm_sound.proofs.OpenPorts.{open_at, act-open}
+use Rattle.herm_sound.proofs.OpenPorts.{act-open}
 use Rattle.herm_sound.proofs.TypedCells.{AllPlaced, in-places, in-list_of}
 use Rattle.herm_sound.proofs.MadeSystems.{new_ports, made_port, made-messages, made-answers, made-replies, made-stays, made-length, made-opens, act-number}
-use Rattle.herm_sound.proofs.Changes.{ended, WentTo, AnsweredTo, made_type, new_types, Grows, IsChange}
+use Rattle.herm_sound.proofs.Changes.{WentTo, AnsweredTo, made_type, new_types, Grows, IsChange}
 
 module _ {P : Type 0} (machine : Machine Name P) (Is : P → Type 0) (keeps : KeepsSound machine Is) where
   -- a port with one type more is one port more
@@ -180,6 +179,9 @@ module _ {P : Type 0} (machine : Machine Name P) (Is : P → Type 0) (keeps : Ke
       first s s0 x y a place h p q z same which (inl e) = joined (among s s0 y p q z same (set-found_from_one s0.processes p q y z e))
       first s s0 x y a place h p q z same which (inr new) =
           inr (inr (record {
-            module_number = new.module_number; made = new.made; does = new.does;
-            at = unmoved-absent s place (after a h) p q y (subst (λ (s0 : System P). numbered_from_one q (set_process p y s0).processes ≡ None) which new.at); is = new.is;
+            module_number = new.module_number;
+            made = new.made;
+            does = new.does;
+            at = unmoved-absent s place (after a h) p q y (subst (λ (s0 : System P). numbered_from_one q (set_process p y s0).processes ≡ None) which new.at);
+            is = new.is;
           }))

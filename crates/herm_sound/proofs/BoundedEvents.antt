@@ -1,10 +1,10 @@
 -- The limits bound the events of a run.
-use Rattle.std.proofs.Common.{◌≡◌, ◌⊎◌, inl, inr, ℕ, zero, suc, ◌+◌, ◌≤◌, ◌<◌, List, [], ◌∷◌, ◌++◌, length, Bool, true, false, cond, Option, Some, None, option_map, slice_get, slice_set, refl, sym, ap, subst, ◌∙◌, arith}
-use Rattle.std.specs.Prelude.{nat_lt, ◌&&◌, ◌*◌, max, IsTrue}
+use Rattle.std.proofs.Common.{◌≡◌, ◌⊎◌, inl, inr, ℕ, zero, suc, ◌+◌, ◌≤◌, ◌<◌, List, [], ◌∷◌, length, Bool, true, false, cond, Option, Some, None, slice_set, refl, sym, ap, subst, ◌∙◌, arith}
+use Rattle.std.specs.Prelude.{nat_lt, ◌&&◌, ◌*◌, max}
 use Rattle.std.proofs.lemmas.Bool.Decides.{nat_tests}
 use Rattle.std.proofs.lemmas.Nat.{mul-le}
 use Rattle.herm_model.specs.Lists.{IsIn, total, list_of}
-use Rattle.herm_model.specs.Values.{Name, Cell}
+use Rattle.herm_model.specs.Values.{Name}
 use Rattle.herm_model.proofs.FactTests.{got-IsIn}
 use Rattle.herm_model.proofs.Lists.{and-both, in-append_cases, total-append}
 use Rattle.herm_model.proofs.Options.{some-injective, none-not_some, chain-some, map-some}
@@ -22,7 +22,7 @@ use Rattle.herm_runs.proofs.RoundsEnd.{made-book}
 use Rattle.herm_runs.proofs.Stands.{seen-local, seen-acting, stands-as, place-limits}
 use Rattle.herm_runs.proofs.SystemLedger.{processes-stay, total-from_one}
 use Rattle.herm_sound.specs.SoundMachines.{KeepsLimits}
-use Rattle.herm_sound.specs.laws.SoundLaws.{most_events, EventsAreBounded}
+use Rattle.herm_sound.specs.laws.SoundLaws.{most_events}
 use Rattle.herm_sound.proofs.Acted.{Holding, IsAct, port_made, port_refused, process_made, process_refused, placed, came_back, taken, closed, answered, heard, acted}
 use Rattle.herm_sound.proofs.Places.{book-there}
 

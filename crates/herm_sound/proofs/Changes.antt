@@ -1,36 +1,29 @@
 -- What an event changes, by one process: all that the law of a step reads of the systems before and behind it.
 use Rattle.std.proofs.Common.{◌≡◌, ◌⊎◌, inl, inr, ℕ, zero, suc, ◌+◌, List, [], ◌∷◌, ◌++◌, map, flat_map, length, Bool, true, false, cond, Option, Some, None, option_map, option_and_then, slice_get, refl, sym, ap, subst, ◌∙◌, arith}
-use Rattle.std.specs.Prelude.{IsTrue, ◌&&◌, nat_lt, nat_eq}
-use Rattle.std.proofs.lemmas.Bool.{eqb-true, eqb-false}
-use Rattle.herm_model.specs.Lists.{IsIn, list_of, total}
-use Rattle.herm_model.specs.Values.{Name, Kind, a_callmessage, an_inport, Cell}
-use Rattle.herm_model.proofs.Options.{some-injective, none-not_some, map-some}
-use Rattle.herm_journal.specs.Actions.{new_port, new_process, to_put, to_take, to_close, to_answer, make_port, make_process, put, take, close, answer, hear}
-use Rattle.herm_journal.specs.PlaceStates.{Book, Port, empty_port, left_in, Replies, PlaceState, after, next_port, next_process}
-use Rattle.herm_journal.specs.Entries.{Place, port, reply_cell, book}
-use Rattle.herm_journal.specs.Messages.{CellReply, CellWant, CellAction, cells_in, is_inport, message_of_port, types_of_reply}
-use Rattle.herm_system.specs.Machines.{OpenCall, Machine, inport_of}
+use Rattle.std.specs.Prelude.{IsTrue}
+use Rattle.herm_model.specs.Lists.{IsIn, list_of}
+use Rattle.herm_model.specs.Values.{Name, Kind, Cell}
+use Rattle.herm_model.proofs.Options.{none-not_some}
+use Rattle.herm_journal.specs.Actions.{to_put, to_close, to_answer, make_port, make_process, put, answer}
+use Rattle.herm_journal.specs.Messages.{CellReply, CellWant, CellAction, is_inport}
+use Rattle.herm_system.specs.Machines.{Machine}
 use Rattle.herm_system.specs.Summary.{how_many}
-use Rattle.herm_system.specs.Systems.{System, Moved, numbered_from_one, set_from_one, holding_at, set_holding, with_made, set_process, number_of, local_event, action_event}
-use Rattle.herm_system.specs.Kinds.{kinds_by, kinds_of, unfinalised, typed_of, typed_list, replies_of, is_inport_of, is_callmessage_of}
-use Rattle.herm_system.specs.Sound.{one_if, IsNumbered, IsSoundWith}
+use Rattle.herm_system.specs.Systems.{System, numbered_from_one, set_process}
+use Rattle.herm_system.specs.Kinds.{unfinalised, is_inport_of, is_callmessage_of}
+use Rattle.herm_system.specs.Sound.{one_if, IsSoundWith}
 use Rattle.herm_system.specs.Suiting.{Answers, Suits}
-use Rattle.herm_runs.specs.Counting.{IsOfWaiting, kinds_coming, kinds_going, kinds_made, kinds_ended}
-use Rattle.herm_runs.specs.laws.SuitsLaws.{LooksAtHeld}
-use Rattle.herm_runs.proofs.ActionParts.{ActionParts, action-parts, StepParts, step-parts}
-use Rattle.herm_runs.proofs.Numbered.{more-length, set-length, set-found_from_one, more-found_from_one, lengths-stay}
-use Rattle.herm_runs.proofs.Stands.{IsNew, made-found, unmoved-absent}
-use Rattle.herm_runs.proofs.SuitsStates.{done-suits}
-use Rattle.herm_runs.proofs.SystemLedger.{processes-stay, total-from_one}
+use Rattle.herm_runs.specs.Counting.{IsOfWaiting, kinds_made, kinds_ended}
+use Rattle.herm_runs.proofs.Numbered.{set-found_from_one}
+use Rattle.herm_runs.proofs.Stands.{IsNew}
+use Rattle.herm_runs.proofs.SystemLedger.{total-from_one}
 use Rattle.herm_sound.specs.Standing.{StandsAt, AllStand, typed_places, typed_coming, typed_made, typed_going}
 use Rattle.herm_sound.specs.SoundMachines.{CallMoves, HasFor, KeepsSound}
-use Rattle.herm_sound.proofs.Acted.{Holding, port_of, IsAct, port_made, port_refused, process_made, process_refused, placed, came_back, taken, closed, answered, heard, acted, act-answers}
-use Rattle.herm_sound.proofs.Places.{Ports, Cells, QueuedFrom, same-queued, more-queued, act-queued, IsPut, port-there, cell-there, book-there}
-use Rattle.herm_sound.proofs.Counted.{of_process, queued, born, unfinalised-parts, act-moves, made-counts}
-use Rattle.herm_sound.proofs.ReplyCells.{own-from_one, other-from_one, RepliedFrom, same-replied, more-replied, replied, more-count, heard_of, act-replied, act-replies}
-use Rattle.herm_sound.proofs.OpenPorts.{open_at, more-open, more-others, none-past, act-open}
-use Rattle.herm_sound.proofs.MadeSystems.{new_ports, made_port}
-use Rattle.herm_sound.proofs.TypedCells.{AllPlaced, all-placed, in-list_of}
+use Rattle.herm_sound.proofs.Places.{QueuedFrom, same-queued}
+use Rattle.herm_sound.proofs.Counted.{of_process, unfinalised-parts}
+use Rattle.herm_sound.proofs.ReplyCells.{own-from_one, other-from_one, RepliedFrom, same-replied, replied, heard_of}
+use Rattle.herm_sound.proofs.OpenPorts.{open_at}
+use Rattle.herm_sound.proofs.MadeSystems.{made_port}
+use Rattle.herm_sound.proofs.TypedCells.{AllPlaced}
 
 -- the kinds of what is finalised with what was wanted, if anything was
 abbrev pub ended : Option (CellWant Name) → List Kind

@@ -1,20 +1,19 @@
 -- Along a run no port is closed twice.
-use Rattle.std.proofs.Common.{◌≡◌, ◌⊎◌, inl, inr, ℕ, zero, suc, ◌+◌, ◌≤◌, ◌<◌, List, [], ◌∷◌, ◌++◌, length, Bool, true, false, cond, Option, Some, None, option_map, refl, sym, ap, subst, ◌∙◌, arith}
-use Rattle.std.proofs.lemmas.Bool.{eqb-true, eqb-false}
-use Rattle.std.specs.Prelude.{nat_eq, nat_lt, ◌&&◌, IsTrue}
+use Rattle.std.proofs.Common.{◌≡◌, ℕ, zero, suc, ◌+◌, ◌≤◌, ◌<◌, List, [], ◌∷◌, ◌++◌, length, Bool, true, false, cond, Some, refl, sym, ap, subst, ◌∙◌, arith}
+use Rattle.std.proofs.lemmas.Bool.{eqb-true}
+use Rattle.std.specs.Prelude.{nat_eq, nat_lt, ◌&&◌}
 use Rattle.std.proofs.lemmas.Bool.Decides.{nat_tests}
 use Rattle.herm_model.specs.Lists.{list_of}
-use Rattle.herm_model.specs.Typed.{is_text}
-use Rattle.herm_model.specs.Values.{Name, a_callmessage, an_inport, Cell}
-use Rattle.herm_model.proofs.Options.{some-injective, none-not_some, chain-some, map-some}
+use Rattle.herm_model.specs.Values.{Name, a_callmessage, an_inport}
+use Rattle.herm_model.proofs.Options.{some-injective, chain-some, map-some}
 use Rattle.herm_journal.specs.Actions.{make_port, make_process, put, take, close, answer, hear}
-use Rattle.herm_journal.specs.PlaceStates.{Port, empty_port, after, Limits}
-use Rattle.herm_journal.specs.Entries.{Text, Place, port, reply_cell, book, same_place, Entry, recorded}
+use Rattle.herm_journal.specs.PlaceStates.{empty_port, after, Limits}
+use Rattle.herm_journal.specs.Entries.{Text, Place, port, same_place, Entry, recorded}
 use Rattle.herm_journal.specs.Stamps.{entry_behind}
-use Rattle.herm_journal.specs.Messages.{CellReply, CellWant, CellAction}
+use Rattle.herm_journal.specs.Messages.{CellWant, CellAction}
 use Rattle.herm_system.specs.Machines.{OpenCall, Machine, inport_of}
-use Rattle.herm_system.specs.Kinds.{is_inport_of, is_open_port}
-use Rattle.herm_system.specs.Sound.{one_if, IsSoundWith, IsSoundFor}
+use Rattle.herm_system.specs.Kinds.{is_inport_of}
+use Rattle.herm_system.specs.Sound.{one_if, IsSoundFor}
 use Rattle.herm_system.specs.Summary.{how_many}
 use Rattle.herm_system.specs.Systems.{System, Moved, Event, steps, acts, Run, run, run_on, step, start, with_made, with_entry, set_process, set_holding, number_of}
 use Rattle.herm_runs.specs.Counting.{kinds_made, kinds_ended}

@@ -1,21 +1,21 @@
 -- How many cells of a kind are not finalised, before and behind an event.
-use Rattle.std.proofs.Common.{◌≡◌, ℕ, zero, suc, ◌+◌, List, [], ◌∷◌, ◌++◌, map, flat_map, length, Bool, true, false, cond, Option, Some, None, option_map, slice_get, slice_set, refl, sym, ap, subst, ◌∙◌, arith}
+use Rattle.std.proofs.Common.{◌≡◌, ℕ, suc, ◌+◌, List, [], ◌∷◌, ◌++◌, map, flat_map, length, Bool, true, false, cond, Some, refl, ap, subst, ◌∙◌, arith}
 use Rattle.std.specs.Prelude.{filter}
 use Rattle.herm_model.specs.Lists.{total}
 use Rattle.herm_model.specs.Values.{Name, Kind, Cell}
 use Rattle.herm_model.proofs.Lists.{total-append}
 use Rattle.herm_model.proofs.Renaming.{map-append}
-use Rattle.herm_model.proofs.Options.{some-injective, none-not_some, map-some}
-use Rattle.herm_journal.specs.Actions.{make_port, make_process, put, take, close, answer, hear}
-use Rattle.herm_journal.specs.PlaceStates.{Port, empty_port, left_in, Replies, PlaceState, a_port, replies, a_book, after}
-use Rattle.herm_journal.specs.Entries.{Place, port, reply_cell, book}
+use Rattle.herm_model.proofs.Options.{some-injective, map-some}
+use Rattle.herm_journal.specs.Actions.{make_port, make_process}
+use Rattle.herm_journal.specs.PlaceStates.{Port, empty_port, left_in, Replies, after}
+use Rattle.herm_journal.specs.Entries.{Place}
 use Rattle.herm_journal.specs.Messages.{CellReply, CellWant, CellAction, cells_in}
 use Rattle.herm_system.specs.Machines.{Machine, inport_of}
 use Rattle.herm_system.specs.Summary.{how_many}
-use Rattle.herm_system.specs.Systems.{System, numbered_from_one, set_from_one, holding_at, set_holding, with_made, set_process, console_port}
+use Rattle.herm_system.specs.Systems.{System, holding_at, set_holding, with_made, console_port}
 use Rattle.herm_system.specs.Kinds.{kinds_of, kinds_by, unfinalised}
-use Rattle.herm_runs.specs.Counting.{kinds_coming, kinds_going, kinds_made, kinds_ended, IsOfWaiting, KeepsCounts}
-use Rattle.herm_runs.proofs.SystemLedger.{total-set, total-from_one, processes-stay}
+use Rattle.herm_runs.specs.Counting.{kinds_coming, kinds_going, IsOfWaiting, KeepsCounts}
+use Rattle.herm_runs.proofs.SystemLedger.{total-set, total-from_one}
 use Rattle.herm_sound.proofs.Acted.{Holding, port_of, IsAct, port_made, port_refused, process_made, process_refused, placed, came_back, taken, closed, answered, heard}
 use Rattle.herm_sound.proofs.Places.{port-there, cell-there}
 

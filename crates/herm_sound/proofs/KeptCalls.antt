@@ -1,17 +1,17 @@
 -- Which calls are open behind a change.
-use Rattle.std.proofs.Common.{◌≡◌, ◌⊎◌, inl, inr, ℕ, zero, suc, ◌+◌, List, [], ◌∷◌, length, Bool, true, false, cond, Option, Some, None, option_map, refl, sym, ap, subst, ◌∙◌, arith}
+use Rattle.std.proofs.Common.{◌≡◌, ◌⊎◌, inl, inr, ℕ, ◌+◌, List, [], ◌∷◌, length, Bool, true, false, cond, Option, Some, None, refl, sym, ap, subst, ◌∙◌, arith}
 use Rattle.std.proofs.lemmas.Bool.{eqb-true, eqb-false}
 use Rattle.std.proofs.Math.Bool.{or-false}
 use Rattle.std.specs.Prelude.{nat_eq, ◌&&◌}
 use Rattle.herm_model.specs.Lists.{IsIn, list_of}
 use Rattle.herm_model.specs.Values.{Name, a_callmessage, Cell}
-use Rattle.herm_model.proofs.Options.{some-injective, none-not_some}
+use Rattle.herm_model.proofs.Options.{none-not_some}
 use Rattle.herm_journal.proofs.Rising.{same-true}
 use Rattle.herm_journal.specs.Actions.{make_port, make_process, put, hear}
 use Rattle.herm_journal.specs.Messages.{CellReply, CellWant, CellAction}
 use Rattle.herm_system.specs.Machines.{OpenCall, Machine}
 use Rattle.herm_system.specs.Systems.{System, numbered_from_one}
-use Rattle.herm_system.specs.Kinds.{has_open, is_callmessage_of, replies_of, unfinalised}
+use Rattle.herm_system.specs.Kinds.{has_open, is_callmessage_of, replies_of}
 use Rattle.herm_system.specs.Sound.{one_if, IsSoundWith}
 use Rattle.herm_system.specs.Suiting.{Suits}
 use Rattle.herm_system.specs.Summary.{how_many}
@@ -20,7 +20,7 @@ use Rattle.herm_runs.proofs.Stands.{IsNew}
 use Rattle.herm_sound.specs.SoundMachines.{CallMoves, KeepsSound}
 use Rattle.herm_sound.proofs.ReplyCells.{heard_of}
 use Rattle.herm_sound.proofs.Changes.{IsChange}
-use Rattle.herm_sound.proofs.OpenCalls.{counted, only-one, same-number, is_number, open-with, open-none}
+use Rattle.herm_sound.proofs.OpenCalls.{counted, same-number, is_number, open-with, open-none}
 
 -- a message was placed
 abbrev pub IsPlaced : CellAction Name → Type 0

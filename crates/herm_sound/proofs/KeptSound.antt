@@ -1,25 +1,23 @@
 -- A change of a sound state leaves a sound state, and so does each event.
-use Rattle.std.proofs.Common.{◌≡◌, ◌⊎◌, inl, inr, ℕ, zero, suc, ◌+◌, List, [], ◌∷◌, ◌++◌, length, Bool, true, false, cond, Option, Some, None, option_and_then, slice_get, refl, sym, ap, subst, ◌∙◌, arith}
+use Rattle.std.proofs.Common.{◌≡◌, ◌⊎◌, inl, inr, ℕ, suc, ◌+◌, List, [], ◌∷◌, ◌++◌, length, Bool, true, false, Option, Some, None, slice_get, refl, sym, ap, subst, ◌∙◌, arith}
 use Rattle.std.proofs.lemmas.Bool.{eqb-true, eqb-false}
 use Rattle.std.specs.Prelude.{nat_eq, IsTrue, ◌&&◌}
 use mathlib.Core.Bool.{false≢true}
-use Rattle.herm_model.specs.Lists.{IsIn, list_of}
-use Rattle.herm_model.specs.Calls.{led_to}
-use Rattle.herm_model.specs.Finalising.{waits}
-use Rattle.herm_model.specs.Values.{Name, Kind, a_callmessage, an_inport, an_outport, Cell}
+use Rattle.herm_model.specs.Lists.{IsIn}
+use Rattle.herm_model.specs.Values.{Name, a_callmessage, an_inport, an_outport, Cell}
 use Rattle.herm_model.proofs.Lists.{not_true}
-use Rattle.herm_model.proofs.Options.{some-injective, none-not_some, chain-some}
+use Rattle.herm_model.proofs.Options.{some-injective, none-not_some}
 use Rattle.herm_journal.proofs.Rising.{same-true}
-use Rattle.herm_journal.specs.Actions.{gone, to_close, to_put, to_answer, make_port, put, hear}
+use Rattle.herm_journal.specs.Actions.{gone, to_close, to_put, make_port, put, hear}
 use Rattle.herm_journal.specs.PlaceStates.{Port, left_in}
 use Rattle.herm_journal.specs.Messages.{CellReply, CellWant, CellAction, is_inport, IsMessage, IsReplyTo}
 use Rattle.herm_system.specs.Machines.{OpenCall, Machine}
 use Rattle.herm_system.specs.Ledger.{HasLedger}
 use Rattle.herm_system.specs.Summary.{how_many}
-use Rattle.herm_system.specs.Systems.{System, Moved, Event, steps, acts, numbered_from_one, step, set_process, number_of}
-use Rattle.herm_system.specs.Kinds.{kinds_by, typed_cells, replies_of, unfinalised, has_open, is_open_port, is_inport_of, is_callmessage_of}
-use Rattle.herm_system.specs.Sound.{one_if, console_type, IsNumbered, IsSoundWith, HasPorts, HasCalls}
-use Rattle.herm_runs.specs.Counting.{IsOfWaiting, kinds_made}
+use Rattle.herm_system.specs.Systems.{System, Moved, steps, acts, numbered_from_one, set_process, number_of}
+use Rattle.herm_system.specs.Kinds.{typed_cells, replies_of, unfinalised, has_open, is_open_port, is_inport_of, is_callmessage_of}
+use Rattle.herm_system.specs.Sound.{one_if, console_type, IsNumbered, IsSoundWith, HasPorts}
+use Rattle.herm_runs.specs.Counting.{IsOfWaiting}
 use Rattle.herm_runs.proofs.ActionParts.{action-parts, step-parts}
 use Rattle.herm_runs.proofs.Numbered.{step-numbered, numbered-once}
 use Rattle.herm_runs.proofs.Stands.{IsNew}
@@ -27,12 +25,11 @@ use Rattle.herm_runs.proofs.SystemLedger.{event-balance}
 use Rattle.herm_sound.specs.laws.SoundLaws.{StepsKeepSound}
 use Rattle.herm_sound.specs.SoundMachines.{CallMoves, KeepsSound}
 use Rattle.herm_sound.proofs.OpenPorts.{open_at}
-use Rattle.herm_sound.proofs.ReplyCells.{heard_of}
-use Rattle.herm_sound.proofs.Changes.{IsChange, new_types, ended, WentTo, AnsweredTo, local-change}
+use Rattle.herm_sound.proofs.Changes.{IsChange, new_types, WentTo, AnsweredTo, local-change}
 use Rattle.herm_sound.proofs.ActionChanges.{action-change}
 use Rattle.herm_sound.proofs.TypedCells.{in-held, in-places, typed-unfinalised}
 use Rattle.herm_sound.proofs.OpenCalls.{counted, only-one, CallOf, call-of, open-with}
-use Rattle.herm_sound.proofs.KeptCalls.{IsPlaced, WasOpen, no-replies, calls-before, opens-move}
+use Rattle.herm_sound.proofs.KeptCalls.{WasOpen, no-replies, calls-before, opens-move}
 use Rattle.herm_sound.proofs.KeptStanding.{got-more, got-either, there-too, calls_of, all-behind, or_else, more, calls_by, answered-call}
 
 pub inports-wait : (n : ℕ) → IsOfWaiting (is_inport_of n)
@@ -194,16 +191,20 @@ steps-keep-sound {P} machine Is keeps (steps p) s m e sound =
     let change = local-change machine Is keeps sound.0 s sound.1 p parts.state parts.left.0 parts.is parts.left.1 in
     let u = set_process p parts.left.0 s in
     let same : record { system = u; done = None } ≡ m = parts.moved in
-    subst (λ (m : Moved P). (types : List ℕ) × IsSoundWith machine Is types m.system) same
-    (_, change-sound machine Is keeps sound.0 s sound.1 u p parts.state parts.left.0 None 0 (make_port None) change
-    (λ w. subst (λ (m : Moved P). Rattle.herm_runs.proofs.SystemLedger.Balance machine w m.system) (sym same) (event-balance machine keeps.ledger w (steps p) s m e (sound.1.ledger w)))
-    (subst (λ (m : Moved P). IsNumbered machine m.system) (sym same) (step-numbered machine keeps.numbers (steps p) s m e sound.1.numbers)))
+    subst (λ (m : Moved P). (types : List ℕ) × IsSoundWith machine Is types m.system) same (
+      _,
+      change-sound machine Is keeps sound.0 s sound.1 u p parts.state parts.left.0 None 0 (make_port None) change
+          (λ w. subst (λ (m : Moved P). Rattle.herm_runs.proofs.SystemLedger.Balance machine w m.system) (sym same) (event-balance machine keeps.ledger w (steps p) s m e (sound.1.ledger w)))
+          (subst (λ (m : Moved P). IsNumbered machine m.system) (sym same) (step-numbered machine keeps.numbers (steps p) s m e sound.1.numbers)),
+    )
 steps-keep-sound {P} machine Is keeps (acts p place) s m e sound =
     let parts = action-parts machine p place s m e in
     let change = action-change machine Is keeps sound.0 s sound.1 p place m parts in
     let u = parts.makes.0 in
     let same : record { system = u; done = Some parts.did.0 } ≡ m = parts.moved in
-    subst (λ (m : Moved P). (types : List ℕ) × IsSoundWith machine Is types m.system) same
-    (_, change-sound machine Is keeps sound.0 s sound.1 u p parts.state parts.left.0 (Some parts.want.0) (number_of place) parts.did.0 change
-    (λ w. subst (λ (m : Moved P). Rattle.herm_runs.proofs.SystemLedger.Balance machine w m.system) (sym same) (event-balance machine keeps.ledger w (acts p place) s m e (sound.1.ledger w)))
-    (subst (λ (m : Moved P). IsNumbered machine m.system) (sym same) (step-numbered machine keeps.numbers (acts p place) s m e sound.1.numbers)))
+    subst (λ (m : Moved P). (types : List ℕ) × IsSoundWith machine Is types m.system) same (
+      _,
+      change-sound machine Is keeps sound.0 s sound.1 u p parts.state parts.left.0 (Some parts.want.0) (number_of place) parts.did.0 change
+          (λ w. subst (λ (m : Moved P). Rattle.herm_runs.proofs.SystemLedger.Balance machine w m.system) (sym same) (event-balance machine keeps.ledger w (acts p place) s m e (sound.1.ledger w)))
+          (subst (λ (m : Moved P). IsNumbered machine m.system) (sym same) (step-numbered machine keeps.numbers (acts p place) s m e sound.1.numbers)),
+    )

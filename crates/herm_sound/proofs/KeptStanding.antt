@@ -1,24 +1,23 @@
 -- Behind a change each inport, outport and callmessage at a place with a type stands at one of its own.
-use Rattle.std.proofs.Common.{◌≡◌, ◌⊎◌, inl, inr, ℕ, zero, suc, ◌+◌, List, [], ◌∷◌, ◌++◌, length, Bool, true, false, cond, Option, Some, None, option_and_then, slice_get, refl, sym, ap, subst, ◌∙◌, arith}
-use Rattle.std.specs.Prelude.{nat_eq, ⊤}
+use Rattle.std.proofs.Common.{◌≡◌, ◌⊎◌, inl, inr, ℕ, zero, suc, List, [], ◌∷◌, ◌++◌, length, Option, Some, None, slice_get, refl, sym, ap, subst, ◌∙◌, arith}
 use Rattle.herm_model.specs.Lists.{IsIn, list_of}
 use Rattle.herm_model.specs.Values.{Name, Kind, a_callmessage, an_inport, an_outport, Cell}
 use Rattle.herm_model.proofs.Options.{some-injective, none-not_some}
-use Rattle.herm_journal.specs.Actions.{gone, to_put, to_answer, make_port, make_process, put, answer}
+use Rattle.herm_journal.specs.Actions.{gone, to_put, to_answer, make_port, make_process, put}
 use Rattle.herm_journal.specs.PlaceStates.{Port, left_in}
 use Rattle.herm_journal.specs.Messages.{CellReply, CellWant, CellAction, cells_in, message_of_port, types_of_reply, IsReplyTo}
-use Rattle.herm_system.specs.Machines.{OpenCall, Machine, inport_of}
+use Rattle.herm_system.specs.Machines.{OpenCall, Machine}
 use Rattle.herm_system.specs.Systems.{System, numbered_from_one}
 use Rattle.herm_system.specs.Kinds.{kinds_by, typed_of, typed_list, typed_cells, replies_of}
 use Rattle.herm_system.specs.Sound.{IsSoundWith}
 use Rattle.herm_runs.proofs.Stands.{IsNew}
-use Rattle.herm_sound.specs.Standing.{at_type, StandsAt, AllStand, typed_places, typed_coming, typed_made, typed_going}
+use Rattle.herm_sound.specs.Standing.{at_type, StandsAt, AllStand, typed_places, typed_made, typed_going}
 use Rattle.herm_sound.specs.SoundMachines.{CallMoves, KeepsSound}
 use Rattle.herm_sound.proofs.MadeSystems.{made_port}
 use Rattle.herm_sound.proofs.Changes.{IsChange, made_type, new_types, WentTo, AnsweredTo}
 use Rattle.herm_sound.proofs.TypedCells.{AllPlaced, all-placed, placed-all, in-places, in-list_of, in-some}
-use Rattle.herm_sound.proofs.OpenCalls.{type_of_call, CallOf, call-of, of-call, of-none}
-use Rattle.herm_sound.proofs.KeptCalls.{IsPlaced, no-replies, WasOpen, calls-before}
+use Rattle.herm_sound.proofs.OpenCalls.{type_of_call, of-call, of-none}
+use Rattle.herm_sound.proofs.KeptCalls.{no-replies, WasOpen, calls-before}
 
 -- what is found in a list stays there in a longer one
 pub got-more : {X : Type 0} (xs ys : List X) (n : ℕ) (x : X) → slice_get xs n ≡ Some x → slice_get (xs ++ ys) n ≡ Some x

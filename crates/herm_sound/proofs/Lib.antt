@@ -16,3 +16,4 @@ pub mod NotStuck
 pub mod ActOnce
 pub mod ClosedOnce
 pub mod BoundedEvents
+pub mod RoundsReachEnd

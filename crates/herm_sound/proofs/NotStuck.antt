@@ -1,19 +1,16 @@
 -- In a sound state no process is stuck.
-use Rattle.std.proofs.Common.{◌≡◌, ◌⊎◌, inl, inr, ℕ, zero, suc, List, [], ◌∷◌, map, Bool, true, false, cond, Option, Some, None, is_some, option_map, option_and_then, refl, sym, ap, subst, ◌∙◌, true≢false}
-use Rattle.std.specs.Prelude.{IsTrue}
+use Rattle.std.proofs.Common.{◌≡◌, ◌⊎◌, inl, inr, ℕ, List, [], ◌∷◌, Bool, true, Option, Some, None, is_some, option_map, refl, sym, ap, subst, ◌∙◌, true≢false}
 use Rattle.herm_model.specs.Lists.{IsIn, any_pass, list_of}
-use Rattle.herm_model.specs.Values.{Name, Cell}
+use Rattle.herm_model.specs.Values.{Name}
 use Rattle.herm_model.proofs.Lists.{or-either, or-left, or-right}
-use Rattle.herm_model.proofs.Options.{some-injective, none-not_some, chain-some}
+use Rattle.herm_model.proofs.Options.{chain-some}
 use Rattle.herm_journal.proofs.Rising.{same-true}
-use Rattle.herm_journal.specs.Actions.{make_port, make_process}
 use Rattle.herm_journal.specs.PlaceStates.{after}
 use Rattle.herm_journal.specs.Entries.{Place, port, reply_cell, book, same_place}
 use Rattle.herm_journal.specs.Messages.{CellWant, CellAction}
 use Rattle.herm_system.specs.Machines.{Machine, Standing, is_local, is_acting, inport_of}
-use Rattle.herm_system.specs.Sound.{IsSoundWith, IsSoundFor}
-use Rattle.herm_system.specs.Suiting.{Answers, Suits}
-use Rattle.herm_system.specs.Systems.{System, Moved, Event, steps, acts, step, numbered_from_one, places_for, done_at, done_in, holding_at, set_holding, set_process, with_made, number_of, can, can_be_done, standing, standing_of, stands, seen_as}
+use Rattle.herm_system.specs.Sound.{IsSoundWith}
+use Rattle.herm_system.specs.Systems.{System, Moved, steps, acts, step, numbered_from_one, places_for, done_at, done_in, holding_at, set_holding, set_process, with_made, number_of, can, can_be_done, standing, stands}
 use Rattle.herm_runs.proofs.ActionParts.{action-of, step-of}
 use Rattle.herm_runs.proofs.Stands.{seen-local, seen-acting, stands-as}
 use Rattle.herm_runs.proofs.SuitsStates.{done-suits}

@@ -1,12 +1,11 @@
 -- Open calls by process and number: which are open, and of which types.
-use Rattle.std.proofs.Common.{◌≡◌, ◌⊎◌, inl, inr, ℕ, zero, suc, ◌+◌, List, [], ◌∷◌, length, Bool, true, false, cond, Option, Some, None, option_map, option_and_then, refl, sym, ap, subst, ◌∙◌, arith}
+use Rattle.std.proofs.Common.{◌≡◌, inl, inr, ℕ, suc, ◌+◌, List, [], ◌∷◌, length, Bool, true, false, cond, Option, Some, None, option_map, option_and_then, refl, sym, ap, subst, ◌∙◌, arith}
 use Rattle.std.proofs.lemmas.Bool.{eqb-true, eqb-false}
 use Rattle.std.proofs.Math.Bool.{or-false}
-use Rattle.std.specs.Prelude.{nat_eq, ◌||◌, filter}
-use mathlib.Core.Bool.{false≢true}
+use Rattle.std.specs.Prelude.{nat_eq, filter}
 use Rattle.herm_model.specs.Lists.{IsIn, any_pass, list_of}
-use Rattle.herm_model.specs.Values.{Name, Cell}
-use Rattle.herm_model.proofs.Options.{some-injective, none-not_some, chain-some}
+use Rattle.herm_model.specs.Values.{Name}
+use Rattle.herm_model.proofs.Options.{none-not_some, chain-some}
 use Rattle.herm_journal.proofs.Rising.{same-true}
 use Rattle.herm_system.specs.Machines.{OpenCall, Machine}
 use Rattle.herm_system.specs.Systems.{System, numbered_from_one}

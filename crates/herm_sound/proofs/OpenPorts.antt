@@ -1,12 +1,12 @@
 -- Which ports are open behind an action, and what was made.
-use Rattle.std.proofs.Common.{◌≡◌, ◌⊎◌, inl, inr, ℕ, zero, suc, ◌+◌, List, [], ◌∷◌, ◌++◌, length, Bool, true, false, cond, Option, Some, None, slice_get, slice_set, refl, sym, ap, subst, ◌∙◌, arith}
+use Rattle.std.proofs.Common.{◌≡◌, ℕ, zero, suc, ◌+◌, [], ◌∷◌, ◌++◌, length, Bool, true, false, cond, Some, slice_get, slice_set, refl, sym, ap, subst, ◌∙◌, arith}
 use Rattle.std.proofs.lemmas.Bool.{eqb-true, eqb-false}
 use Rattle.std.specs.Prelude.{nat_eq}
 use Rattle.herm_model.specs.Lists.{any_pass, list_of}
 use Rattle.herm_model.specs.Values.{Name, Cell}
 use Rattle.herm_model.proofs.Options.{some-injective, none-not_some}
 use Rattle.herm_journal.specs.Actions.{to_close}
-use Rattle.herm_journal.specs.PlaceStates.{Port, empty_port, PlaceState, after}
+use Rattle.herm_journal.specs.PlaceStates.{Port, empty_port, after}
 use Rattle.herm_journal.specs.Entries.{Place}
 use Rattle.herm_journal.specs.Messages.{CellWant, CellAction}
 use Rattle.herm_system.specs.Kinds.{is_inport_of}

@@ -1,21 +1,19 @@
 -- The state at the start is sound, and so is each that events lead to from there.
-use Rattle.std.proofs.Common.{◌≡◌, ◌⊎◌, inl, inr, ℕ, zero, suc, ◌+◌, List, [], ◌∷◌, ◌++◌, length, Bool, true, false, cond, Option, Some, None, option_and_then, slice_get, refl, sym, ap, subst, ◌∙◌, arith}
+use Rattle.std.proofs.Common.{◌≡◌, inl, inr, ℕ, zero, suc, ◌+◌, List, [], ◌∷◌, length, Bool, true, false, cond, Some, None, slice_get, refl, sym, ap, subst, ◌∙◌, arith}
 use Rattle.std.proofs.lemmas.Bool.Decides.{nat_tests}
-use Rattle.std.proofs.lemmas.Bool.{eqb-true}
 use Rattle.std.specs.Prelude.{nat_eq, IsTrue}
 use Rattle.herm_model.specs.Lists.{IsIn, list_of}
 use Rattle.herm_model.specs.Typed.{is_text}
 use Rattle.herm_model.specs.Values.{Name, Kind, a_callmessage, an_inport, an_outport, Cell}
 use Rattle.herm_model.proofs.Options.{some-injective, none-not_some, chain-some, map-some}
 use Rattle.herm_journal.specs.PlaceStates.{Limits, Port, empty_port, port_with, first_book, left_in}
-use Rattle.herm_journal.specs.Entries.{Text, Entry}
+use Rattle.herm_journal.specs.Entries.{Text}
 use Rattle.herm_journal.specs.Messages.{CellReply, IsMessage, message_of_port, types_of_reply, cells_in}
-use Rattle.herm_system.specs.Machines.{OpenCall, Machine}
+use Rattle.herm_system.specs.Machines.{Machine}
 use Rattle.herm_system.specs.Ledger.{HasLedger}
 use Rattle.herm_system.specs.Summary.{how_many}
-use Rattle.herm_system.specs.Systems.{System, Moved, Event, Run, run, run_on, step, start, opening, opening_name, main_port, console_port, first_message, numbered_from_one}
-use Rattle.herm_system.specs.Kinds.{kinds_of, typed_of, typed_list, typed_cells, replies_of, unfinalised, has_open, is_open_port, is_inport_of, is_callmessage_of}
-use Rattle.herm_system.specs.Reports.{IsAlong}
+use Rattle.herm_system.specs.Systems.{System, Run, run, run_on, step, start, opening, opening_name, main_port, console_port, first_message, numbered_from_one}
+use Rattle.herm_system.specs.Kinds.{kinds_of, typed_of, replies_of, unfinalised, has_open, is_open_port, is_inport_of, is_callmessage_of}
 use Rattle.herm_system.specs.Sound.{one_if, console_type, IsNumbered, IsSoundWith, IsSoundFor}
 use Rattle.herm_runs.specs.Counting.{IsOfWaiting}
 use Rattle.herm_runs.proofs.Numbered.{opening-numbered, numbered-once}
@@ -23,9 +21,9 @@ use Rattle.herm_runs.proofs.SystemLedger.{opening-balance}
 use Rattle.herm_sound.specs.Standing.{at_type, StandsAt, AllStand, typed_places}
 use Rattle.herm_sound.specs.SoundMachines.{KeepsSound, BeginsSound}
 use Rattle.herm_sound.specs.laws.SoundLaws.{OpeningIsSound, RunsKeepSound, RunsAreSound, StatesAlongAreSound}
-use Rattle.herm_sound.proofs.Counted.{of_process, unfinalised-parts}
+use Rattle.herm_sound.proofs.Counted.{unfinalised-parts}
 use Rattle.herm_sound.proofs.TypedCells.{AllPlaced, placed-all}
-use Rattle.herm_sound.proofs.OpenCalls.{open-with, open-none}
+use Rattle.herm_sound.proofs.OpenCalls.{open-with}
 use Rattle.herm_sound.proofs.KeptSound.{inports-wait, callmessages-wait, steps-keep-sound}
 
 one-is : (i n : ℕ) → (b : Bool) → nat_eq i n ≡ b → how_many (is_inport_of n) (an_inport i ∷ []) ≡ one_if b

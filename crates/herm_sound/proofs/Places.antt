@@ -1,20 +1,16 @@
 -- What is at ports and in reply cells behind an action: what was there before, and what went out.
-use Rattle.std.proofs.Common.{◌≡◌, ◌⊎◌, inl, inr, ℕ, zero, suc, ◌+◌, List, [], ◌∷◌, ◌++◌, map, length, Bool, true, false, cond, Option, Some, None, option_map, option_and_then, slice_get, slice_set, refl, sym, ap, subst, ◌∙◌, arith}
-use Rattle.std.proofs.lemmas.Bool.{eqb-true}
-use Rattle.std.specs.Prelude.{nat_eq, ⊤}
-use Rattle.std.proofs.lemmas.Bool.Decides.{nat_tests}
-use Rattle.herm_model.specs.Lists.{IsIn, any_pass, list_of}
+use Rattle.std.proofs.Common.{◌≡◌, ◌⊎◌, inl, inr, ℕ, suc, List, [], ◌∷◌, ◌++◌, map, length, true, false, Option, Some, None, slice_get, slice_set, sym, ap, subst, ◌∙◌}
+use Rattle.herm_model.specs.Lists.{IsIn}
 use Rattle.herm_model.specs.Values.{Name, Cell}
-use Rattle.herm_model.proofs.Lists.{in-append_left, in-append_cases}
+use Rattle.herm_model.proofs.Lists.{in-append_cases}
 use Rattle.herm_model.proofs.Renaming.{map-append}
-use Rattle.herm_model.proofs.Options.{some-injective, none-not_some, map-some}
+use Rattle.herm_model.proofs.Options.{some-injective, map-some}
 use Rattle.herm_journal.specs.Actions.{to_put, to_answer, put, answer}
-use Rattle.herm_journal.specs.PlaceStates.{Book, Port, empty_port, left_in, Replies, PlaceState, a_port, replies, a_book, after}
+use Rattle.herm_journal.specs.PlaceStates.{Book, Port, empty_port, left_in, Replies, a_port, replies, a_book, after}
 use Rattle.herm_journal.specs.Entries.{Place, port, reply_cell, book}
 use Rattle.herm_journal.specs.Messages.{CellReply, CellWant, CellAction}
-use Rattle.herm_system.specs.Summary.{how_many}
-use Rattle.herm_system.specs.Systems.{System, numbered_from_one, set_from_one, holding_at, set_holding}
-use Rattle.herm_runs.proofs.Numbered.{set-found, more-found, set-found_from_one, more-found_from_one}
+use Rattle.herm_system.specs.Systems.{System, numbered_from_one, holding_at, set_holding}
+use Rattle.herm_runs.proofs.Numbered.{set-found, more-found}
 use Rattle.herm_sound.proofs.Acted.{Holding, port_of, IsAct, port_made, port_refused, process_made, process_refused, placed, came_back, taken, closed, answered, heard}
 
 abbrev pub Ports : Type 0

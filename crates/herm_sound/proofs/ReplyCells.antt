@@ -3,11 +3,11 @@ use Rattle.std.proofs.Common.{◌≡◌, ◌⊎◌, inl, inr, ℕ, zero, suc, �
 use Rattle.std.proofs.lemmas.Bool.{eqb-true, eqb-false}
 use Rattle.std.specs.Prelude.{nat_eq, ◌&&◌, filter}
 use Rattle.herm_model.specs.Lists.{IsIn, list_of}
-use Rattle.herm_model.specs.Values.{Name, Cell}
+use Rattle.herm_model.specs.Values.{Name}
 use Rattle.herm_model.proofs.Lists.{in-append_cases}
-use Rattle.herm_model.proofs.Options.{some-injective, none-not_some}
+use Rattle.herm_model.proofs.Options.{none-not_some}
 use Rattle.herm_journal.specs.Actions.{answer, hear}
-use Rattle.herm_journal.specs.PlaceStates.{Replies, PlaceState, after}
+use Rattle.herm_journal.specs.PlaceStates.{Replies, after}
 use Rattle.herm_journal.specs.Entries.{Place}
 use Rattle.herm_journal.specs.Messages.{CellReply, CellWant, CellAction}
 use Rattle.herm_system.specs.Kinds.{is_callmessage_of}
@@ -15,7 +15,6 @@ use Rattle.herm_system.specs.Sound.{one_if}
 use Rattle.herm_system.specs.Summary.{how_many}
 use Rattle.herm_system.specs.Systems.{System, numbered_from_one, set_from_one, holding_at, set_holding}
 use Rattle.herm_runs.specs.Counting.{kinds_ended}
-use Rattle.herm_runs.proofs.Histories.{get-other}
 use Rattle.herm_runs.proofs.Numbered.{set-found_from_one, more-found_from_one}
 use Rattle.herm_sound.proofs.Acted.{Holding, IsAct, port_made, port_refused, process_made, process_refused, placed, came_back, taken, closed, answered, heard}
 use Rattle.herm_sound.proofs.Counted.{many-append}

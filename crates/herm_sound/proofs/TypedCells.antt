@@ -1,11 +1,11 @@
 -- The cells of a system at places with types: those of processes, of replies that wait and of messages that are queued.
-use Rattle.std.proofs.Common.{◌≡◌, ◌⊎◌, inl, inr, ℕ, zero, suc, ◌+◌, List, [], ◌∷◌, ◌++◌, map, flat_map, Bool, true, false, Option, Some, None, option_and_then, slice_get, refl, sym, ap, subst, ◌∙◌, arith}
+use Rattle.std.proofs.Common.{◌≡◌, ◌⊎◌, inl, inr, ℕ, zero, suc, ◌+◌, List, [], ◌∷◌, ◌++◌, flat_map, Option, Some, None, slice_get, refl, sym, ap, subst, arith}
 use Rattle.herm_model.specs.Lists.{IsIn, list_of, numbered}
 use Rattle.herm_model.specs.Types.{TypeTable}
 use Rattle.herm_model.specs.Values.{Name, Kind, Cell, cell, Parts, no_parts, gap, part}
 use Rattle.herm_model.proofs.FactTests.{numbered-IsIn, at-numbered, got-IsIn}
 use Rattle.herm_model.proofs.Lists.{in-append_left, in-append_right, in-append_cases, in-flat_map, in-flat_map_from}
-use Rattle.herm_model.proofs.Options.{some-injective, none-not_some}
+use Rattle.herm_model.proofs.Options.{none-not_some}
 use Rattle.herm_journal.specs.PartTypes.{PartTypes, each, all_of, part_types_at}
 use Rattle.herm_journal.specs.PlaceStates.{Port, left_in, Replies}
 use Rattle.herm_journal.specs.Messages.{CellReply, cells_in, message_of_port, types_of_reply}

@@ -1,9 +1,9 @@
 -- What a machine is to meet, of one process, so that each step of its systems keeps a sound state sound.
-use Rattle.std.specs.Prelude.{◌≡◌, ◌⊎◌, ◌<◌, ◌≤◌, ℕ, suc, List, [], ◌∷◌, Option, Some, None, slice_get, option_and_then, IsTrue, ⊤}
-use Rattle.herm_model.specs.Lists.{IsIn, list_of}
+use Rattle.std.specs.Prelude.{◌≡◌, ◌⊎◌, ◌<◌, ◌≤◌, ℕ, suc, List, [], ◌∷◌, Option, Some, None, slice_get, option_and_then, IsTrue}
+use Rattle.herm_model.specs.Lists.{IsIn}
 use Rattle.herm_model.specs.Calls.{led_to}
 use Rattle.herm_model.specs.Typed.{is_text}
-use Rattle.herm_model.specs.Values.{Name, Kind, a_callmessage, an_inport, an_outport, Cell, cell, no_parts}
+use Rattle.herm_model.specs.Values.{Name, a_callmessage, an_inport, an_outport, Cell, cell, no_parts}
 use Rattle.herm_journal.specs.Actions.{gone, new_port, new_process, to_put, to_take, to_close, to_answer, to_hear, put, hear}
 use Rattle.herm_journal.specs.Entries.{Text}
 use Rattle.herm_journal.specs.Messages.{CellWant, CellAction, is_inport, message_of_port, IsMessage, IsReplyTo}
@@ -14,7 +14,7 @@ use Rattle.herm_system.specs.Sound.{console_type}
 use Rattle.herm_system.specs.Suiting.{Answers, Suits}
 use Rattle.herm_runs.specs.Counting.{KeepsCounts}
 use Rattle.herm_runs.specs.laws.ProcessLaws.{KeepsNumbers, KeepsLedger}
-use Rattle.herm_sound.specs.Standing.{at_type, StandsAt, AllStand, typed_places, typed_coming, typed_made, typed_going}
+use Rattle.herm_sound.specs.Standing.{at_type, AllStand, typed_places, typed_coming, typed_made, typed_going}
 
 module _ {P : Type 0} (machine : Machine Name P) where
   -- An open call is opened by a message that is placed, closed by a reply that is heard, and by nothing else.

@@ -1,5 +1,5 @@
 -- Inports, outports and callmessages at places of their types: of what a process makes, of what comes to it and of what it gives.
-use Rattle.std.specs.Prelude.{◌≡◌, ℕ, List, [], ◌∷◌, flat_map, Option, Some, None, slice_get, option_and_then, ⊤}
+use Rattle.std.specs.Prelude.{◌≡◌, ℕ, List, [], ◌∷◌, flat_map, Option, Some, slice_get, option_and_then, ⊤}
 use Rattle.herm_model.specs.Lists.{IsIn, list_of}
 use Rattle.herm_model.specs.Calls.{led_to}
 use Rattle.herm_model.specs.Types.{TypeTable}

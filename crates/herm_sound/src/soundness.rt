@@ -1,0 +1,29 @@
+// Laws of sound states: each event keeps them, each run is through them, and in them ports are closed and calls answered once.
+
+ghost use Rattle.herm_model.specs.Values.{Name};
+ghost use Rattle.herm_system.specs.Machines.{Machine};
+ghost use Rattle.herm_sound.specs.SoundMachines.{BeginsSound, KeepsSound};
+ghost use Rattle.herm_sound.specs.laws.SoundLaws.{AnswersOpenCalls, ClosesOpenPorts, IsAmong, OpeningIsSound, PortsCloseOnce, RunsAreSound, RunsKeepSound, StatesAlongAreSound, StepsKeepSound};
+
+/// What an event leaves of a sound state is a sound state, whatever the event: a local step, or an action of any kind at any place
+/// where it can be done. So is what a list of events leaves.
+pub fn events_keep_sound<P, J>()
+    ensures steps { (machine : Machine Name P) → (state : J → P) → KeepsSound machine (IsAmong state) → StepsKeepSound machine (IsAmong state) }
+    ensures runs { (machine : Machine Name P) → (state : J → P) → KeepsSound machine (IsAmong state) → RunsKeepSound machine (IsAmong state) }
+{}
+
+/// The state at the start is sound, with any text as the argument. So is each state that events lead to from there, whatever the
+/// schedule, and each along a journal.
+pub fn runs_are_sound<P, J>()
+    ensures opening { (machine : Machine Name P) → (state : J → P) → (keeps : KeepsSound machine (IsAmong state)) → BeginsSound machine keeps.first_type → OpeningIsSound machine (IsAmong state) }
+    ensures runs { (machine : Machine Name P) → (state : J → P) → (keeps : KeepsSound machine (IsAmong state)) → BeginsSound machine keeps.first_type → RunsAreSound machine (IsAmong state) }
+    ensures along { (machine : Machine Name P) → (state : J → P) → (keeps : KeepsSound machine (IsAmong state)) → BeginsSound machine keeps.first_type → StatesAlongAreSound machine (IsAmong state) }
+{}
+
+/// In a sound state a port that is closed was open, and a call that is answered is open and has no answer so far, and behind it one
+/// answer and no callmessage. So along a run no port is closed twice.
+pub fn actions_are_done_once<P, J>()
+    ensures closes { (machine : Machine Name P) → (state : J → P) → KeepsSound machine (IsAmong state) → ClosesOpenPorts machine (IsAmong state) }
+    ensures answers { (machine : Machine Name P) → (state : J → P) → KeepsSound machine (IsAmong state) → AnswersOpenCalls machine (IsAmong state) }
+    ensures ports { (machine : Machine Name P) → (state : J → P) → (keeps : KeepsSound machine (IsAmong state)) → BeginsSound machine keeps.first_type → PortsCloseOnce machine (IsAmong state) }
+{}
