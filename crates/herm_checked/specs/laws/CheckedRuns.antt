@@ -1,0 +1,58 @@
+-- What is claimed of the runs of checked programs: of typed programs and their accepted modules, with a text as argument.
+use Rattle.std.specs.Prelude.{◌≡◌, ◌≤◌, ℕ, suc, List, length, Some, IsTrue}
+use Rattle.herm_model.specs.Typed.{is_text}
+use Rattle.herm_model.specs.Values.{Name}
+use Rattle.herm_journal.specs.PlaceStates.{Limits}
+use Rattle.herm_journal.specs.Entries.{Text, Entry}
+use Rattle.herm_system.specs.Systems.{System, Moved, Event, step, Run, run, start, opening, IsFinal}
+use Rattle.herm_system.specs.Rounds.{rounds}
+use Rattle.herm_system.specs.Reports.{IsAlong}
+use Rattle.herm_system.specs.Sound.{IsSoundFor}
+use Rattle.herm_source.specs.AcceptedRuns.{FindsNeeds}
+use Rattle.herm_source.specs.Checked.{IsChecked}
+use Rattle.herm_source.specs.Instance.{IsSound, source}
+use Rattle.herm_source.specs.Modules.{Program, Modules}
+use Rattle.herm_source.specs.States.{State}
+use Rattle.herm_source.specs.laws.NeedsLaws.{StandsReached}
+use Rattle.herm_source.specs.laws.SoundProcesses.{IsSoundProcess}
+use Rattle.herm_sound.specs.laws.SoundLaws.{GoOnFrom, ClosesOpenPorts, AnswersOpenCalls, PortsCloseOnce, EventsAreBounded, RoundsSuffice}
+
+-- A sound state in which each process stands where a control path leads.
+abbrev pub IsSoundAndReached : Program → Modules → System (State Name) → Type 0
+IsSoundAndReached program modules s = IsSound modules s × StandsReached program s
+
+-- it is so of every checked program
+abbrev pub OfChecked : (Program → Modules → Type 0) → Type 0
+OfChecked Is = (exceptions : ℕ) (program : Program) (modules : Modules) → IsChecked exceptions program modules → Is program modules
+
+-- What an event leaves of such a state is such a state, whatever the event. Language reference, "Sound states".
+abbrev pub CheckedStepsKeepSound : Type 0
+CheckedStepsKeepSound = OfChecked (λ program modules. (e : Event) (s : System (State Name)) (m : Moved (State Name)) → step (source modules) e s ≡ Some m → IsSoundAndReached program modules s → IsSoundAndReached program modules m.system)
+
+-- The state at the start is one. Language reference, "Opening state".
+abbrev pub CheckedOpeningIsSound : Type 0
+CheckedOpeningIsSound = OfChecked (λ program modules. (limits : Limits) (argument : Text) → IsTrue (is_text argument) → IsSoundAndReached program modules (opening (source modules) limits argument))
+
+-- So is each state of each run, whatever the schedule.
+abbrev pub CheckedRunsAreSound : Type 0
+CheckedRunsAreSound = OfChecked (λ program modules. (limits : Limits) (argument : Text) (events : List Event) (r : Run (State Name)) → IsTrue (is_text argument)
+    → run (source modules) events (start (source modules) limits argument) ≡ Some r → IsSoundAndReached program modules r.system)
+
+-- Along every journal each state is sound, and every statement finds the facts that it needs: what a report claims of it.
+-- Language reference, "Reports".
+abbrev pub CheckedStatesAlong : Type 0
+CheckedStatesAlong = OfChecked (λ program modules. (limits : Limits) (argument : Text) (journal : List Entry) (s : System (State Name)) → IsTrue (is_text argument)
+    → IsAlong (source modules) (opening (source modules) limits argument) journal s → IsSound modules s × FindsNeeds modules s)
+
+-- No process of such a state is stuck. Language reference, "Sound states".
+abbrev pub CheckedNoneIsStuck : Type 0
+CheckedNoneIsStuck = OfChecked (λ program modules. (s : System (State Name)) (p : ℕ) → IsSoundAndReached program modules s → GoOnFrom (source modules) (IsSoundProcess program modules) s p)
+
+-- In such a state ports that are closed were open, and calls that are answered are open and have no answer yet; and along a run no port
+-- is closed twice.
+abbrev pub CheckedActionsAreDoneOnce : Type 0
+CheckedActionsAreDoneOnce = OfChecked (λ program modules. ClosesOpenPorts (source modules) (IsSoundProcess program modules) × AnswersOpenCalls (source modules) (IsSoundProcess program modules) × PortsCloseOnce (source modules) (IsSoundProcess program modules))
+
+-- The limits bound the events of a run, and so many rounds, and one more, reach its end. Language reference, "Rounds".
+abbrev pub CheckedRunsEnd : Type 0
+CheckedRunsEnd = OfChecked (λ program modules. EventsAreBounded (source modules) (IsSoundProcess program modules) × RoundsSuffice (source modules) (IsSoundProcess program modules))
