@@ -1,1 +1,2 @@
 pub mod CallMoves
+pub mod SourceKeeps
