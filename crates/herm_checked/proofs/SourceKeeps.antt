@@ -77,7 +77,7 @@ module _ (exceptions : ℕ) (program : Program) (modules : Modules) (checked : I
     same-going (to_answer caller call r) a = refl
     same-going w a = refl
 
-    source-keeps-standing : KeepsStanding (source modules) first new (IsSoundProcess program modules) ports calls
+    pub source-keeps-standing : KeepsStanding (source modules) first new (IsSoundProcess program modules) ports calls
     source-keeps-standing =
         let keeps = checked-processes-keep-standing exceptions program modules checked ports calls in
         record {
@@ -94,7 +94,7 @@ module _ (exceptions : ℕ) (program : Program) (modules : Modules) (checked : I
               );
         }
 
-  source-stays-sound : StaysSound (source modules) (IsSoundProcess program modules)
+  pub source-stays-sound : StaysSound (source modules) (IsSoundProcess program modules)
   source-stays-sound =
       let stays = stay-sound exceptions program modules checked in
       record {
@@ -104,12 +104,12 @@ module _ (exceptions : ℕ) (program : Program) (modules : Modules) (checked : I
       }
 
   -- of accepted modules there is one where its port has a type
-  begins-there : (code t : ℕ) → first code ≡ Some t → (number : ℕ) (port : Cell Name) → (z : State Name) × ((source modules).begin code number port ≡ Some z)
+  pub begins-there : (code t : ℕ) → first code ≡ Some t → (number : ℕ) (port : Cell Name) → (z : State Name) × ((source modules).begin code number port ≡ Some z)
   begins-there code t types number port =
       let c = chain-some (λ (c : Module). slice_get c.variables 0) (slice_get modules.codes code) t types in
       (_, ap (option_map (λ c. begin c code number port)) c.1)
 
-  has-for : (x : State Name) (w : CellWant Name) → wants.HasFor modules x w → HasFor (source modules) first new x w
+  pub has-for : (x : State Name) (w : CellWant Name) → wants.HasFor modules x w → HasFor (source modules) first new x w
   has-for x new_port h = h
   has-for x (new_process code) h = (h.0, h.1, h.2, begins-there code h.0 h.1)
   has-for x (to_put n m) h = h
@@ -122,7 +122,7 @@ module _ (exceptions : ℕ) (program : Program) (modules : Modules) (checked : I
   types-in : (x : State Name) → IsSoundProcess program modules x → HasTypesIn modules x
   types-in x is c coded = (is.sound c coded).types
 
-  source-keeps-counts : KeepsCounts (source modules) (IsSoundProcess program modules)
+  pub source-keeps-counts : KeepsCounts (source modules) (IsSoundProcess program modules)
   source-keeps-counts =
       let keeps = typed-programs-keep-counts exceptions program modules checked.accepted checked.typed in
       record {
@@ -131,7 +131,7 @@ module _ (exceptions : ℕ) (program : Program) (modules : Modules) (checked : I
         answers = λ test of x y w at a is wanted h e. keeps.answers test of x y w at a (types-in x is) wanted h e;
       }
 
-  pub source-keeps-sound : KeepsSound (source modules) (IsSoundProcess program modules)
+  unfoldable pub source-keeps-sound : KeepsSound (source modules) (IsSoundProcess program modules)
   source-keeps-sound = record {
     first_type = first;
     new_type = new;

@@ -166,7 +166,7 @@ module _ {P : Type 0} (machine : Machine Name P) (Is : P → Type 0) (keeps : Ke
       by true e = let no_more : ⊥ = grind (arith, nat_tests) in absurd no_more
       by false e = refl
 
-  pub ports-close-once : BeginsSound machine keeps.first_type → PortsCloseOnce machine Is
+  pub ports-close-once : BeginsSound machine keeps.first_type → PortsCloseOnce machine
   ports-close-once begins limits argument events r texts e n =
       let once = once-along n events (start machine limits argument) r e (opening-is-sound machine Is keeps begins limits argument texts) (first-once n limits argument) in
       ((λ lt. omega (arith, once, unmade-made n r.system.ports lt)), omega (arith, once))

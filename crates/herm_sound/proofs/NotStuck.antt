@@ -95,7 +95,7 @@ module _ {P : Type 0} (machine : Machine Name P) (Is : P → Type 0) (keeps : Ke
         let place = passing (λ place. is_some (done_in w.0 s place)) (places_for p w.0) able in
         (x.0, w.0, place.0, x.1, w.1, place.1, place.2)
 
-    go-on : GoOnFrom machine Is s p
+    go-on : GoOnFrom machine s p
     go-on = record {
       local_steps = steps-there;
       actions = λ e.

@@ -119,10 +119,10 @@ module _ {P : Type 0} (machine : Machine Name P) (Is : P → Type 0) (keeps : Ke
             (rest.0, ap (λ b. elim b [ false ↦ Some t.run | true ↦ rounds n machine t.run ]) e ∙ rest.1)
 
 module _ {P : Type 0} (machine : Machine Name P) (Is : P → Type 0) (keeps : KeepsSound machine Is) (begins : BeginsSound machine keeps.first_type) (counts : KeepsLimits machine) where
-  pub events-are-bounded : EventsAreBounded machine Is
+  pub events-are-bounded : EventsAreBounded machine
   events-are-bounded limits argument events r e = events-bounded machine keeps.numbers counts limits argument begins.main.0 events r begins.main.1 e
 
-  pub rounds-suffice : GoesOn machine Is → RoundsSuffice machine Is
+  pub rounds-suffice : GoesOn machine Is → RoundsSuffice machine
   rounds-suffice goes limits argument texts some =
       let from = start machine limits argument in
       let t = rounds-there machine Is keeps goes (most_events limits) from (λ events r e. events-are-bounded limits argument events r e) (suc (most_events limits)) [] from refl (omega arith) (opening-is-sound machine Is keeps begins limits argument texts) in

@@ -13,10 +13,10 @@ pub fn no_process_is_stuck<P, J>()
 
 /// The limits bound the events of any run.
 pub fn limits_bound_events<P, J>()
-    ensures events { (machine : Machine Name P) → (state : J → P) → (keeps : KeepsSound machine (IsAmong state)) → BeginsSound machine keeps.first_type → KeepsLimits machine → EventsAreBounded machine (IsAmong state) }
+    ensures events { (machine : Machine Name P) → (state : J → P) → (keeps : KeepsSound machine (IsAmong state)) → BeginsSound machine keeps.first_type → KeepsLimits machine → EventsAreBounded machine }
 {}
 
 /// So many rounds, and one more, suffice: they lead to a state in which no process can step.
 pub fn rounds_suffice<P, J>()
-    ensures rounds { (machine : Machine Name P) → (state : J → P) → (keeps : KeepsSound machine (IsAmong state)) → BeginsSound machine keeps.first_type → KeepsLimits machine → GoesOn machine (IsAmong state) → RoundsSuffice machine (IsAmong state) }
+    ensures rounds { (machine : Machine Name P) → (state : J → P) → (keeps : KeepsSound machine (IsAmong state)) → BeginsSound machine keeps.first_type → KeepsLimits machine → GoesOn machine (IsAmong state) → RoundsSuffice machine }
 {}

@@ -25,5 +25,5 @@ pub fn runs_are_sound<P, J>()
 pub fn actions_are_done_once<P, J>()
     ensures closes { (machine : Machine Name P) → (state : J → P) → KeepsSound machine (IsAmong state) → ClosesOpenPorts machine (IsAmong state) }
     ensures answers { (machine : Machine Name P) → (state : J → P) → KeepsSound machine (IsAmong state) → AnswersOpenCalls machine (IsAmong state) }
-    ensures ports { (machine : Machine Name P) → (state : J → P) → (keeps : KeepsSound machine (IsAmong state)) → BeginsSound machine keeps.first_type → PortsCloseOnce machine (IsAmong state) }
+    ensures ports { (machine : Machine Name P) → (state : J → P) → (keeps : KeepsSound machine (IsAmong state)) → BeginsSound machine keeps.first_type → PortsCloseOnce machine }
 {}

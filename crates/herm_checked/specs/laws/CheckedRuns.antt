@@ -1,5 +1,5 @@
 -- What is claimed of the runs of checked programs: of typed programs and their accepted modules, with a text as argument.
-use Rattle.std.specs.Prelude.{◌≡◌, ◌≤◌, ℕ, suc, List, length, Some, IsTrue}
+use Rattle.std.specs.Prelude.{◌≡◌, ◌≤◌, ◌↔◌, ℕ, suc, List, length, Some, IsTrue}
 use Rattle.herm_model.specs.Typed.{is_text}
 use Rattle.herm_model.specs.Values.{Name}
 use Rattle.herm_journal.specs.PlaceStates.{Limits}
@@ -25,6 +25,10 @@ IsSoundAndReached program modules s = IsSound modules s × StandsReached program
 abbrev pub OfChecked : (Program → Modules → Type 0) → Type 0
 OfChecked Is = (exceptions : ℕ) (program : Program) (modules : Modules) → IsChecked exceptions program modules → Is program modules
 
+-- Such a state is one in which each process is sound within itself and stands so.
+abbrev pub SoundWithReach : Type 0
+SoundWithReach = (program : Program) (modules : Modules) (s : System (State Name)) → IsSoundFor (source modules) (IsSoundProcess program modules) s ↔ IsSoundAndReached program modules s
+
 -- What an event leaves of such a state is such a state, whatever the event. Language reference, "Sound states".
 abbrev pub CheckedStepsKeepSound : Type 0
 CheckedStepsKeepSound = OfChecked (λ program modules. (e : Event) (s : System (State Name)) (m : Moved (State Name)) → step (source modules) e s ≡ Some m → IsSoundAndReached program modules s → IsSoundAndReached program modules m.system)
@@ -46,13 +50,13 @@ CheckedStatesAlong = OfChecked (λ program modules. (limits : Limits) (argument 
 
 -- No process of such a state is stuck. Language reference, "Sound states".
 abbrev pub CheckedNoneIsStuck : Type 0
-CheckedNoneIsStuck = OfChecked (λ program modules. (s : System (State Name)) (p : ℕ) → IsSoundAndReached program modules s → GoOnFrom (source modules) (IsSoundProcess program modules) s p)
+CheckedNoneIsStuck = OfChecked (λ program modules. (s : System (State Name)) (p : ℕ) → IsSoundAndReached program modules s → GoOnFrom (source modules) s p)
 
 -- In such a state ports that are closed were open, and calls that are answered are open and have no answer yet; and along a run no port
 -- is closed twice.
 abbrev pub CheckedActionsAreDoneOnce : Type 0
-CheckedActionsAreDoneOnce = OfChecked (λ program modules. ClosesOpenPorts (source modules) (IsSoundProcess program modules) × AnswersOpenCalls (source modules) (IsSoundProcess program modules) × PortsCloseOnce (source modules) (IsSoundProcess program modules))
+CheckedActionsAreDoneOnce = OfChecked (λ program modules. ClosesOpenPorts (source modules) (IsSoundProcess program modules) × AnswersOpenCalls (source modules) (IsSoundProcess program modules) × PortsCloseOnce (source modules))
 
 -- The limits bound the events of a run, and so many rounds, and one more, reach its end. Language reference, "Rounds".
 abbrev pub CheckedRunsEnd : Type 0
-CheckedRunsEnd = OfChecked (λ program modules. EventsAreBounded (source modules) (IsSoundProcess program modules) × RoundsSuffice (source modules) (IsSoundProcess program modules))
+CheckedRunsEnd = OfChecked (λ program modules. EventsAreBounded (source modules) × RoundsSuffice (source modules))

@@ -31,6 +31,33 @@ closes n e = same_place e.place (port n) && is_close e.action
 abbrev pub most_events : Limits → ℕ
 most_events limits = max 1 limits.processes * (limits.steps + greatest_actions)
 
+-- the replies to a call that wait
+abbrev pub replies_to : {P : Type 0} → System P → (caller call : ℕ) → ℕ
+replies_to s q k = how_many (λ (r : ℕ × CellReply Name). nat_eq r.0 k) (replies_of s q)
+
+module _ {P : Type 0} (machine : Machine Name P) where
+  -- A process that is to make a local step makes it; one that can act can do so at some place, and at each place where something of
+  -- what it wants can be done. Language reference, "Sound states".
+  pub record GoOnFrom (s : System P) (p : ℕ) : Type 0 where
+    pub local_steps : IsTrue (stands is_local machine s p) → (m : Moved P) × (step machine (steps p) s ≡ Some m)
+    pub actions : IsTrue (stands is_acting machine s p) → (place : Place) × (m : Moved P) × (step machine (acts p place) s ≡ Some m)
+    pub places : IsTrue (stands is_acting machine s p) → (x : P) (want : CellWant Name) (place : Place) → numbered_from_one p s.processes ≡ Some x → machine.wanted x ≡ Some want
+        → IsTrue (any_pass (same_place place) (places_for p want)) → IsTrue (is_some (done_in want s place)) → (m : Moved P) × (step machine (acts p place) s ≡ Some m)
+
+  -- Along a run each port that was made was closed once where it is not open, and not yet where it is; and no port was closed twice.
+  -- Language reference, "Ports".
+  abbrev pub PortsCloseOnce : Type 0
+  PortsCloseOnce = (limits : Limits) (argument : Text) (events : List Event) (r : Run P) → IsTrue (is_text argument) → run machine events (start machine limits argument) ≡ Some r → (n : ℕ)
+      → (n < length r.system.ports → how_many (closes n) r.journal + one_if (is_open_port r.system n) ≡ 1) × (how_many (closes n) r.journal ≤ 1)
+
+  -- A run has at most so many events as its limits say. Language reference, "Limits".
+  abbrev pub EventsAreBounded : Type 0
+  EventsAreBounded = (limits : Limits) (argument : Text) (events : List Event) (r : Run P) → run machine events (start machine limits argument) ≡ Some r → length events ≤ most_events limits
+
+  -- So many rounds suffice, and one more: they lead to a state in which no process can step. Language reference, "Rounds".
+  abbrev pub RoundsSuffice : Type 0
+  RoundsSuffice = (limits : Limits) (argument : Text) → IsTrue (is_text argument) → 1 ≤ limits.processes → (t : Run P) × (rounds (suc (most_events limits)) machine (start machine limits argument) ≡ Some t) × IsFinal machine t.system
+
 module _ {P : Type 0} (machine : Machine Name P) (Is : P → Type 0) where
   -- What an event leaves of a sound state is a sound state. Language reference, "Sound states".
   abbrev pub StepsKeepSound : Type 0
@@ -51,16 +78,9 @@ module _ {P : Type 0} (machine : Machine Name P) (Is : P → Type 0) where
   abbrev pub StatesAlongAreSound : Type 0
   StatesAlongAreSound = (limits : Limits) (argument : Text) (journal : List Entry) (s : System P) → IsTrue (is_text argument) → IsAlong machine (opening machine limits argument) journal s → IsSoundFor machine Is s
 
-  -- In a sound state each process that is to make a local step makes it; each that can act can do so at some place, and at each place
-  -- where something of what it wants can be done. Language reference, "Sound states".
-  pub record GoOnFrom (s : System P) (p : ℕ) : Type 0 where
-    pub local_steps : IsTrue (stands is_local machine s p) → (m : Moved P) × (step machine (steps p) s ≡ Some m)
-    pub actions : IsTrue (stands is_acting machine s p) → (place : Place) × (m : Moved P) × (step machine (acts p place) s ≡ Some m)
-    pub places : IsTrue (stands is_acting machine s p) → (x : P) (want : CellWant Name) (place : Place) → numbered_from_one p s.processes ≡ Some x → machine.wanted x ≡ Some want
-        → IsTrue (any_pass (same_place place) (places_for p want)) → IsTrue (is_some (done_in want s place)) → (m : Moved P) × (step machine (acts p place) s ≡ Some m)
-
+  -- In a sound state no process is stuck. Language reference, "Sound states".
   abbrev pub NoneIsStuck : Type 0
-  NoneIsStuck = (s : System P) (p : ℕ) → IsSoundFor machine Is s → GoOnFrom s p
+  NoneIsStuck = (s : System P) (p : ℕ) → IsSoundFor machine Is s → GoOnFrom machine s p
 
   -- In a sound state a port that is closed was open, and a call that is answered is open, with no reply to it so far and then one, and no
   -- callmessage of it that could be answered again. Language reference, "Sound states".
@@ -68,23 +88,6 @@ module _ {P : Type 0} (machine : Machine Name P) (Is : P → Type 0) where
   ClosesOpenPorts = (s : System P) (p n count : ℕ) (left : List (Cell Name)) (m : Moved P) → IsSoundFor machine Is s → step machine (acts p (port n)) s ≡ Some m → m.done ≡ Some (close count left)
       → (is_open_port s n ≡ true) × (is_open_port m.system n ≡ false)
 
-  abbrev pub replies_to : System P → (caller call : ℕ) → ℕ
-  replies_to s q k = how_many (λ (r : ℕ × CellReply Name). nat_eq r.0 k) (replies_of s q)
-
   abbrev pub AnswersOpenCalls : Type 0
   AnswersOpenCalls = (s : System P) (p q k : ℕ) (r : CellReply Name) (m : Moved P) → IsSoundFor machine Is s → step machine (acts p (reply_cell q)) s ≡ Some m → m.done ≡ Some (answer k r)
       → (has_open machine s q k ≡ true) × (replies_to s q k ≡ 0) × (replies_to m.system q k ≡ 1) × (how_many (is_callmessage_of q k) (unfinalised machine m.system) ≡ 0)
-
-  -- Along a run each port that was made was closed once where it is not open, and not yet where it is; and no port was closed twice.
-  -- Language reference, "Ports".
-  abbrev pub PortsCloseOnce : Type 0
-  PortsCloseOnce = (limits : Limits) (argument : Text) (events : List Event) (r : Run P) → IsTrue (is_text argument) → run machine events (start machine limits argument) ≡ Some r → (n : ℕ)
-      → (n < length r.system.ports → how_many (closes n) r.journal + one_if (is_open_port r.system n) ≡ 1) × (how_many (closes n) r.journal ≤ 1)
-
-  -- A run has at most so many events as its limits say. Language reference, "Limits".
-  abbrev pub EventsAreBounded : Type 0
-  EventsAreBounded = (limits : Limits) (argument : Text) (events : List Event) (r : Run P) → run machine events (start machine limits argument) ≡ Some r → length events ≤ most_events limits
-
-  -- So many rounds suffice, and one more: they lead to a state in which no process can step. Language reference, "Rounds".
-  abbrev pub RoundsSuffice : Type 0
-  RoundsSuffice = (limits : Limits) (argument : Text) → IsTrue (is_text argument) → 1 ≤ limits.processes → (t : Run P) × (rounds (suc (most_events limits)) machine (start machine limits argument) ≡ Some t) × IsFinal machine t.system

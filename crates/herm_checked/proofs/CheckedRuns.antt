@@ -1,0 +1,96 @@
+-- The laws of sound states for the source machine of a checked program.
+use Rattle.std.proofs.Common.{◌≡◌, ℕ, List, Some}
+use Rattle.herm_model.specs.Lists.{IsIn}
+use Rattle.herm_model.specs.Statements.{Process}
+use Rattle.herm_model.specs.Values.{Name}
+use Rattle.herm_system.specs.Sound.{IsSoundWith, IsSoundFor}
+use Rattle.herm_system.specs.Systems.{System}
+use Rattle.herm_source.specs.Instance.{IsSound, source, IsSoundIn}
+use Rattle.herm_source.specs.Modules.{Program, Modules}
+use Rattle.herm_source.specs.States.{State}
+use Rattle.herm_source.specs.laws.NeedsLaws.{StandsReached}
+use Rattle.herm_source.specs.laws.SoundProcesses.{IsSoundProcess}
+use Rattle.herm_source.proofs.reached.RunsReach.{along-finds}
+use Rattle.herm_sound.proofs.KeptSound.{steps-keep-sound}
+use Rattle.herm_sound.proofs.OpeningSound.{opening-is-sound, runs-are-sound, states-along}
+use Rattle.herm_sound.proofs.NotStuck.{none-is-stuck}
+use Rattle.herm_sound.proofs.ActOnce.{closes-open, answers-open}
+use Rattle.herm_sound.proofs.ClosedOnce.{ports-close-once}
+use Rattle.herm_sound.proofs.RoundsReachEnd.{events-are-bounded, rounds-suffice}
+use Rattle.herm_checked.specs.laws.CheckedRuns.{IsSoundAndReached, SoundWithReach, CheckedStepsKeepSound, CheckedOpeningIsSound, CheckedRunsAreSound, CheckedStatesAlong, CheckedNoneIsStuck, CheckedActionsAreDoneOnce, CheckedRunsEnd}
+use Rattle.herm_checked.proofs.SourceKeeps.{source-keeps-sound}
+use Rattle.herm_checked.proofs.SourceBegins.{source-begins-sound, source-goes-on, source-keeps-limits}
+
+
+with-within : (modules : Modules) (Is Within : State Name → Type 0) (s : System (State Name)) (types : List ℕ) → ((p : ℕ) (x : State Name) → Rattle.herm_system.specs.Systems.numbered_from_one p s.processes ≡ Some x → Within x)
+    → IsSoundWith (source modules) Is types s → IsSoundWith (source modules) Within types s
+with-within modules Is Within s types all sound = record {
+  processes = all;
+  messages = sound.messages;
+  replies = sound.replies;
+  ledger = sound.ledger;
+  once = sound.once;
+  ports = record {
+    types = sound.ports.types;
+    inport_types = sound.ports.inport_types;
+    console = sound.ports.console;
+    inports = sound.ports.inports;
+    inports_stand = sound.ports.inports_stand;
+    outports_stand = sound.ports.outports_stand;
+  };
+  calls = record { answers = sound.calls.answers; callmessages_stand = sound.calls.callmessages_stand };
+  numbers = sound.numbers;
+}
+
+module _ (program : Program) (modules : Modules) (s : System (State Name)) where
+  to-reached : IsSoundFor (source modules) (IsSoundProcess program modules) s → IsSoundAndReached program modules s
+  to-reached sound = (
+    (sound.0, with-within modules (IsSoundProcess program modules) (IsSoundIn modules) s sound.0 (λ p x is. (sound.1.processes p x is).sound) sound.1),
+    λ p x process is at. (sound.1.processes p x is).reached process at,
+  )
+
+  from-reached : IsSoundAndReached program modules s → IsSoundFor (source modules) (IsSoundProcess program modules) s
+  from-reached both = (
+    both.0.0,
+    with-within modules (IsSoundIn modules) (IsSoundProcess program modules) s both.0.0 (λ p x is. record { sound = both.0.1.processes p x is; reached = λ process at. both.1 p x process is at }) both.0.1,
+  )
+
+pub sound-with-reach : SoundWithReach
+sound-with-reach program modules s = (to-reached program modules s, from-reached program modules s)
+
+pub checked-steps : CheckedStepsKeepSound
+checked-steps exceptions program modules checked e s m is both =
+    to-reached program modules m.system (steps-keep-sound (source modules) (IsSoundProcess program modules) (source-keeps-sound exceptions program modules checked) e s m is (from-reached program modules s both))
+
+pub checked-opening : CheckedOpeningIsSound
+checked-opening exceptions program modules checked limits argument texts =
+    to-reached program modules _ (opening-is-sound (source modules) (IsSoundProcess program modules) (source-keeps-sound exceptions program modules checked) (source-begins-sound exceptions program modules checked) limits argument texts)
+
+pub checked-runs : CheckedRunsAreSound
+checked-runs exceptions program modules checked limits argument events r texts e =
+    to-reached program modules r.system (runs-are-sound (source modules) (IsSoundProcess program modules) (source-keeps-sound exceptions program modules checked) (source-begins-sound exceptions program modules checked) limits argument events r texts e)
+
+pub checked-along : CheckedStatesAlong
+checked-along exceptions program modules checked limits argument journal s texts along =
+    let both = to-reached program modules s (states-along (source modules) (IsSoundProcess program modules) (source-keeps-sound exceptions program modules checked) (source-begins-sound exceptions program modules checked) limits argument journal s texts along) in
+    (both.0, along-finds program modules limits argument journal s checked.accepted (λ process h. ((checked.typed).modules process h).blocks) along both.0)
+
+pub checked-none : CheckedNoneIsStuck
+checked-none exceptions program modules checked s p both =
+    none-is-stuck (source modules) (IsSoundProcess program modules) (source-keeps-sound exceptions program modules checked) (source-goes-on exceptions program modules checked) s p (from-reached program modules s both)
+
+pub checked-once : CheckedActionsAreDoneOnce
+checked-once exceptions program modules checked =
+    let keeps = source-keeps-sound exceptions program modules checked in (
+      closes-open (source modules) (IsSoundProcess program modules) keeps,
+      answers-open (source modules) (IsSoundProcess program modules) keeps,
+      ports-close-once (source modules) (IsSoundProcess program modules) keeps (source-begins-sound exceptions program modules checked),
+    )
+
+pub checked-end : CheckedRunsEnd
+checked-end exceptions program modules checked =
+    let keeps = source-keeps-sound exceptions program modules checked in
+    let begins = source-begins-sound exceptions program modules checked in (
+      events-are-bounded (source modules) (IsSoundProcess program modules) keeps begins (source-keeps-limits modules),
+      rounds-suffice (source modules) (IsSoundProcess program modules) keeps begins (source-keeps-limits modules) (source-goes-on exceptions program modules checked),
+    )

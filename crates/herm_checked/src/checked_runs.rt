@@ -1,0 +1,38 @@
+// Laws of the runs of typed programs and their accepted modules, with a text as argument, whatever the schedule.
+
+ghost use Rattle.herm_checked.specs.laws.CheckedRuns.{CheckedActionsAreDoneOnce, CheckedNoneIsStuck, CheckedOpeningIsSound, CheckedRunsAreSound, CheckedRunsEnd, CheckedStatesAlong, CheckedStepsKeepSound, SoundWithReach};
+
+/// A sound state in which each process stands where a control path leads is one in which each process is sound within itself and stands so.
+pub fn sound_states_stand_reached()
+    ensures reach { SoundWithReach }
+{}
+
+/// What an event leaves of such a state is such a state, whatever the event and whatever the statement: statements of all forms, what is
+/// finalised, messages, replies, ports and processes that are made. The state at the start is one, with any text as argument.
+pub fn events_keep_sound()
+    ensures steps { CheckedStepsKeepSound }
+    ensures opening { CheckedOpeningIsSound }
+{}
+
+/// So each state of each run is sound. Along every journal each state is sound, and every statement finds the facts that it needs: what a
+/// report claims of it.
+pub fn runs_are_sound()
+    ensures runs { CheckedRunsAreSound }
+    ensures along { CheckedStatesAlong }
+{}
+
+/// No process is stuck: each that is to make a local step makes it, and each that can act can do so at some place, and at each place where
+/// something of what it wants can be done.
+pub fn no_process_is_stuck()
+    ensures none { CheckedNoneIsStuck }
+{}
+
+/// Ports that are closed were open, calls that are answered are open and have no answer yet, and along a run no port is closed twice.
+pub fn actions_are_done_once()
+    ensures once { CheckedActionsAreDoneOnce }
+{}
+
+/// The limits bound the events of a run, and so many rounds, and one more, reach a state in which no process can step.
+pub fn runs_end()
+    ensures end { CheckedRunsEnd }
+{}
