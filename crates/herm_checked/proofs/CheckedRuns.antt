@@ -17,7 +17,7 @@ use Rattle.herm_sound.proofs.NotStuck.{none-is-stuck}
 use Rattle.herm_sound.proofs.ActOnce.{closes-open, answers-open}
 use Rattle.herm_sound.proofs.ClosedOnce.{ports-close-once}
 use Rattle.herm_sound.proofs.RoundsReachEnd.{events-are-bounded, rounds-suffice}
-use Rattle.herm_checked.specs.laws.CheckedRuns.{IsSoundAndReached, SoundWithReach, CheckedStepsKeepSound, CheckedOpeningIsSound, CheckedRunsAreSound, CheckedStatesAlong, CheckedNoneIsStuck, CheckedActionsAreDoneOnce, CheckedRunsEnd}
+use Rattle.herm_checked.specs.laws.CheckedRuns.{IsSoundAndReached, SoundWithReach, CheckedStepsKeepSound, CheckedOpeningIsSound, CheckedRunsAreSound, CheckedStatesAlong, CheckedNoneIsStuck, CheckedActionsAreDoneOnce, CheckedRunsEnd, CheckedReportsDescribe}
 use Rattle.herm_checked.proofs.SourceKeeps.{source-keeps-sound}
 use Rattle.herm_checked.proofs.SourceBegins.{source-begins-sound, source-goes-on, source-keeps-limits}
 
@@ -94,3 +94,22 @@ checked-end exceptions program modules checked =
       events-are-bounded (source modules) (IsSoundProcess program modules) keeps begins (source-keeps-limits modules),
       rounds-suffice (source modules) (IsSoundProcess program modules) keeps begins (source-keeps-limits modules) (source-goes-on exceptions program modules checked),
     )
+
+-- a report of a run of a checked program
+pub checked-reports : CheckedReportsDescribe
+checked-reports exceptions program modules checked limits argument names report texts is =
+    record {
+      final = is.final;
+      is_ordered = is.is_ordered;
+      is_stamped = is.is_stamped;
+      is_a_run = is.is_a_run;
+      is_final = is.is_final;
+      finds_needs = λ s a. (checked-along exceptions program modules checked limits argument report.journal s texts a).1;
+      is_sound = λ s a. (checked-along exceptions program modules checked limits argument report.journal s texts a).0;
+      has_ledger = is.has_ledger;
+      ends = is.ends;
+      queued = is.queued;
+      counts = is.counts;
+      status = is.status;
+      text = is.text names;
+    }

@@ -1,6 +1,6 @@
 // Laws of the runs of typed programs and their accepted modules, with a text as argument, whatever the schedule.
 
-ghost use Rattle.herm_checked.specs.laws.CheckedRuns.{CheckedActionsAreDoneOnce, CheckedNoneIsStuck, CheckedOpeningIsSound, CheckedRunsAreSound, CheckedRunsEnd, CheckedStatesAlong, CheckedStepsKeepSound, SoundWithReach};
+ghost use Rattle.herm_checked.specs.laws.CheckedRuns.{CheckedActionsAreDoneOnce, CheckedNoneIsStuck, CheckedOpeningIsSound, CheckedReportsDescribe, CheckedRunsAreSound, CheckedRunsEnd, CheckedStatesAlong, CheckedStepsKeepSound, SoundWithReach};
 
 /// A sound state in which each process stands where a control path leads is one in which each process is sound within itself and stands so.
 pub fn sound_states_stand_reached()
@@ -19,6 +19,12 @@ pub fn events_keep_sound()
 pub fn runs_are_sound()
     ensures runs { CheckedRunsAreSound }
     ensures along { CheckedStatesAlong }
+{}
+
+/// So what a report says of such a run is what is claimed of it: the field that each state is sound holds, and the field that statements
+/// find what they need.
+pub fn reports_describe_runs()
+    ensures reports { CheckedReportsDescribe }
 {}
 
 /// No process is stuck: each that is to make a local step makes it, and each that can act can do so at some place, and at each place where

@@ -6,9 +6,10 @@ use Rattle.herm_journal.specs.PlaceStates.{Limits}
 use Rattle.herm_journal.specs.Entries.{Text, Entry}
 use Rattle.herm_system.specs.Systems.{System, Moved, Event, step, Run, run, start, opening, IsFinal}
 use Rattle.herm_system.specs.Rounds.{rounds}
-use Rattle.herm_system.specs.Reports.{IsAlong}
+use Rattle.herm_system.specs.Reports.{IsAlong, Report, IsReportOf}
+use Rattle.herm_system.specs.RunTexts.{plainly}
 use Rattle.herm_system.specs.Sound.{IsSoundFor}
-use Rattle.herm_source.specs.AcceptedRuns.{FindsNeeds}
+use Rattle.herm_source.specs.AcceptedRuns.{FindsNeeds, Describes}
 use Rattle.herm_source.specs.Checked.{IsChecked}
 use Rattle.herm_source.specs.Instance.{IsSound, source}
 use Rattle.herm_source.specs.Modules.{Program, Modules}
@@ -60,3 +61,9 @@ CheckedActionsAreDoneOnce = OfChecked (λ program modules. ClosesOpenPorts (sour
 -- The limits bound the events of a run, and so many rounds, and one more, reach its end. Language reference, "Rounds".
 abbrev pub CheckedRunsEnd : Type 0
 CheckedRunsEnd = OfChecked (λ program modules. EventsAreBounded (source modules) × RoundsSuffice (source modules))
+
+-- What a report says of a run of a checked program, in plain form, is what is claimed of the run: in every state along it every statement
+-- finds what it needs, and the state is sound. Language reference, "Reports".
+abbrev pub CheckedReportsDescribe : Type 0
+CheckedReportsDescribe = OfChecked (λ program modules. (limits : Limits) (argument : Text) (names : List Text) (report : Report) → IsTrue (is_text argument)
+    → IsReportOf (source modules) limits argument report → Describes modules limits argument names plainly report)

@@ -1,0 +1,5 @@
+use Rattle.herm_checked.proofs.CheckedRuns.{checked-reports}
+use Rattle.herm_checked.proofs.checked_runs.reports_describe_runs.Goals as goal
+
+pub returns : goal.returns
+returns c = record { reports = checked-reports }
