@@ -1,9 +1,7 @@
 -- Open calls of the source machine's processes: opened by a message that is placed, closed by a reply, kept by all else.
-use Rattle.std.proofs.Common.{◌≡◌, ◌⊎◌, inl, inr, ℕ, suc, List, [], ◌∷◌, Option, Some, None, option_map, option_and_then, refl, sym, ap, subst, ◌∙◌}
+use Rattle.std.proofs.Common.{◌≡◌, ◌⊎◌, inl, inr, ℕ, List, Option, Some, None, option_map, option_and_then, refl, sym, ap, subst, ◌∙◌}
 use Rattle.std.specs.Prelude.{⊤, cond, Bool, true, false}
-use Rattle.herm_model.specs.Paths.{Path}
 use Rattle.herm_model.specs.Outcomes.{raised, disconnected}
-use Rattle.herm_model.specs.Expressions.{Atom}
 use Rattle.herm_model.specs.Statements.{Form, Call}
 use Rattle.herm_model.specs.Nodes.{Node}
 use Rattle.herm_model.specs.Targets.{Target}
@@ -12,7 +10,6 @@ use Rattle.herm_model.proofs.Options.{none-not_some, some-injective, map-some}
 use Rattle.herm_journal.specs.Actions.{put, close, answer, hear}
 use Rattle.herm_journal.specs.Messages.{CellReply, CellAction}
 use Rattle.herm_forms.specs.Acts.{is_action, act, settle, settle_reply, composed, arguments_at, is_out, leads_to}
-use Rattle.herm_forms.specs.Callmessages as callmessages
 use Rattle.herm_forms.specs.Callmessages.{Composed}
 use Rattle.herm_forms.specs.EdgeFinalising.{arrive}
 use Rattle.herm_forms.specs.Exchanges
@@ -20,29 +17,29 @@ use Rattle.herm_forms.specs.Frames.{Frame, Completion, goes, stays, stuck, if_th
 use Rattle.herm_forms.specs.Modules.{Module}
 use Rattle.herm_forms.specs.OpenCalls.{Calling, call_type}
 use Rattle.herm_forms.proofs.CountedCalls.{arrive-call, drop-call}
-use Rattle.herm_forms.proofs.KeptBodies.{IsKept, IsCall, All, went, stayed, never, all-act, all-work, all-settle, all-settle_reply, is-composed}
+use Rattle.herm_forms.proofs.KeptBodies.{IsKept, All, went, stayed, never, all-act, all-work, all-settle, all-settle_reply, is-composed}
 use Rattle.herm_system.specs.Machines.{OpenCall}
 use Rattle.herm_source.specs.Instance.{source, code_at}
 use Rattle.herm_source.specs.Local.{calling}
 use Rattle.herm_source.specs.Modules.{Modules}
 use Rattle.herm_source.specs.SeenBySystem.{open_call}
-use Rattle.herm_source.specs.States.{State, own_name, begin, Next, an_item, a_reply, a_statement, nothing, next_of, node_at, state_after, step_next, settle_next, local_step, answered}
-use Rattle.herm_source.proofs.Numbers.{local-stays, answer-stays}
+use Rattle.herm_source.specs.States.{State, own_name, begin, Next, an_item, a_reply, a_statement, nothing, next_of, node_at, state_after, step_next, settle_next, answered}
+use Rattle.herm_source.proofs.Numbers.{answer-stays}
 use Rattle.herm_source.proofs.OpeningFrame.{opening_frame}
 use Rattle.herm_source.proofs.counted.CountedSteps.{stands}
-use Rattle.herm_source.proofs.instance.SourceLaws.{local-code, answer-code, code-stays}
+use Rattle.herm_source.proofs.instance.SourceLaws.{local-code, answer-code}
 use Rattle.herm_sound.specs.SoundMachines.{CallMoves}
 
 -- a body with this call open, or with none
-abbrev HasCall : Option ℕ → Frame Name → Type 0
+abbrev pub HasCall : Option ℕ → Frame Name → Type 0
 HasCall call b = b.call ≡ call
 
-call-kept : (call : Option ℕ) → IsKept (HasCall call)
+pub call-kept : (call : Option ℕ) → IsKept (HasCall call)
 call-kept call = record {
   letting = record { value = λ c b h. h; parts = λ ps b h. h; name = λ n b h. h };
   variables = λ ps b h. h;
   serial = λ s b h. h;
-  calls = λ k b h. h;
+  calls = λ b h. h;
 }
 
 -- the action placed a message
@@ -56,7 +53,7 @@ module _ (modules : Modules) where
       option_and_then (λ c. option_and_then (λ k. option_map (λ (calls : Calling). record { number = k; call_type = call_type c calls }) (option_and_then (λ (n : Node). Rattle.herm_forms.specs.OpenCalls.calling_form n.form) (node_at c t))) call)
       (Rattle.std.specs.Prelude.slice_get modules.codes code)
 
-  closed : (x : State Name) → x.frame.call ≡ None → (source modules).open_call x ≡ None
+  pub closed : (x : State Name) → x.frame.call ≡ None → (source modules).open_call x ≡ None
   closed x e = by (code_at modules x) (x.frame.call) e refl
     where
       by : (o : Option Module) (call : Option ℕ) → call ≡ None → x.frame.call ≡ call → option_and_then (λ c. open_call c x) o ≡ None
@@ -67,14 +64,13 @@ module _ (modules : Modules) where
   same-open x y code point call =
       ap (λ code. opened_by code y.point y.frame.call) code ∙ ap (λ t. opened_by x.module_number t y.frame.call) point ∙ ap (opened_by x.module_number x.point) call
 
-
-  behind : (call : Option ℕ) (Stay : Frame Name → Type 0) (c : Module) (s t : State Name) (at : Option Node) (r : Completion Name) → All (HasCall call) Stay r → state_after c s at r ≡ Some t
+  pub state-behind : (call : Option ℕ) (Stay : Frame Name → Type 0) (c : Module) (s t : State Name) (at : Option Node) (r : Completion Name) → All (HasCall call) Stay r → state_after c s at r ≡ Some t
       → (t.frame.call ≡ call) ⊎ ((b : Frame Name) × Stay b × (t ≡ record s { frame = b }))
-  behind call Stay c s t at (goes o b) (went o' b' e) is =
+  state-behind call Stay c s t at (goes o b) (went o' b' e) is =
       let m = map-some (λ (p : Target). record { module_number = s.module_number; point = p; frame = arrive c p b }) (option_and_then (λ n. leads_to c n o) at) t is in
       inl (ap (λ (t : State Name). t.frame.call) (sym m.2) ∙ arrive-call c m.0 b ∙ e)
-  behind call Stay c s t at (stays b) (stayed b' e) is = inr (b, e, sym (some-injective is))
-  behind call Stay c s t at stuck never is = none-not_some is
+  state-behind call Stay c s t at (stays b) (stayed b' e) is = inr (b, e, sym (some-injective is))
+  state-behind call Stay c s t at stuck never is = none-not_some is
 
   -- a local step keeps it closed
   pub local-moves : (x y : State Name) → (source modules).local_step x ≡ Some y → (source modules).open_call y ≡ (source modules).open_call x
@@ -87,7 +83,7 @@ module _ (modules : Modules) where
       step : (c : Module) (n : Node) (b : Bool) → x.frame.call ≡ None → cond b None (state_after c x (Some n) (act own_name c n.number n.form (counted_step x.frame))) ≡ Some y → y.frame.call ≡ None
       step c n true idle is = none-not_some is
       step c n false idle is =
-          none-stays y (behind None (HasCall None) c x y (Some n) (act own_name c n.number n.form (counted_step x.frame))
+          none-stays y (state-behind None (HasCall None) c x y (Some n) (act own_name c n.number n.form (counted_step x.frame))
           (all-act own_name (HasCall None) (HasCall None) (call-kept None) c n.number n.form (counted_step x.frame) idle (λ visit ls b h. h)) is)
 
       by : (c : Module) (next : Next Name) → next_of c x ≡ next → step_next own_name c x next ≡ Some y → (source modules).open_call y ≡ (source modules).open_call x
@@ -118,7 +114,7 @@ module _ (modules : Modules) where
   all-settled c form at a b idle = all-settle own_name (HasCall None) (IsPlaced a) (call-kept None) c form at a b idle (λ h. absurd h)
 
   -- only a reply answers a call that is open
-  hears : (c : Module) (s t : State Name) (n : Node) (form : Form) (k : ℕ) (a : CellAction Name) (b : Frame Name) → state_after c s (Some n) (settle_reply c form k a b) ≡ Some t → (i : ℕ) × (r : CellReply Name) × (a ≡ hear i r)
+  pub hears : (c : Module) (s t : State Name) (n : Node) (form : Form) (k : ℕ) (a : CellAction Name) (b : Frame Name) → state_after c s (Some n) (settle_reply c form k a b) ≡ Some t → (i : ℕ) × (r : CellReply Name) × (a ≡ hear i r)
   hears c s t n (Call o arguments) k (hear i r) b is = (i, r, refl)
   hears c s t n (Call o arguments) k a b is = none-not_some is
   hears c s t n form k a b is = none-not_some is
@@ -155,7 +151,7 @@ module _ (modules : Modules) where
       reply-moves : (c : Module) (k : ℕ) (n : Node) → state_after c x (Some n) (settle_reply c n.form k a (counted_action x.frame)) ≡ Some y → CallMoves (source modules) x y a
       reply-moves c k n is =
           let h = hears c x y n n.form k a (counted_action x.frame) is in
-          let shut = by (behind None (HasCall None) c x y (Some n) (settle_reply c n.form k a (counted_action x.frame)) (all-settle_reply own_name (HasCall None) (HasCall None) (call-kept None) c n.form k a (counted_action x.frame) refl) is) in
+          let shut = by (state-behind None (HasCall None) c x y (Some n) (settle_reply c n.form k a (counted_action x.frame)) (all-settle_reply own_name (HasCall None) (HasCall None) (call-kept None) c n.form k a (counted_action x.frame) refl) is) in
           subst (CallMoves (source modules) x y) (sym h.2) (closed y shut)
         where
           by : (y.frame.call ≡ None) ⊎ ((b : Frame Name) × HasCall None b × (y ≡ record x { frame = b })) → y.frame.call ≡ None
@@ -164,7 +160,7 @@ module _ (modules : Modules) where
 
       statement-moves : (c : Module) (n : Node) → x.frame.call ≡ None → state_after c x (Some n) (settle own_name c n.form at a (counted_action (counted_step x.frame))) ≡ Some y → CallMoves (source modules) x y a
       statement-moves c n idle is =
-          by (behind None (IsPlaced a) c x y (Some n) (settle own_name c n.form at a (counted_action (counted_step x.frame))) (all-settled c n.form at a (counted_action (counted_step x.frame)) idle) is)
+          by (state-behind None (IsPlaced a) c x y (Some n) (settle own_name c n.form at a (counted_action (counted_step x.frame))) (all-settled c n.form at a (counted_action (counted_step x.frame)) idle) is)
         where
           by : (y.frame.call ≡ None) ⊎ ((b : Frame Name) × IsPlaced a b × (y ≡ record x { frame = b })) → CallMoves (source modules) x y a
           by (inl e) = never-open x y a (closed x idle) (closed y e)

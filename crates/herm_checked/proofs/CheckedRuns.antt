@@ -1,26 +1,24 @@
 -- The laws of sound states for the source machine of a checked program.
 use Rattle.std.proofs.Common.{◌≡◌, ℕ, List, Some}
-use Rattle.herm_model.specs.Lists.{IsIn}
-use Rattle.herm_model.specs.Statements.{Process}
 use Rattle.herm_model.specs.Values.{Name}
 use Rattle.herm_system.specs.Sound.{IsSoundWith, IsSoundFor}
 use Rattle.herm_system.specs.Systems.{System}
-use Rattle.herm_source.specs.Instance.{IsSound, source, IsSoundIn}
+use Rattle.herm_source.specs.Instance.{source, IsSoundIn}
 use Rattle.herm_source.specs.Modules.{Program, Modules}
 use Rattle.herm_source.specs.States.{State}
-use Rattle.herm_source.specs.laws.NeedsLaws.{StandsReached}
 use Rattle.herm_source.specs.laws.SoundProcesses.{IsSoundProcess}
 use Rattle.herm_source.proofs.reached.RunsReach.{along-finds}
 use Rattle.herm_sound.proofs.KeptSound.{steps-keep-sound}
 use Rattle.herm_sound.proofs.OpeningSound.{opening-is-sound, runs-are-sound, states-along}
 use Rattle.herm_sound.proofs.NotStuck.{none-is-stuck}
 use Rattle.herm_sound.proofs.ActOnce.{closes-open, answers-open}
+use Rattle.herm_sound.proofs.AnsweredOnce.{calls-are-answered-once}
 use Rattle.herm_sound.proofs.ClosedOnce.{ports-close-once}
 use Rattle.herm_sound.proofs.RoundsReachEnd.{events-are-bounded, rounds-suffice}
 use Rattle.herm_checked.specs.laws.CheckedRuns.{IsSoundAndReached, SoundWithReach, CheckedStepsKeepSound, CheckedOpeningIsSound, CheckedRunsAreSound, CheckedStatesAlong, CheckedNoneIsStuck, CheckedActionsAreDoneOnce, CheckedRunsEnd, CheckedReportsDescribe}
+use Rattle.herm_checked.proofs.CallNumbers.{source-numbers-calls}
 use Rattle.herm_checked.proofs.SourceKeeps.{source-keeps-sound}
 use Rattle.herm_checked.proofs.SourceBegins.{source-begins-sound, source-goes-on, source-keeps-limits}
-
 
 with-within : (modules : Modules) (Is Within : State Name → Type 0) (s : System (State Name)) (types : List ℕ) → ((p : ℕ) (x : State Name) → Rattle.herm_system.specs.Systems.numbered_from_one p s.processes ≡ Some x → Within x)
     → IsSoundWith (source modules) Is types s → IsSoundWith (source modules) Within types s
@@ -85,6 +83,7 @@ checked-once exceptions program modules checked =
       closes-open (source modules) (IsSoundProcess program modules) keeps,
       answers-open (source modules) (IsSoundProcess program modules) keeps,
       ports-close-once (source modules) (IsSoundProcess program modules) keeps (source-begins-sound exceptions program modules checked),
+      calls-are-answered-once (source modules) (IsSoundProcess program modules) keeps (source-numbers-calls modules) (source-begins-sound exceptions program modules checked),
     )
 
 pub checked-end : CheckedRunsEnd

@@ -1,15 +1,15 @@
 -- The first message of a run is one of main's port, with its cells at places of their types, in any table that begins with the
 -- predefined types.
-use Rattle.std.proofs.Common.{◌≡◌, ℕ, zero, suc, List, [], ◌∷◌, ◌++◌, Bool, false, Option, Some, None, IsTrue, inl, inr, refl, sym, ap, subst, ◌∙◌, true≢false, arith}
+use Rattle.std.proofs.Common.{◌≡◌, ℕ, zero, suc, List, [], ◌∷◌, ◌++◌, false, Some, None, IsTrue, inl, inr, refl, sym, subst, ◌∙◌, true≢false, arith}
 use Rattle.std.proofs.lemmas.Bool.Decides.{nat_tests}
-use Rattle.std.specs.Prelude.{nat_eq, slice_get}
+use Rattle.std.specs.Prelude.{nat_eq}
 use Rattle.herm_model.specs.Lists.{IsIn, any_pass}
 use Rattle.herm_model.specs.Paths.{Path, Fact, init, case, same_fact}
 use Rattle.herm_model.specs.Types.{TypeTable, predefined}
 use Rattle.herm_model.specs.Facts.{declared_facts}
 use Rattle.herm_model.specs.FactsOfValues.{HasExactly}
 use Rattle.herm_model.specs.Typed.{is_text, leaf_if, Fits, HasType}
-use Rattle.herm_model.specs.Values.{Name, Kind, a_scalar, a_text, Cell, cell, Parts, no_parts, part, has_value}
+use Rattle.herm_model.specs.Values.{Name, Kind, a_scalar, a_text, cell, Parts, no_parts, part, has_value}
 use Rattle.herm_model.proofs.FactTests.{listed-IsIn, IsIn-listed}
 use Rattle.herm_model.proofs.NothingThere.{nothing-there}
 use Rattle.herm_model.proofs.Options.{some-injective}

@@ -1,28 +1,28 @@
 -- A checked program begins soundly, goes on, and keeps its limits.
-use Rattle.std.proofs.Common.{◌≡◌, ◌⊎◌, inl, inr, ◌<◌, ◌≤◌, ◌+◌, ℕ, zero, suc, List, [], ◌∷◌, ◌++◌, Bool, true, false, cond, Option, Some, None, option_map, option_and_then, slice_get, refl, sym, ap, subst, ◌∙◌, arith, true≢false}
+use Rattle.std.proofs.Common.{◌≡◌, ◌<◌, ◌≤◌, ℕ, suc, [], ◌∷◌, Bool, true, false, cond, Option, Some, None, option_and_then, slice_get, refl, sym, ap, subst, ◌∙◌, arith}
 use Rattle.std.specs.Prelude.{nat_lt, IsTrue}
 use Rattle.std.proofs.lemmas.Bool.Decides.{nat_tests}
-use Rattle.herm_model.specs.Types.{TypeTable, predefined}
+use Rattle.herm_model.specs.Types.{TypeTable}
 use Rattle.herm_model.specs.Nodes.{Node}
 use Rattle.herm_model.specs.Targets.{Target}
 use Rattle.herm_model.specs.TypedPrograms.{main_start}
-use Rattle.herm_model.specs.Values.{Name, Cell}
+use Rattle.herm_model.specs.Values.{Name}
 use Rattle.herm_model.proofs.Lists.{not_true}
-use Rattle.herm_model.proofs.Options.{some-injective, none-not_some, chain-some, map-some}
+use Rattle.herm_model.proofs.Options.{none-not_some, map-some}
 use Rattle.herm_journal.specs.Messages.{CellAction, is_inport, message_of_port, IsMessage}
-use Rattle.herm_forms.specs.Acts.{is_action, act, settle, settle_reply, leads_to}
+use Rattle.herm_forms.specs.Acts.{is_action, act, settle, settle_reply}
 use Rattle.herm_forms.specs.EdgeFinalising.{arrive}
 use Rattle.herm_forms.specs.Exchanges
-use Rattle.herm_forms.specs.Frames.{Frame, Completion, goes, stays, stuck, counted_step, counted_action}
+use Rattle.herm_forms.specs.Frames.{Frame, Completion, counted_step, counted_action}
 use Rattle.herm_forms.specs.Modules.{Module}
-use Rattle.herm_forms.proofs.KeptBodies.{IsKept, All, went, stayed, never, all-act, all-work, all-settle, all-settle_reply, is-arrive}
+use Rattle.herm_forms.proofs.KeptBodies.{IsKept, All, all-act, all-work, all-settle, all-settle_reply, is-arrive}
 use Rattle.herm_system.specs.Machines.{Standing, local, acting, to_act, is_local, is_acting, greatest_actions}
 use Rattle.herm_system.specs.Systems.{main_port, first_message}
 use Rattle.herm_system.specs.Sound.{console_type}
 use Rattle.herm_source.specs.Checked.{IsChecked}
 use Rattle.herm_source.specs.Instance.{source, code_at, ready_if}
 use Rattle.herm_source.specs.Modules.{Program, Modules}
-use Rattle.herm_source.specs.States.{State, own_name, begin, Next, an_item, a_reply, a_statement, nothing, next_of, state_after, step_next, settle_next, ready_for, ready_in, local_step, answered}
+use Rattle.herm_source.specs.States.{State, own_name, begin, Next, an_item, a_reply, a_statement, nothing, next_of, state_after, step_next, settle_next, ready_for, ready_in}
 use Rattle.herm_source.specs.laws.SoundProcesses.{IsSoundProcess}
 use Rattle.herm_source.proofs.OpeningFrame.{opening_frame}
 use Rattle.herm_source.proofs.instance.SourceLaws.{local-code, answer-code}
@@ -31,6 +31,7 @@ use Rattle.herm_source.proofs.sound.GoingOn.{checked-processes-go-on}
 use Rattle.herm_source.proofs.sound.SoundProcesses.{steps-there}
 use Rattle.herm_sound.specs.Standing.{AllStand}
 use Rattle.herm_sound.specs.SoundMachines.{BeginsSound, GoesOn, KeepsLimits}
+use Rattle.herm_checked.proofs.Behind.{behind}
 use Rattle.herm_checked.proofs.FirstMessages.{types, first-message, first-stands}
 use Rattle.herm_checked.proofs.SourceKeeps.{first, begins-there, source-keeps-sound}
 
@@ -83,19 +84,14 @@ counts-kept steps actions = record {
   letting = record { value = λ c b h. h; parts = λ ps b h. h; name = λ n b h. h };
   variables = λ ps b h. h;
   serial = λ s b h. h;
-  calls = λ k b h. h;
+  calls = λ b h. h;
 }
 
 counts-arrive : (steps actions : ℕ) (c : Module) (t : Target) (b : Frame Name) → HasCounts steps actions b → HasCounts steps actions (arrive c t b)
 counts-arrive steps actions c t b h = is-arrive own_name (HasCounts steps actions) (HasCounts steps actions) (counts-kept steps actions) (λ stay b h. h) c t b h
 
-module _ (steps actions : ℕ) (c : Module) where
-  behind : (s t : State Name) (at : Option Node) (r : Completion Name) → All (HasCounts steps actions) (HasCounts steps actions) r → state_after c s at r ≡ Some t → HasCounts steps actions t.frame
-  behind s t at (goes o b) (went o' b' e) is =
-      let m = map-some (λ (p : Target). record { module_number = s.module_number; point = p; frame = arrive c p b }) (option_and_then (λ n. leads_to c n o) at) t is in
-      subst (λ (t : State Name). HasCounts steps actions t.frame) m.2 (counts-arrive steps actions c m.0 b e)
-  behind s t at (stays b) (stayed b' e) is = subst (λ (t : State Name). HasCounts steps actions t.frame) (some-injective is) e
-  behind s t at stuck never is = none-not_some is
+counted-behind : (steps actions : ℕ) (c : Module) (s t : State Name) (at : Option Node) (r : Completion Name) → All (HasCounts steps actions) (HasCounts steps actions) r → state_after c s at r ≡ Some t → HasCounts steps actions t.frame
+counted-behind steps actions c = behind (HasCounts steps actions) (counts-kept steps actions) (λ stay b h. h) c
 
 below : (m n : ℕ) → IsTrue (nat_lt m n) → m < n
 below m n h = grind (arith, nat_tests)
@@ -127,7 +123,7 @@ module _ (modules : Modules) where
       counts : (c : Module) (n : Node) (b : Bool) → cond b None (state_after c x (Some n) (act own_name c n.number n.form (counted_step x.frame))) ≡ Some y → HasCounts (suc x.frame.steps) x.frame.actions y.frame
       counts c n true is = none-not_some is
       counts c n false is =
-          behind (suc x.frame.steps) x.frame.actions c x y (Some n) (act own_name c n.number n.form (counted_step x.frame))
+          counted-behind (suc x.frame.steps) x.frame.actions c x y (Some n) (act own_name c n.number n.form (counted_step x.frame))
           (all-act own_name (HasCounts (suc x.frame.steps) x.frame.actions) (HasCounts (suc x.frame.steps) x.frame.actions) (counts-kept (suc x.frame.steps) x.frame.actions) c n.number n.form (counted_step x.frame) (refl, refl) (λ visit ls b h. h)) is
 
       by : (c : Module) (next : Next Name) → IsTrue (is_local (ready_for c limit x.frame next)) → step_next own_name c x next ≡ Some y → (y.frame.steps ≡ suc x.frame.steps) × (y.frame.actions ≡ x.frame.actions) × (x.frame.steps < limit)
@@ -157,15 +153,15 @@ module _ (modules : Modules) where
       by : (c : Module) (next : Next Name) → IsTrue (is_acting (ready_for c limit x.frame next)) → settle_next own_name c x at a next ≡ Some y → Counted limit x y
       by c (an_item item work) ready is =
           let b = counted_action (record (x.frame) { work = work }) in
-          same-steps (behind x.frame.steps (suc x.frame.actions) c x y None (Exchanges.work_done item a b)
+          same-steps (counted-behind x.frame.steps (suc x.frame.actions) c x y None (Exchanges.work_done item a b)
           (all-work (HasCounts x.frame.steps (suc x.frame.actions)) ((counts-kept x.frame.steps (suc x.frame.actions)).letting) item a b (refl, refl)) is) (act-below x.frame.actions ready)
       by c (a_reply k n) ready is =
-          same-steps (behind x.frame.steps (suc x.frame.actions) c x y (Some n) (settle_reply c n.form k a (counted_action x.frame))
+          same-steps (counted-behind x.frame.steps (suc x.frame.actions) c x y (Some n) (settle_reply c n.form k a (counted_action x.frame))
           (all-settle_reply own_name (HasCounts x.frame.steps (suc x.frame.actions)) (HasCounts x.frame.steps (suc x.frame.actions)) (counts-kept x.frame.steps (suc x.frame.actions)) c n.form k a (counted_action x.frame) (refl, refl)) is)
           (act-below x.frame.actions ready)
       by c (a_statement n) ready is =
           let few = stands c n (nat_lt x.frame.steps limit) (is_action c n.form) refl ready in
-          more-steps (behind (suc x.frame.steps) (suc x.frame.actions) c x y (Some n) (settle own_name c n.form at a (counted_action (counted_step x.frame)))
+          more-steps (counted-behind (suc x.frame.steps) (suc x.frame.actions) c x y (Some n) (settle own_name c n.form at a (counted_action (counted_step x.frame)))
           (all-settle own_name (HasCounts (suc x.frame.steps) (suc x.frame.actions)) (HasCounts (suc x.frame.steps) (suc x.frame.actions)) (counts-kept (suc x.frame.steps) (suc x.frame.actions)) c n.form at a (counted_action (counted_step x.frame)) (refl, refl) (λ h k b e. e)) is)
           few.1 few.0
       by c nothing ready is = none-not_some is

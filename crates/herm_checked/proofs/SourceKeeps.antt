@@ -1,15 +1,14 @@
 -- The source machine of a checked program keeps sound states sound.
-use Rattle.std.proofs.Common.{◌≡◌, ◌⊎◌, inl, inr, ℕ, List, [], ◌∷◌, Option, Some, None, option_map, option_and_then, slice_get, refl, sym, ap, subst, ◌∙◌}
+use Rattle.std.proofs.Common.{◌≡◌, inl, inr, ℕ, List, Option, Some, option_map, slice_get, refl, sym, ap, subst}
 use Rattle.herm_model.specs.Lists.{IsIn}
 use Rattle.herm_model.specs.Values.{Name, Kind, a_scalar, a_record, a_variant, a_table, a_polymorph, a_callmessage, an_inport, an_outport, Cell, cell, no_parts}
-use Rattle.herm_model.proofs.Options.{some-injective, none-not_some, chain-some, map-some}
-use Rattle.herm_journal.specs.Actions.{new_port, new_process, to_put, to_take, to_close, to_answer, to_hear, make_port, make_process, put, take, close, answer, hear}
-use Rattle.herm_journal.specs.Messages.{CellReply, CellWant, CellAction}
+use Rattle.herm_model.proofs.Options.{chain-some}
+use Rattle.herm_journal.specs.Actions.{new_port, new_process, to_put, to_take, to_close, to_answer, to_hear, make_port, make_process, put, take, hear}
+use Rattle.herm_journal.specs.Messages.{CellWant, CellAction}
 use Rattle.herm_forms.specs.Modules.{Module}
-use Rattle.herm_system.specs.Suiting.{Answers, Suits}
 use Rattle.herm_runs.specs.Counting.{KeepsCounts}
 use Rattle.herm_source.specs.Checked.{IsChecked}
-use Rattle.herm_source.specs.Instance.{source, code_at}
+use Rattle.herm_source.specs.Instance.{source}
 use Rattle.herm_source.specs.Modules.{Program, Modules}
 use Rattle.herm_source.specs.States.{State, begin}
 use Rattle.herm_source.specs.laws.CountLaws.{HasTypesIn}

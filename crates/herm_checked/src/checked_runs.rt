@@ -33,7 +33,8 @@ pub fn no_process_is_stuck()
     ensures none { CheckedNoneIsStuck }
 {}
 
-/// Ports that are closed were open, calls that are answered are open and have no answer yet, and along a run no port is closed twice.
+/// Ports that are closed were open, calls that are answered are open and have no answer yet; along a run no port is closed twice, and no call is
+/// answered twice.
 pub fn actions_are_done_once()
     ensures once { CheckedActionsAreDoneOnce }
 {}

@@ -1,5 +1,5 @@
 -- What the primitives keep of a body, edges, what a statement does and what an answer leaves keep too.
-use Rattle.std.proofs.Common.{◌≡◌, ℕ, suc, ◌+◌, List, [], ◌∷◌, Bool, true, false, cond, Option, Some, None, option_and_then, refl, subst}
+use Rattle.std.proofs.Common.{◌≡◌, ℕ, suc, ◌+◌, List, [], ◌∷◌, Bool, true, false, cond, Option, Some, None, option_and_then, refl, sym, ap, subst}
 use Rattle.std.specs.Prelude.{⊤, nat_eq, nat_lt, filter, flat_map, map}
 use Rattle.herm_model.specs.Paths.{Path}
 use Rattle.herm_model.specs.Types.{Mode, Shape, fields, rows, type_at}
@@ -33,7 +33,7 @@ use Rattle.herm_forms.specs.Excess.{excess_over_full, excess_over_declared}
 use Rattle.herm_forms.specs.Modules.{Module}
 use Rattle.herm_forms.specs.Acts.{key_at, new_value, act, arguments_at, is_inout, is_out, inputs_of, composed, kept_at, left_at, given_back, given_at, given_by, settle, settle_reply}
 
--- What stays so of a body as cells of it are finalised, and as its variables and its counts change.
+-- What stays so of a body as cells of it are finalised, as its variables and its serial change, and as it counts a call more.
 pub record LetsGo {N : Type 0} (Is : Frame N → Type 0) : Type 0 where
   pub value : (c : Cell N) (b : Frame N) → Is b → Is (finalise c b)
   pub parts : (ps : Parts N) (b : Frame N) → Is b → Is (finalise_parts ps b)
@@ -43,7 +43,7 @@ pub record IsKept {N : Type 0} (Is : Frame N → Type 0) : Type 0 where
   pub letting : LetsGo Is
   pub variables : (ps : Parts N) (b : Frame N) → Is b → Is (record b { variables = ps })
   pub serial : (s : ℕ) (b : Frame N) → Is b → Is (record b { serial = s })
-  pub calls : (k : ℕ) (b : Frame N) → Is b → Is (record b { calls = k })
+  pub calls : (b : Frame N) → Is b → Is (record b { calls = suc b.calls })
 
 -- as its lists of loops change in any way, and as some of them go
 abbrev pub AnyLoops : {N : Type 0} → (Frame N → Type 0) → Type 0
@@ -228,18 +228,34 @@ module _ {N : Type 0} (name : Name → N) (Is Stay : Frame N → Type 0) (keeps-
   is-take_all [] b t e is = subst (λ (x : Taken N). Is x.frame) (some-injective is) e
   is-take_all (p ∷ paths) b t e is = is-took (cell_at p b.variables) (take_all paths (cleared p b)) t (λ u. is-take_all paths (cleared p b) u (keeps-it.variables (clear_at p b.variables) b e)) is
 
-  is-compose : (modes : List Mode) (inputs : Parts ⊤) (lost moved : List Path) (b : Frame N) (k : Composed N) → Is b → compose name modes inputs lost moved b ≡ Some k → Is k.frame
-  is-compose modes inputs lost moved b k e is =
+  -- a call's number is that of the body from which its arguments were taken
+  pub record ComposedFrom (k : Composed N) : Type 0 where
+    pub taken : Frame N
+    pub is : Is taken
+    pub frame : k.frame ≡ record taken { serial = suc taken.serial; calls = suc taken.calls }
+    pub call : k.call ≡ taken.calls
+
+  from-compose : (modes : List Mode) (inputs : Parts ⊤) (lost moved : List Path) (b : Frame N) (k : Composed N) → Is b → compose name modes inputs lost moved b ≡ Some k → ComposedFrom k
+  from-compose modes inputs lost moved b k e is =
       let took = chain-some _ (take_all moved (drop lost (record b { serial = b.serial + count_in inputs }))) k is in
       let made = map-some (with_message name took.0.frame) (assemble modes (copy_in (λ s. name (b.number, s)) b.serial inputs) took.0.cells) k took.2 in
-      subst (λ (x : Composed N). Is x.frame) made.2
-      (keeps-it.calls (suc took.0.frame.calls) (record took.0.frame { serial = suc took.0.frame.serial }) (keeps-it.serial (suc took.0.frame.serial) took.0.frame
-      (is-take_all moved (drop lost (record b { serial = b.serial + count_in inputs })) took.0 (is-drop lost (record b { serial = b.serial + count_in inputs }) (keeps-it.serial (b.serial + count_in inputs) b e)) took.1)))
+      record {
+        taken = took.0.frame;
+        is = is-take_all moved (drop lost (record b { serial = b.serial + count_in inputs })) took.0 (is-drop lost (record b { serial = b.serial + count_in inputs }) (keeps-it.serial (b.serial + count_in inputs) b e)) took.1;
+        frame = ap (λ (x : Composed N). x.frame) (sym made.2);
+        call = ap (λ (x : Composed N). x.call) (sym made.2);
+      }
+
+  is-from : (k : Composed N) → ComposedFrom k → Is k.frame
+  is-from k from = subst Is (sym from.frame) (keeps-it.calls (record from.taken { serial = suc from.taken.serial }) (keeps-it.serial (suc from.taken.serial) from.taken from.is))
+
+  pub from-composed : (c : Module) (o : Path) (arguments : List Atom) (b : Frame N) (k : Composed N) → Is b → composed name c o arguments b ≡ Some k → ComposedFrom k
+  from-composed c o arguments b k e is =
+      let inputs = chain-some _ (inputs_of (call_parameters c.types c.variables o) arguments b.variables) k is in
+      from-compose (map (λ p. p.mode) (call_parameters c.types c.variables o)) inputs.0 (flat_map (λ p. excess_over_full c p b) (arguments_at c is_inout o arguments)) (arguments_at c is_inout o arguments) b k e inputs.2
 
   pub is-composed : (c : Module) (o : Path) (arguments : List Atom) (b : Frame N) (k : Composed N) → Is b → composed name c o arguments b ≡ Some k → Is k.frame
-  is-composed c o arguments b k e is =
-      let inputs = chain-some _ (inputs_of (call_parameters c.types c.variables o) arguments b.variables) k is in
-      is-compose (map (λ p. p.mode) (call_parameters c.types c.variables o)) inputs.0 (flat_map (λ p. excess_over_full c p b) (arguments_at c is_inout o arguments)) (arguments_at c is_inout o arguments) b k e inputs.2
+  is-composed c o arguments b k e is = is-from k (from-composed c o arguments b k e is)
 
   -- what each answer leaves
   all-new_inport : (x : Path) (a : CellAction N) (b : Frame N) → Is b → All Is Stay (Exchanges.new_inport name x a b)

@@ -26,7 +26,7 @@ module _ {N : Type 0} (name : Name → N) (n : ℕ) where
   lets = record { value = λ c b e. e; parts = λ ps b e. e; name = λ m b e. e }
 
   numbers : IsKept Is
-  numbers = record { letting = lets; variables = λ ps b e. e; serial = λ s b e. e; calls = λ k b e. e }
+  numbers = record { letting = lets; variables = λ ps b e. e; serial = λ s b e. e; calls = λ b e. e }
 
   -- what a local step does
   pub all-act : (c : Module) (s : ℕ) (form : Form) (b : Frame N) → Is b → All (act name c s form b)

@@ -68,6 +68,12 @@ answer-wanted p w place h a (taken ports i among b j m qs k) q r e f = none-not_
 answer-wanted p w place h a (heard k v rs) q r e f = none-not_some f
 
 module _ {P : Type 0} (machine : Machine Name P) (Is : P → Type 0) (keeps : KeepsSound machine Is) where
+  -- a callmessage that is answered was there
+  pub held : (types : List ℕ) (s : System P) (p : ℕ) (x : P) → numbered_from_one p s.processes ≡ Some x → (q k : ℕ) (r : CellReply Name)
+      → (IsIn (a_callmessage q k) (kinds_by machine x) × (r ≡ gone)) ⊎ ((t : ℕ) × IsIn (t, a_callmessage q k) (typed_places machine x) × IsReplyTo machine.types (Some t) r) → IsIn (a_callmessage q k) (unfinalised machine s)
+  held types s p x is q k r (inl h) = in-held machine types s (a_callmessage q k) p x is h.0
+  held types s p x is q k r (inr h) = typed-unfinalised machine types s h.0 (a_callmessage q k) (in-places machine types s p x h.0 (a_callmessage q k) is h.1)
+
   shut : (b : Bool) → one_if b + 1 ≡ 1 → b ≡ false
   shut true e = let no_more : ⊥ = omega (arith, e) in absurd no_more
   shut false e = refl
@@ -111,8 +117,3 @@ module _ {P : Type 0} (machine : Machine Name P) (Is : P → Type 0) (keeps : Ke
         ap (λ (m : Moved P). how_many (λ (r : ℕ × CellReply Name). nat_eq r.0 k) (replies_of m.system q)) (sym parts.moved) ∙ one,
         ap (λ (m : Moved P). how_many (is_callmessage_of q k) (unfinalised machine m.system)) (sym parts.moved) ∙ no_more,
       )
-    where
-      held : (types : List ℕ) (s : System P) (p : ℕ) (x : P) → numbered_from_one p s.processes ≡ Some x → (q k : ℕ) (r : CellReply Name)
-          → (IsIn (a_callmessage q k) (kinds_by machine x) × (r ≡ gone)) ⊎ ((t : ℕ) × IsIn (t, a_callmessage q k) (typed_places machine x) × IsReplyTo machine.types (Some t) r) → IsIn (a_callmessage q k) (unfinalised machine s)
-      held types s p x is q k r (inl h) = in-held machine types s (a_callmessage q k) p x is h.0
-      held types s p x is q k r (inr h) = typed-unfinalised machine types s h.0 (a_callmessage q k) (in-places machine types s p x h.0 (a_callmessage q k) is h.1)

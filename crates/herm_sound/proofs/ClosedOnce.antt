@@ -95,7 +95,7 @@ recorded-close (hear k r) = refl
 abbrev closing : ℕ → Place → CellAction Name → ℕ
 closing n place a = one_if (same_place place (port n) && is_close a)
 
-and-none : (b : Bool) → one_if (b && false) ≡ 0
+pub and-none : (b : Bool) → one_if (b && false) ≡ 0
 and-none true = refl
 and-none false = refl
 

@@ -17,3 +17,4 @@ pub mod ActOnce
 pub mod ClosedOnce
 pub mod BoundedEvents
 pub mod RoundsReachEnd
+pub mod AnsweredOnce

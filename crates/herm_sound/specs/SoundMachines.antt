@@ -100,3 +100,11 @@ module _ {P : Type 0} (machine : Machine Name P) where
         → (machine.steps y ≡ suc (machine.steps x)) × (machine.actions y ≡ machine.actions x) × (machine.steps x < limit)
     pub answers : (limit : ℕ) (x y : P) (at : ℕ) (a : CellAction Name) → IsTrue (is_acting (machine.ready limit x)) → machine.answered x at a ≡ Some y
         → (machine.actions y ≡ suc (machine.actions x)) × (machine.actions x < greatest_actions) × (machine.steps x ≤ machine.steps y) × (machine.steps x ≤ limit → machine.steps y ≤ limit)
+
+  -- Calls are numbered upwards: a process has made so many, and a call that it opens has a number that is not below these and below how
+  -- many it has made then. Language reference, "Calls".
+  pub record NumbersCalls : Type 0 where
+    pub calls : P → ℕ
+    pub local_steps : (x y : P) → machine.local_step x ≡ Some y → calls x ≤ calls y
+    pub answers : (x y : P) (at : ℕ) (a : CellAction Name) → machine.answered x at a ≡ Some y → calls x ≤ calls y
+    pub opens : (x y : P) (at number : ℕ) (m : Cell Name) (call : OpenCall) → machine.answered x at (put (Some number) m) ≡ Some y → machine.open_call y ≡ Some call → (calls x ≤ call.number) × (call.number < calls y)

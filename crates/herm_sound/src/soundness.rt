@@ -2,8 +2,8 @@
 
 ghost use Rattle.herm_model.specs.Values.{Name};
 ghost use Rattle.herm_system.specs.Machines.{Machine};
-ghost use Rattle.herm_sound.specs.SoundMachines.{BeginsSound, KeepsSound};
-ghost use Rattle.herm_sound.specs.laws.SoundLaws.{AnswersOpenCalls, ClosesOpenPorts, IsAmong, OpeningIsSound, PortsCloseOnce, RunsAreSound, RunsKeepSound, StatesAlongAreSound, StepsKeepSound};
+ghost use Rattle.herm_sound.specs.SoundMachines.{BeginsSound, KeepsSound, NumbersCalls};
+ghost use Rattle.herm_sound.specs.laws.SoundLaws.{AnswersOpenCalls, CallsAreAnsweredOnce, ClosesOpenPorts, IsAmong, OpeningIsSound, PortsCloseOnce, RunsAreSound, RunsKeepSound, StatesAlongAreSound, StepsKeepSound};
 
 /// What an event leaves of a sound state is a sound state, whatever the event: a local step, or an action of any kind at any place
 /// where it can be done. So is what a list of events leaves.
@@ -21,9 +21,10 @@ pub fn runs_are_sound<P, J>()
 {}
 
 /// In a sound state a port that is closed was open, and a call that is answered is open and has no answer so far, and behind it one
-/// answer and no callmessage. So along a run no port is closed twice.
+/// answer and no callmessage. So along a run no port is closed twice, and no call is answered twice.
 pub fn actions_are_done_once<P, J>()
     ensures closes { (machine : Machine Name P) → (state : J → P) → KeepsSound machine (IsAmong state) → ClosesOpenPorts machine (IsAmong state) }
     ensures answers { (machine : Machine Name P) → (state : J → P) → KeepsSound machine (IsAmong state) → AnswersOpenCalls machine (IsAmong state) }
     ensures ports { (machine : Machine Name P) → (state : J → P) → (keeps : KeepsSound machine (IsAmong state)) → BeginsSound machine keeps.first_type → PortsCloseOnce machine }
+    ensures calls { (machine : Machine Name P) → (state : J → P) → (keeps : KeepsSound machine (IsAmong state)) → BeginsSound machine keeps.first_type → NumbersCalls machine → CallsAreAnsweredOnce machine }
 {}

@@ -1,11 +1,10 @@
 -- What is claimed of the runs of checked programs: of typed programs and their accepted modules, with a text as argument.
-use Rattle.std.specs.Prelude.{◌≡◌, ◌≤◌, ◌↔◌, ℕ, suc, List, length, Some, IsTrue}
+use Rattle.std.specs.Prelude.{◌≡◌, ◌↔◌, ℕ, List, Some, IsTrue}
 use Rattle.herm_model.specs.Typed.{is_text}
 use Rattle.herm_model.specs.Values.{Name}
 use Rattle.herm_journal.specs.PlaceStates.{Limits}
 use Rattle.herm_journal.specs.Entries.{Text, Entry}
-use Rattle.herm_system.specs.Systems.{System, Moved, Event, step, Run, run, start, opening, IsFinal}
-use Rattle.herm_system.specs.Rounds.{rounds}
+use Rattle.herm_system.specs.Systems.{System, Moved, Event, step, Run, run, start, opening}
 use Rattle.herm_system.specs.Reports.{IsAlong, Report, IsReportOf}
 use Rattle.herm_system.specs.RunTexts.{plainly}
 use Rattle.herm_system.specs.Sound.{IsSoundFor}
@@ -16,7 +15,7 @@ use Rattle.herm_source.specs.Modules.{Program, Modules}
 use Rattle.herm_source.specs.States.{State}
 use Rattle.herm_source.specs.laws.NeedsLaws.{StandsReached}
 use Rattle.herm_source.specs.laws.SoundProcesses.{IsSoundProcess}
-use Rattle.herm_sound.specs.laws.SoundLaws.{GoOnFrom, ClosesOpenPorts, AnswersOpenCalls, PortsCloseOnce, EventsAreBounded, RoundsSuffice}
+use Rattle.herm_sound.specs.laws.SoundLaws.{GoOnFrom, ClosesOpenPorts, AnswersOpenCalls, PortsCloseOnce, CallsAreAnsweredOnce, EventsAreBounded, RoundsSuffice}
 
 -- A sound state in which each process stands where a control path leads.
 abbrev pub IsSoundAndReached : Program → Modules → System (State Name) → Type 0
@@ -54,9 +53,9 @@ abbrev pub CheckedNoneIsStuck : Type 0
 CheckedNoneIsStuck = OfChecked (λ program modules. (s : System (State Name)) (p : ℕ) → IsSoundAndReached program modules s → GoOnFrom (source modules) s p)
 
 -- In such a state ports that are closed were open, and calls that are answered are open and have no answer yet; and along a run no port
--- is closed twice.
+-- is closed twice, and no call is answered twice.
 abbrev pub CheckedActionsAreDoneOnce : Type 0
-CheckedActionsAreDoneOnce = OfChecked (λ program modules. ClosesOpenPorts (source modules) (IsSoundProcess program modules) × AnswersOpenCalls (source modules) (IsSoundProcess program modules) × PortsCloseOnce (source modules))
+CheckedActionsAreDoneOnce = OfChecked (λ program modules. ClosesOpenPorts (source modules) (IsSoundProcess program modules) × AnswersOpenCalls (source modules) (IsSoundProcess program modules) × PortsCloseOnce (source modules) × CallsAreAnsweredOnce (source modules))
 
 -- The limits bound the events of a run, and so many rounds, and one more, reach its end. Language reference, "Rounds".
 abbrev pub CheckedRunsEnd : Type 0

@@ -27,6 +27,14 @@ is_close a = false
 abbrev pub closes : ℕ → Entry → Bool
 closes n e = same_place e.place (port n) && is_close e.action
 
+-- the entry is of an answer to this call of this process
+abbrev pub is_answer_to : {M R : Type 0} → ℕ → Action M R → Bool
+is_answer_to k (answer call r) = nat_eq call k
+is_answer_to k a = false
+
+abbrev pub answers_call : (caller call : ℕ) → Entry → Bool
+answers_call q k e = same_place e.place (reply_cell q) && is_answer_to k e.action
+
 -- no more events than this can be: processes, at least one, and of each its steps and its actions
 abbrev pub most_events : Limits → ℕ
 most_events limits = max 1 limits.processes * (limits.steps + greatest_actions)
@@ -49,6 +57,11 @@ module _ {P : Type 0} (machine : Machine Name P) where
   abbrev pub PortsCloseOnce : Type 0
   PortsCloseOnce = (limits : Limits) (argument : Text) (events : List Event) (r : Run P) → IsTrue (is_text argument) → run machine events (start machine limits argument) ≡ Some r → (n : ℕ)
       → (n < length r.system.ports → how_many (closes n) r.journal + one_if (is_open_port r.system n) ≡ 1) × (how_many (closes n) r.journal ≤ 1)
+
+  -- Along a run no call is answered twice. Language reference, "Calls".
+  abbrev pub CallsAreAnsweredOnce : Type 0
+  CallsAreAnsweredOnce = (limits : Limits) (argument : Text) (events : List Event) (r : Run P) → IsTrue (is_text argument) → run machine events (start machine limits argument) ≡ Some r
+      → (caller call : ℕ) → how_many (answers_call caller call) r.journal ≤ 1
 
   -- A run has at most so many events as its limits say. Language reference, "Limits".
   abbrev pub EventsAreBounded : Type 0

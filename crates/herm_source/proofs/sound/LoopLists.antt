@@ -118,7 +118,7 @@ module _ (c : Module) (t : Target) where
     };
     variables = λ ps b h. h;
     serial = λ s b h. h;
-    calls = λ k b h. h;
+    calls = λ b h. h;
   }
 
   pub arrived-kept : (b : Frame Name) (l : Loop Name) → IsIn l (arrive c t b).loops → IsTrue (keeps_loop c t l.statement)

@@ -62,7 +62,7 @@ module _ (c : Module) where
       };
       variables = λ ps b h. h;
       serial = λ s b h. h;
-      calls = λ k b h. h;
+      calls = λ b h. h;
     }
 
     pub any-work : AnyLoops IsAtWork
@@ -77,7 +77,7 @@ module _ (c : Module) where
       };
       variables = λ ps b h. h;
       serial = λ s b h. h;
-      calls = λ k b h. h;
+      calls = λ b h. h;
     }
 
     pub fewer-shape : FewerLoops IsShaped
@@ -97,7 +97,7 @@ module _ (c : Module) where
         };
         variables = λ ps b h. h;
         serial = λ s b h. h;
-        calls = λ k b h. h;
+        calls = λ b h. h;
       }
 
   -- a body whose variables, loops and call are these, and what is let go of it
