@@ -7,3 +7,6 @@ pub mod Counting
 pub mod Counted
 pub mod Declared
 pub mod Repeated
+pub mod StatementsWithin
+pub mod WrittenWithin
+pub mod Beside

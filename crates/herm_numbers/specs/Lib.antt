@@ -5,3 +5,5 @@ pub mod Kept
 pub mod Faults
 pub mod Statements
 pub mod Counts
+pub mod Within
+pub mod Beside

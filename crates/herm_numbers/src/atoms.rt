@@ -4,6 +4,7 @@ ghost use Rattle.herm_syntax.specs.View.{literal_view, atom_view};
 ghost use Rattle.herm_naming.specs.Numbers.{literal_number, atom_number, type_number, part_number};
 ghost use Rattle.herm_typed.specs.View.{typed_literal_view, typed_atom_view};
 ghost use Rattle.herm_numbers.specs.View.{scope_view, kind, IsSized};
+ghost use Rattle.herm_numbers.specs.Beside.{atom_types, types_among};
 
 use crate::paths::{part, path};
 use crate::scope::Scope;
@@ -48,7 +49,8 @@ pub fn literal(alloc: Global, types: &TypeTable, l: &Literal) -> Result<TypedLit
 pub fn atom(alloc: Global, scope: &Scope, a: &Atom) -> Result<TypedAtom, AllocError>
     requires sized { IsSized scope.now.types.now }
     requires few { length scope.now.variables < 2 ^ 32 }
-    ensures { IfOk result (λ b. typed_atom_view b ≡ atom_number (scope_view scope.now) (atom_view a.now)) }
+    ensures meaning { IfOk result (λ b. typed_atom_view b ≡ atom_number (scope_view scope.now) (atom_view a.now)) }
+    ensures types { IfOk result (λ b. atom_types b ≡ types_among (scope_view scope.now) b) }
 {
     match a {
         Atom::Literal(l) => {
@@ -66,7 +68,8 @@ pub fn atom(alloc: Global, scope: &Scope, a: &Atom) -> Result<TypedAtom, AllocEr
 pub fn atoms(alloc: Global, scope: &Scope, list: &[Atom]) -> Result<Vec<TypedAtom>, AllocError>
     requires sized { IsSized scope.now.types.now }
     requires few { length scope.now.variables < 2 ^ 32 }
-    ensures { IfOk result (λ v. map typed_atom_view v.items ≡ map (atom_number (scope_view scope.now)) (map atom_view list.now)) }
+    ensures meaning { IfOk result (λ v. map typed_atom_view v.items ≡ map (atom_number (scope_view scope.now)) (map atom_view list.now)) }
+    ensures types { IfOk result (λ v. map atom_types v.items ≡ map (types_among (scope_view scope.now)) v.items) }
 {
     let mut found = Vec::new(alloc);
     'list: for a in list {

@@ -1,11 +1,13 @@
 //! Statements without blocks, by number.
-ghost use Rattle.std.specs.Prelude.{◌≡◌, map, IfOk};
+ghost use Rattle.std.specs.Prelude.{◌≡◌, [], map, IfOk};
 ghost use Rattle.herm_syntax.specs.View.{name_view, path_form_view, atom_view, expr_view};
 ghost use Rattle.herm_syntax.specs.Trees as trees;
 ghost use Rattle.herm_naming.specs.Numbers.{path_number, type_seen, part_number, without_last, component_number, exception_number};
 ghost use Rattle.herm_naming.specs.Meaning.{statement_number, process_number};
 ghost use Rattle.herm_typed.specs.View.{typed_path_view, typed_form_view};
 ghost use Rattle.herm_numbers.specs.View.{scope_view, number_of, IsKnown};
+ghost use Rattle.herm_numbers.specs.Within.{statements_within};
+ghost use Rattle.herm_numbers.specs.Beside.{seen_at, types_beside, types_seen};
 
 use crate::atoms::{atoms, type_number};
 use crate::expressions::expression;
@@ -26,6 +28,8 @@ pub fn two_paths(
     requires known { IsKnown scope.now }
     ensures first { IfOk result (λ r. typed_path_view r.0 ≡ path_number (scope_view scope.now) (path_form_view p.now)) }
     ensures second { IfOk result (λ r. typed_path_view r.1 ≡ path_number (scope_view scope.now) (path_form_view q.now)) }
+    ensures first_of { IfOk result (λ r. r.0.of.0 ≡ seen_at (scope_view scope.now) (typed_path_view r.0)) }
+    ensures second_of { IfOk result (λ r. r.1.of.0 ≡ seen_at (scope_view scope.now) (typed_path_view r.1)) }
 {
     let p = path(alloc, scope, p)?;
     let q = path(alloc, scope, q)?;
@@ -48,6 +52,7 @@ fn component(alloc: Global, scope: &Scope, c: &PathForm) -> Result<(TypedPath, u
     requires known { IsKnown scope.now }
     ensures path { IfOk result (λ r. typed_path_view r.0 ≡ path_number (scope_view scope.now) (without_last (path_form_view c.now))) }
     ensures number { IfOk result (λ r. r.1 ≡ component_number (scope_view scope.now) (path_form_view c.now)) }
+    ensures of { IfOk result (λ r. r.0.of.0 ≡ seen_at (scope_view scope.now) (typed_path_view r.0)) }
 {
     let names = c.parts.as_slice();
     match names.split_last() {
@@ -83,6 +88,8 @@ fn process_number(scope: &Scope, name: &Name) -> u32
 pub fn assign(alloc: Global, scope: &Scope, x: &PathForm, e: &Expr) -> Result<TypedForm, AllocError>
     requires known { IsKnown scope.now }
     ensures meaning { IfOk result (λ f. typed_form_view f ≡ statement_number (scope_view scope.now) (trees.Assign (path_form_view x.now) (expr_view e.now))) }
+    ensures within { IfOk result (λ f. statements_within f ≡ []) }
+    ensures types { IfOk result (λ f. types_beside f ≡ types_seen (scope_view scope.now) (typed_form_view f)) }
 {
     let x = path(alloc, scope, x)?;
     let e = expression(alloc, scope, e)?;
@@ -98,12 +105,15 @@ pub fn unwrap(
 ) -> Result<TypedForm, AllocError>
     requires known { IsKnown scope.now }
     ensures meaning { IfOk result (λ f. typed_form_view f ≡ statement_number (scope_view scope.now) (trees.Unwrap (path_form_view p.now) (name_view name.now) (path_form_view y.now))) }
+    ensures within { IfOk result (λ f. statements_within f ≡ []) }
+    ensures types { IfOk result (λ f. types_beside f ≡ types_seen (scope_view scope.now) (typed_form_view f)) }
 {
     let (p, y) = two_paths(alloc, scope, p, y)?;
     let t = type_number(scope.types, name.text.bytes());
     Ok(TypedForm::Unwrap(p, t, y))
 }
 
+#[tactic(auto, using(crate::proofs::Beside::atoms_beside))]
 pub fn call(
     alloc: Global,
     scope: &Scope,
@@ -112,6 +122,8 @@ pub fn call(
 ) -> Result<TypedForm, AllocError>
     requires known { IsKnown scope.now }
     ensures meaning { IfOk result (λ f. typed_form_view f ≡ statement_number (scope_view scope.now) (trees.Call (path_form_view o.now) (map atom_view arguments.now))) }
+    ensures within { IfOk result (λ f. statements_within f ≡ []) }
+    ensures types { IfOk result (λ f. types_beside f ≡ types_seen (scope_view scope.now) (typed_form_view f)) }
 {
     let o = path(alloc, scope, o)?;
     let arguments = atoms(alloc, scope, arguments)?;
@@ -126,6 +138,8 @@ pub fn return_by(
 ) -> Result<TypedForm, AllocError>
     requires known { IsKnown scope.now }
     ensures meaning { IfOk result (λ f. typed_form_view f ≡ statement_number (scope_view scope.now) (trees.ReturnBy (path_form_view m.now) (name_view name.now))) }
+    ensures within { IfOk result (λ f. statements_within f ≡ []) }
+    ensures types { IfOk result (λ f. types_beside f ≡ types_seen (scope_view scope.now) (typed_form_view f)) }
 {
     let m = path(alloc, scope, m)?;
     Ok(TypedForm::ReturnBy(m, exception_number(scope, name)))
@@ -139,6 +153,8 @@ pub fn create(
 ) -> Result<TypedForm, AllocError>
     requires known { IsKnown scope.now }
     ensures meaning { IfOk result (λ f. typed_form_view f ≡ statement_number (scope_view scope.now) (trees.Create (path_form_view o.now) (name_view name.now))) }
+    ensures within { IfOk result (λ f. statements_within f ≡ []) }
+    ensures types { IfOk result (λ f. types_beside f ≡ types_seen (scope_view scope.now) (typed_form_view f)) }
 {
     let o = path(alloc, scope, o)?;
     Ok(TypedForm::Create(o, process_number(scope, name)))
@@ -147,6 +163,8 @@ pub fn create(
 pub fn raise(scope: &Scope, name: &Name) -> TypedForm
     requires known { IsKnown scope.now }
     ensures meaning { typed_form_view result ≡ statement_number (scope_view scope.now) (trees.Raise (name_view name.now)) }
+    ensures within { statements_within result ≡ [] }
+    ensures types { types_beside result ≡ types_seen (scope_view scope.now) (typed_form_view result) }
 {
     TypedForm::Raise(exception_number(scope, name))
 }
@@ -159,6 +177,8 @@ pub fn unite(
 ) -> Result<TypedForm, AllocError>
     requires known { IsKnown scope.now }
     ensures meaning { IfOk result (λ f. typed_form_view f ≡ statement_number (scope_view scope.now) (trees.Unite (path_form_view c.now) (path_form_view y.now))) }
+    ensures within { IfOk result (λ f. statements_within f ≡ []) }
+    ensures types { IfOk result (λ f. types_beside f ≡ types_seen (scope_view scope.now) (typed_form_view f)) }
 {
     let (v, number) = component(alloc, scope, c)?;
     let y = path(alloc, scope, y)?;
@@ -173,6 +193,8 @@ pub fn dissolve(
 ) -> Result<TypedForm, AllocError>
     requires known { IsKnown scope.now }
     ensures meaning { IfOk result (λ f. typed_form_view f ≡ statement_number (scope_view scope.now) (trees.Dissolve (path_form_view c.now) (path_form_view y.now))) }
+    ensures within { IfOk result (λ f. statements_within f ≡ []) }
+    ensures types { IfOk result (λ f. types_beside f ≡ types_seen (scope_view scope.now) (typed_form_view f)) }
 {
     let (v, number) = component(alloc, scope, c)?;
     let y = path(alloc, scope, y)?;
@@ -182,6 +204,8 @@ pub fn dissolve(
 pub fn reveal(alloc: Global, scope: &Scope, c: &PathForm) -> Result<TypedForm, AllocError>
     requires known { IsKnown scope.now }
     ensures meaning { IfOk result (λ f. typed_form_view f ≡ statement_number (scope_view scope.now) (trees.Reveal (path_form_view c.now))) }
+    ensures within { IfOk result (λ f. statements_within f ≡ []) }
+    ensures types { IfOk result (λ f. types_beside f ≡ types_seen (scope_view scope.now) (typed_form_view f)) }
 {
     let (v, number) = component(alloc, scope, c)?;
     Ok(TypedForm::Reveal(v, number))
@@ -195,6 +219,8 @@ pub fn move_to(
 ) -> Result<TypedForm, AllocError>
     requires known { IsKnown scope.now }
     ensures meaning { IfOk result (λ f. typed_form_view f ≡ statement_number (scope_view scope.now) (trees.Move (path_form_view p.now) (path_form_view q.now))) }
+    ensures within { IfOk result (λ f. statements_within f ≡ []) }
+    ensures types { IfOk result (λ f. types_beside f ≡ types_seen (scope_view scope.now) (typed_form_view f)) }
 {
     let (p, q) = two_paths(alloc, scope, p, q)?;
     Ok(TypedForm::Move(p, q))
@@ -208,6 +234,8 @@ pub fn wrap(
 ) -> Result<TypedForm, AllocError>
     requires known { IsKnown scope.now }
     ensures meaning { IfOk result (λ f. typed_form_view f ≡ statement_number (scope_view scope.now) (trees.Wrap (path_form_view p.now) (path_form_view q.now))) }
+    ensures within { IfOk result (λ f. statements_within f ≡ []) }
+    ensures types { IfOk result (λ f. types_beside f ≡ types_seen (scope_view scope.now) (typed_form_view f)) }
 {
     let (p, q) = two_paths(alloc, scope, p, q)?;
     Ok(TypedForm::Wrap(p, q))
@@ -221,6 +249,8 @@ pub fn insert(
 ) -> Result<TypedForm, AllocError>
     requires known { IsKnown scope.now }
     ensures meaning { IfOk result (λ f. typed_form_view f ≡ statement_number (scope_view scope.now) (trees.Insert (path_form_view p.now) (path_form_view q.now))) }
+    ensures within { IfOk result (λ f. statements_within f ≡ []) }
+    ensures types { IfOk result (λ f. types_beside f ≡ types_seen (scope_view scope.now) (typed_form_view f)) }
 {
     let (p, q) = two_paths(alloc, scope, p, q)?;
     Ok(TypedForm::Insert(p, q))
@@ -234,6 +264,8 @@ pub fn connect(
 ) -> Result<TypedForm, AllocError>
     requires known { IsKnown scope.now }
     ensures meaning { IfOk result (λ f. typed_form_view f ≡ statement_number (scope_view scope.now) (trees.Connect (path_form_view p.now) (path_form_view q.now))) }
+    ensures within { IfOk result (λ f. statements_within f ≡ []) }
+    ensures types { IfOk result (λ f. types_beside f ≡ types_seen (scope_view scope.now) (typed_form_view f)) }
 {
     let (p, q) = two_paths(alloc, scope, p, q)?;
     Ok(TypedForm::Connect(p, q))
@@ -247,6 +279,8 @@ pub fn send(
 ) -> Result<TypedForm, AllocError>
     requires known { IsKnown scope.now }
     ensures meaning { IfOk result (λ f. typed_form_view f ≡ statement_number (scope_view scope.now) (trees.Send (path_form_view p.now) (path_form_view q.now))) }
+    ensures within { IfOk result (λ f. statements_within f ≡ []) }
+    ensures types { IfOk result (λ f. types_beside f ≡ types_seen (scope_view scope.now) (typed_form_view f)) }
 {
     let (p, q) = two_paths(alloc, scope, p, q)?;
     Ok(TypedForm::Send(p, q))
@@ -260,6 +294,8 @@ pub fn receive(
 ) -> Result<TypedForm, AllocError>
     requires known { IsKnown scope.now }
     ensures meaning { IfOk result (λ f. typed_form_view f ≡ statement_number (scope_view scope.now) (trees.Receive (path_form_view p.now) (path_form_view q.now))) }
+    ensures within { IfOk result (λ f. statements_within f ≡ []) }
+    ensures types { IfOk result (λ f. types_beside f ≡ types_seen (scope_view scope.now) (typed_form_view f)) }
 {
     let (p, q) = two_paths(alloc, scope, p, q)?;
     Ok(TypedForm::Receive(p, q))
@@ -268,6 +304,8 @@ pub fn receive(
 pub fn make(alloc: Global, scope: &Scope, p: &PathForm) -> Result<TypedForm, AllocError>
     requires known { IsKnown scope.now }
     ensures meaning { IfOk result (λ f. typed_form_view f ≡ statement_number (scope_view scope.now) (trees.New (path_form_view p.now))) }
+    ensures within { IfOk result (λ f. statements_within f ≡ []) }
+    ensures types { IfOk result (λ f. types_beside f ≡ types_seen (scope_view scope.now) (typed_form_view f)) }
 {
     let p = path(alloc, scope, p)?;
     Ok(TypedForm::New(p))
@@ -276,6 +314,8 @@ pub fn make(alloc: Global, scope: &Scope, p: &PathForm) -> Result<TypedForm, All
 pub fn discard(alloc: Global, scope: &Scope, p: &PathForm) -> Result<TypedForm, AllocError>
     requires known { IsKnown scope.now }
     ensures meaning { IfOk result (λ f. typed_form_view f ≡ statement_number (scope_view scope.now) (trees.Discard (path_form_view p.now))) }
+    ensures within { IfOk result (λ f. statements_within f ≡ []) }
+    ensures types { IfOk result (λ f. types_beside f ≡ types_seen (scope_view scope.now) (typed_form_view f)) }
 {
     let p = path(alloc, scope, p)?;
     Ok(TypedForm::Discard(p))
@@ -284,11 +324,14 @@ pub fn discard(alloc: Global, scope: &Scope, p: &PathForm) -> Result<TypedForm, 
 pub fn give_back(alloc: Global, scope: &Scope, p: &PathForm) -> Result<TypedForm, AllocError>
     requires known { IsKnown scope.now }
     ensures meaning { IfOk result (λ f. typed_form_view f ≡ statement_number (scope_view scope.now) (trees.Return (path_form_view p.now))) }
+    ensures within { IfOk result (λ f. statements_within f ≡ []) }
+    ensures types { IfOk result (λ f. types_beside f ≡ types_seen (scope_view scope.now) (typed_form_view f)) }
 {
     let p = path(alloc, scope, p)?;
     Ok(TypedForm::Return(p))
 }
 
+#[tactic(auto, using(crate::proofs::Beside::atoms_beside))]
 pub fn remove(
     alloc: Global,
     scope: &Scope,
@@ -298,12 +341,15 @@ pub fn remove(
 ) -> Result<TypedForm, AllocError>
     requires known { IsKnown scope.now }
     ensures meaning { IfOk result (λ f. typed_form_view f ≡ statement_number (scope_view scope.now) (trees.Remove (path_form_view r.now) (path_form_view t.now) (map atom_view keys.now))) }
+    ensures within { IfOk result (λ f. statements_within f ≡ []) }
+    ensures types { IfOk result (λ f. types_beside f ≡ types_seen (scope_view scope.now) (typed_form_view f)) }
 {
     let (r, t) = two_paths(alloc, scope, r, t)?;
     let keys = atoms(alloc, scope, keys)?;
     Ok(TypedForm::Remove(r, t, keys))
 }
 
+#[tactic(auto, using(crate::proofs::Beside::atoms_beside))]
 pub fn get(
     alloc: Global,
     scope: &Scope,
@@ -313,6 +359,8 @@ pub fn get(
 ) -> Result<TypedForm, AllocError>
     requires known { IsKnown scope.now }
     ensures meaning { IfOk result (λ f. typed_form_view f ≡ statement_number (scope_view scope.now) (trees.Get (path_form_view r.now) (path_form_view t.now) (map atom_view keys.now))) }
+    ensures within { IfOk result (λ f. statements_within f ≡ []) }
+    ensures types { IfOk result (λ f. types_beside f ≡ types_seen (scope_view scope.now) (typed_form_view f)) }
 {
     let (r, t) = two_paths(alloc, scope, r, t)?;
     let keys = atoms(alloc, scope, keys)?;

@@ -1,9 +1,10 @@
 -- Modules one by one: their processes, places and refusals.
-use Rattle.std.proofs.Common.{◌≡◌, ℕ, zero, suc, ◌+◌, ◌<◌, ◌≤◌, ◌^◌, List, [], ◌∷◌, ◌++◌, map, take, drop, get_or, length, Bool, true, false, cond, ◌||◌, ◌&&◌, nat_eq, Option, Some, None, Vec, Global, length-append, refl, sym, ap, ap₂, subst, ◌∙◌, arith, append_assoc}
+use Rattle.std.proofs.Common.{◌≡◌, ℕ, zero, suc, ◌+◌, ◌<◌, ◌≤◌, ◌^◌, List, [], ◌∷◌, ◌++◌, map, take, drop, get_or, length, Bool, true, false, cond, ◌||◌, ◌&&◌, ◌⊎◌, inl, inr, nat_eq, Option, Some, None, Vec, Global, length-append, refl, sym, ap, ap₂, subst, ◌∙◌, arith, append_assoc}
 use Rattle.std.specs.Str.{bytes_eq}
 use Rattle.std.proofs.lemmas.List.{map-append, length-map}
 use Rattle.herm_base.specs.declared.word.Name.{Name}
-use Rattle.herm_model.specs.Lists.{any_pass}
+use Rattle.herm_model.specs.Lists.{IsIn, any_pass}
+use Rattle.herm_model.proofs.Lists.{in-append_cases}
 use Rattle.herm_model.specs.Statements.{Process as model, numbers_of_block}
 use Rattle.herm_model.specs.TypedPrograms.{main_start, IsTypedProgram}
 use Rattle.herm_syntax.specs.Trees.{Letters}
@@ -27,6 +28,8 @@ use Rattle.herm_types.specs.Table as kept
 use Rattle.herm_numbers.specs.Counts.{IsCounted}
 use Rattle.herm_numbers.specs.View.{IsSized}
 use Rattle.herm_resolve.specs.Judged.{IsReady, IsKnownOf, AreJudged, AddsRefusals, scope_within, process_within, codes_within, is_main_among}
+use Rattle.herm_resolve.specs.Kept.{of_processes, names_of, names_written, numbers_of, numbers_written, KnowsTypes, KnowTypes}
+use Rattle.herm_resolve.proofs.Refusing.{empty}
 use Rattle.herm_resolve.specs.Refused.{places_of, places_from, nowhere, AreRefusalsOf}
 
 append-nil : {X : Type 0} (xs : List X) → xs ++ [] ≡ xs
@@ -70,10 +73,24 @@ places-append n (Definitions name items ∷ xs) ys = places-append (suc n) xs ys
 places-append n (Process name port vars body ∷ xs) ys =
     ap (places_of n name port vars.items body.items ∷◌) (places-append (suc n) xs ys ∙ ap (λ k. places_from (suc n) xs ++ places_from k ys) (let e : suc n + length xs ≡ n + suc (length xs) = omega arith in e))
 
+kept-append : {X : Type 0} (f : Name → Field → List Field → List Stmt → X) (xs ys : List Module) → of_processes f (xs ++ ys) ≡ of_processes f xs ++ of_processes f ys
+kept-append f [] ys = refl
+kept-append f (Definitions name items ∷ xs) ys = kept-append f xs ys
+kept-append f (Process name port vars body ∷ xs) ys = ap (f name port vars.items body.items ∷◌) (kept-append f xs ys)
+
 pub few_texts : (xs : List Module) → length (processes_in (map module_view xs)) ≤ length xs
 few_texts [] = omega arith
 few_texts (Definitions name items ∷ xs) = let e = few_texts xs in omega (arith, e)
 few_texts (Process name port vars body ∷ xs) = let e = few_texts xs in omega (arith, e)
+
+-- no fault behind is none before
+none-before : (before after : List NameFault) (own : List (Code × Place)) → map name_fault_view after ≡ map name_fault_view before ++ own → after ≡ [] → before ≡ []
+none-before before after own e none =
+    let a = ap length (ap (map name_fault_view) none) in
+    let b = length-map before name_fault_view in
+    let c = ap length e in
+    let d = length-append (map name_fault_view before) own in
+    empty before (omega (arith, a, b, c, d))
 
 -- one process more
 placed-more : (T : NamedTable) (all ps : List ProcessText) (places : List (Places Place)) (q : ProcessText) (x : Places Place) → ArePlaced T all ps places → IsPlaced T all q x → ArePlaced T all (ps ++ (q ∷ [])) (places ++ (x ∷ []))
@@ -149,7 +166,7 @@ module _ (k : Known) (modules : List Module) (of : IsKnownOf k modules) where
       ∙ take-front (map (λ (q : ProcessText). q.name) (texts (take i modules))) _
 
   pub none_judged : AreJudged k modules 0 [] []
-  none_judged = record { processes = refl; placed = tt; refusals = refl }
+  none_judged = record { named = refl; numbered = refl; of = λ none p i. absurd i; processes = refl; placed = tt; refusals = refl }
 
   -- fewer are found than there are processes
   pub number_within : (i : ℕ) (found : List TypedProcess) (faults : List NameFault) → AreJudged k modules i found faults → length found ≤ length k.processes
@@ -173,8 +190,14 @@ module _ (k : Known) (modules : List Module) (of : IsKnownOf k modules) where
         ap (places_from 0) (next m d e) ∙ (places-append 0 (take i modules) (m ∷ [])
         ∙ ap (λ n. places_from 0 (take i modules) ++ places_from n (m ∷ [])) (let l = take-length modules i (omega (arith, h)) in let e : 0 + length (take i modules) ≡ i = omega (arith, l) in e))
 
+    kept-next : {X : Type 0} (f : Name → Field → List Field → List Stmt → X) (m d : Module) → get_or modules i d ≡ m → of_processes f (take (i + 1) modules) ≡ of_processes f (take i modules) ++ of_processes f (m ∷ [])
+    kept-next f m d e = ap (of_processes f) (next m d e) ∙ kept-append f (take i modules) (m ∷ [])
+
     pub definitions_judged : (name : Name) (items : Vec DefItem Global) (d : Module) → get_or modules i d ≡ Definitions name items → AreJudged k modules (i + 1) found faults
     definitions_judged name items d e = record {
+      named = j.named ∙ sym (kept names_written);
+      numbered = j.numbered ∙ sym (kept numbers_written);
+      of = j.of;
       processes = j.processes ∙ ap (map (process_meaning k.types.now (texts modules))) (sym ts);
       placed = subst (λ ps. ArePlaced k.types.now (texts modules) ps (places_from 0 (take (i + 1) modules))) (sym ts) (subst (λ xs. ArePlaced k.types.now (texts modules) (texts (take i modules)) xs) (sym xs) j.placed);
       refusals = subst (λ ps. RefusesProcesses k.types.now (texts modules) [] ps (places_from 0 (take (i + 1) modules)) (map name_fault_view faults)) (sym ts) (subst (λ xs. RefusesProcesses k.types.now (texts modules) [] (texts (take i modules)) xs (map name_fault_view faults)) (sym xs) j.refusals);
@@ -186,12 +209,19 @@ module _ (k : Known) (modules : List Module) (of : IsKnownOf k modules) where
         xs : places_from 0 (take (i + 1) modules) ≡ places_from 0 (take i modules)
         xs = places-next (Definitions name items) d e ∙ append-nil (places_from 0 (take i modules))
 
+        kept : {X : Type 0} (f : Name → Field → List Field → List Stmt → X) → of_processes f (take (i + 1) modules) ≡ of_processes f (take i modules)
+        kept f = kept-next f (Definitions name items) d e ∙ append-nil (of_processes f (take i modules))
+
     pub process_judged : (name : Name) (port : Field) (vars : Vec Field Global) (body : Vec Stmt Global) (d : Module) → get_or modules i d ≡ Process name port vars body
-        → (t : TypedProcess) (after : List NameFault) → typed_process_view t ≡ process_within k port vars.items body.items
+        → (t : TypedProcess) (after : List NameFault) → names_of t ≡ names_written name port vars.items body.items → numbers_of t ≡ numbers_written name port vars.items body.items → (after ≡ [] → KnowsTypes k.types.now.shapes t)
+        → typed_process_view t ≡ process_within k port vars.items body.items
         → AddsRefusals (map name_fault_view faults) (map name_fault_view after) k.types.now.shapes (process_within k port vars.items body.items) (codes_within k (length found) name port vars.items body.items) (places_of i name port vars.items body.items)
         → length (body_spans body.items) ≡ numbers_of_block (process_within k port vars.items body.items).body
         → AreJudged k modules (i + 1) (found ++ (t ∷ [])) after
-    process_judged name port vars body d e t after v r l = record {
+    process_judged name port vars body d e t after ns us of v r l = record {
+      named = map-append names_of found (t ∷ []) ∙ (ap₂ (λ a b. a ++ (b ∷ [])) j.named ns ∙ sym (kept-next names_written (Process name port vars body) d e));
+      numbered = map-append numbers_of found (t ∷ []) ∙ (ap₂ (λ a b. a ++ (b ∷ [])) j.numbered us ∙ sym (kept-next numbers_written (Process name port vars body) d e));
+      of = λ none p h. each p (none-before faults after r.own r.behind none) (of none) (in-append_cases p found (t ∷ []) h);
       processes = map-append typed_process_view found (t ∷ []) ∙ (ap₂ (λ a b. a ++ (b ∷ [])) j.processes (v ∙ m) ∙ (sym (map-append (process_meaning k.types.now (texts modules)) (texts (take i modules)) (q ∷ [])) ∙ ap (map (process_meaning k.types.now (texts modules))) (sym ts)));
       placed = subst (λ ps. ArePlaced k.types.now (texts modules) ps (places_from 0 (take (i + 1) modules))) (sym ts) (subst (λ xs. ArePlaced k.types.now (texts modules) (texts (take i modules) ++ (q ∷ [])) xs) (sym xs) (placed-more k.types.now (texts modules) (texts (take i modules)) (places_from 0 (take i modules)) q x j.placed placed));
       refusals = subst (λ ps. RefusesProcesses k.types.now (texts modules) [] ps (places_from 0 (take (i + 1) modules)) (map name_fault_view after)) (sym ts) (subst (λ xs. RefusesProcesses k.types.now (texts modules) [] (texts (take i modules) ++ (q ∷ [])) xs (map name_fault_view after)) (sym xs)
@@ -199,6 +229,11 @@ module _ (k : Known) (modules : List Module) (of : IsKnownOf k modules) where
           (refuses-more k.types.now (texts modules) [] (texts (take i modules)) (places_from 0 (take i modules)) q x (map name_fault_view faults) r.own j.placed j.refusals own)));
     }
       where
+        each : (p : TypedProcess) → faults ≡ [] → KnowsTypes k.types.now.shapes t → IsIn p found ⊎ IsIn p (t ∷ []) → KnowsTypes k.types.now.shapes p
+        each p none here (inl h) = j.of none p h
+        each p none here (inr (inl h)) = subst (KnowsTypes k.types.now.shapes) (sym h) here
+        each p none here (inr (inr h)) = absurd h
+
         q : ProcessText
         q = text_of name port vars.items body.items
 
@@ -226,20 +261,30 @@ module _ (k : Known) (modules : List Module) (of : IsKnownOf k modules) where
     -- the same for slices of the declarations and the body
     pub process_next : (name : Name) (port : Field) (vars : Vec Field Global) (body : Vec Stmt Global) (d : Module) → get_or modules i d ≡ Process name port vars body
         → (t : TypedProcess) (after : List NameFault) (number : ℕ) (vs : List Field) (bs : List Stmt) (news : List TypedProcess) → number ≡ length found → vs ≡ vars.items → bs ≡ body.items → news ≡ found ++ (t ∷ [])
+        → names_of t ≡ names_written name port vs bs → numbers_of t ≡ numbers_written name port vs bs → (after ≡ [] → KnowsTypes k.types.now.shapes t)
         → typed_process_view t ≡ process_within k port vs bs
         → AddsRefusals (map name_fault_view faults) (map name_fault_view after) k.types.now.shapes (process_within k port vs bs) (codes_within k number name port vs bs) (places_of i name port vs bs)
         → length (body_spans bs) ≡ numbers_of_block (process_within k port vs bs).body
         → AreJudged k modules (i + 1) news after
-    process_next name port vars body d e t after number vs bs news en ev eb es v r l =
+    process_next name port vars body d e t after number vs bs news en ev eb es ns us of v r l =
         let adds : ℕ → List Field → List Stmt → Type 0 = λ n vs bs. AddsRefusals (map name_fault_view faults) (map name_fault_view after) k.types.now.shapes (process_within k port vs bs) (codes_within k n name port vs bs) (places_of i name port vs bs) in
         let r' : adds (length found) vars.items body.items = subst (adds (length found) vars.items) eb (subst (λ vs. adds (length found) vs bs) ev (subst (λ n. adds n vs bs) en r)) in
         subst (λ f. AreJudged k modules (i + 1) f after) (sym es)
-        (process_judged name port vars body d e t after (v ∙ ap₂ (process_within k port) ev eb) r' (ap (λ bs. length (body_spans bs)) (sym eb) ∙ (l ∙ ap₂ (λ vs bs. numbers_of_block (process_within k port vs bs).body) ev eb)))
+        (process_judged name port vars body d e t after (ns ∙ ap₂ (names_written name port) ev eb) (us ∙ ap (numbers_written name port vs) eb) of (v ∙ ap₂ (process_within k port) ev eb) r' (ap (λ bs. length (body_spans bs)) (sym eb) ∙ (l ∙ ap₂ (λ vs bs. numbers_of_block (process_within k port vs bs).body) ev eb)))
 
   -- all modules
   module _ (found : List TypedProcess) (faults : List NameFault) (j : AreJudged k modules (length modules) found faults) where
     pub all_meant : map typed_process_view found ≡ meaning k.types.now (map module_view modules)
     all_meant = j.processes ∙ ap (λ ms. map (process_meaning k.types.now (texts modules)) (processes_in (map module_view ms))) (take-all modules)
+
+    pub all_named : map names_of found ≡ of_processes names_written modules
+    all_named = j.named ∙ ap (of_processes names_written) (take-all modules)
+
+    pub all_numbered : map numbers_of found ≡ of_processes numbers_written modules
+    all_numbered = j.numbered ∙ ap (of_processes numbers_written) (take-all modules)
+
+    pub all_known : (after : List NameFault) (own : List (Code × Place)) → map name_fault_view after ≡ map name_fault_view faults ++ own → after ≡ [] → KnowTypes k.types.now.shapes found
+    all_known after own e none = j.of (none-before faults after own e none)
 
     pub all_placed : ArePlaced k.types.now (texts modules) (texts modules) (places_from 0 modules)
     all_placed = subst (λ ms. ArePlaced k.types.now (texts modules) (processes_in (map module_view ms)) (places_from 0 ms)) (take-all modules) j.placed

@@ -11,4 +11,7 @@ pub mod ReachSizes
 pub mod Refusing
 pub mod Within
 pub mod WellFormed
+pub mod Entries
+pub mod KnownTypes
+pub mod Outcomes
 pub mod Judging

@@ -129,3 +129,14 @@ pub adds_same : (old new : Refusals) (t u : TypeTable) (p q : Process) (cs ds : 
     → AddsRefusals old new t p cs xs → AddsRefusals old new u q ds ys
 adds_same old new t u p q cs ds xs ys a e f g h =
     subst (λ t. AddsRefusals old new t q ds ys) a (subst (λ q. AddsRefusals old new t q ds ys) e (subst (λ ds. AddsRefusals old new t p ds ys) f (subst (λ ys. AddsRefusals old new t p cs ys) g h)))
+
+-- what adds no refusal has no code
+pub adds_none : (before after : Refusals) (t : TypeTable) (p : Process) (codes : List (Option Code)) (places : Places Place) → length (all_places places) ≡ length codes → AddsRefusals before after t p codes places → after ≡ [] → IsTrue (are_none codes)
+adds_none before after t p codes places l a e = by (are_none codes) refl a.refused
+  where
+    none : a.own ≡ []
+    none = let n = length-append before a.own in let b = ap length (sym e ∙ a.behind) in empty a.own (omega (arith, n, b))
+
+    by : (b : Bool) → are_none codes ≡ b → RefusesBy b t p codes places a.own → IsTrue (are_none codes)
+    by true h r = h
+    by false h r = none-at (all_places places) codes l (sym r ∙ none)

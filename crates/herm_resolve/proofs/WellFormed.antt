@@ -27,6 +27,11 @@ use Rattle.herm_naming.proofs.TypedForms.{at-more}
 use Rattle.herm_naming.proofs.Apart.{part-within, names-differ}
 use Rattle.herm_naming.proofs.KeptRules.{IsFaultless, faultless}
 use Rattle.herm_numbers.specs.declared.known.Known.{Known}
+use Rattle.herm_typed.specs.declared.statements.TypedStmt.{TypedStmt}
+use Rattle.herm_numbers.specs.Within.{all_statements, all_written}
+use Rattle.herm_resolve.specs.Entries.{typed_entry, written_entry}
+use Rattle.herm_resolve.specs.Kept.{HasTypes}
+use Rattle.herm_resolve.proofs.KnownTypes.{types_known}
 use Rattle.herm_resolve.specs.Judged.{scope_within, process_within, codes_within}
 
 count-arms : (s : Scope) (arms : Arms) → length (arm_names arms) ≡ count_blocks (arm_blocks s arms)
@@ -147,16 +152,25 @@ module _ (k : Known) (well : IsWellNamed k.types.now) (number : ℕ) (name : Nam
   each-none : (c : Option Code) → IsIn c (codes_within k number name port vars body) → c ≡ None
   each-none c i = none-in (codes_within k number name port vars body) none c i
 
-  types-there : (t : ℕ) → IsIn t (scope_within k port vars).types → IsType k.types.now.shapes t
-  types-there t (inl e) = subst (IsType k.types.now.shapes) (sym e) (type-there k.types.now true [] (field_view port) (each-none _ (inr (inl refl))))
-  types-there t (inr i) =
+  pub types_there : (t : ℕ) → IsIn t (scope_within k port vars).types → IsType k.types.now.shapes t
+  types_there t (inl e) = subst (IsType k.types.now.shapes) (sym e) (type-there k.types.now true [] (field_view port) (each-none _ (inr (inl refl))))
+  types_there t (inr i) =
       variables-there k.types.now (name_view port.name ∷ []) vars
       (λ c j. each-none c (inr (inr (in-append_left c (variable_codes k.types.now (name_view port.name ∷ []) (map field_view vars)) (statement_codes (scope_within k port vars) (stmts_view body)) j)))) t i
 
+  pub each_faultless : (y : Bool × Statement) → IsIn y (in_body false (stmts_view body)) → IsFaultless (scope_within k port vars) y.0 y.1
+  each_faultless y i =
+      faultless (scope_within k port vars) y.0 y.1
+      (each-none (statement_code (scope_within k port vars) y.0 y.1)
+      (inr (inr (in-append_right (statement_code (scope_within k port vars) y.0 y.1) (variable_codes k.types.now (name_view port.name ∷ []) (map field_view vars)) (statement_codes (scope_within k port vars) (stmts_view body))
+      (in-map (λ (y : Bool × Statement). statement_code (scope_within k port vars) y.0 y.1) y (in_body false (stmts_view body)) i)))))
+
   pub blocks_formed : IsWellFormedBlock (process_within k port vars body).body
-  blocks_formed =
-      well-body (scope_within k port vars) well types-there false (stmts_view body)
-      (λ x i. faultless (scope_within k port vars) x.0 x.1
-      (each-none (statement_code (scope_within k port vars) x.0 x.1)
-      (inr (inr (in-append_right (statement_code (scope_within k port vars) x.0 x.1) (variable_codes k.types.now (name_view port.name ∷ []) (map field_view vars)) (statement_codes (scope_within k port vars) (stmts_view body))
-      (in-map (λ (y : Bool × Statement). statement_code (scope_within k port vars) y.0 y.1) x (in_body false (stmts_view body)) i))))))
+  blocks_formed = well-body (scope_within k port vars) well types_there false (stmts_view body) each_faultless
+
+  -- each path of its statements has its type
+  pub kept_types : (s : Scope) → s ≡ scope_within k port vars → (ts : List TypedStmt) → map typed_entry (all_statements ts) ≡ map (written_entry s) (all_written body) → (variables : List ℕ) → variables ≡ (scope_within k port vars).types
+      → (t : TypedStmt) → IsIn t (all_statements ts) → HasTypes k.types.now.shapes variables t.form
+  kept_types s same ts e variables v t i =
+      subst (λ vs. HasTypes k.types.now.shapes vs t.form) (sym v)
+      (types_known (scope_within k port vars) well types_there ts body (subst (λ (s : Scope). map typed_entry (all_statements ts) ≡ map (written_entry s) (all_written body)) same e) each_faultless t i)

@@ -22,6 +22,7 @@ use Rattle.herm_numbers.specs.Faults.{Place, name_fault_view, codes_found, spans
 use Rattle.herm_numbers.specs.declared.fault.Judged.{Judged}
 use Rattle.herm_numbers.specs.declared.fault.NameFault.{NameFault}
 use Rattle.herm_numbers.specs.declared.known.Known.{Known}
+use Rattle.herm_resolve.specs.Kept.{of_processes, names_of, names_written, numbers_of, numbers_written, KnowTypes}
 use Rattle.herm_resolve.specs.Refused.{places_from}
 
 -- what is known of a program, over a table that keeps the rules of definitions
@@ -78,8 +79,12 @@ pub record IsKnownOf (k : Known) (modules : List Module) : Type 0 where
   pub names : k.processes ≡ map (λ q. q.name) (processes_in (map module_view modules))
   pub ports : map (λ t. t.0) k.ports.items ≡ map (λ q. type_number k.types.now q.port.1) (processes_in (map module_view modules))
 
--- So many first modules are judged: their processes by number, and the refusals of these.
+-- So many first modules are judged: their processes by number with what they keep of the text, and the refusals of these. Where there is
+-- none, each path has its type.
 pub record AreJudged (k : Known) (modules : List Module) (count : ℕ) (found : List TypedProcess) (faults : List NameFault) : Type 0 where
+  pub named : map names_of found ≡ of_processes names_written (take count modules)
+  pub numbered : map numbers_of found ≡ of_processes numbers_written (take count modules)
+  pub of : faults ≡ [] → KnowTypes k.types.now.shapes found
   pub processes : map typed_process_view found ≡ map (process_meaning k.types.now (processes_in (map module_view modules))) (processes_in (map module_view (take count modules)))
   pub placed : ArePlaced k.types.now (processes_in (map module_view modules)) (processes_in (map module_view (take count modules))) (places_from 0 (take count modules))
   pub refusals : RefusesProcesses k.types.now (processes_in (map module_view modules)) [] (processes_in (map module_view (take count modules))) (places_from 0 (take count modules)) (map name_fault_view faults)

@@ -3,3 +3,6 @@ pub mod Judged
 pub mod Refused
 -- Control through a part of the text.
 pub mod Reach
+-- What stands beside the meaning of a statement.
+pub mod Entries
+pub mod Kept

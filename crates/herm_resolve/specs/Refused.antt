@@ -14,6 +14,7 @@ use Rattle.herm_typed.specs.View.{typed_process_view}
 use Rattle.herm_numbers.specs.Faults.{Place, body_spans, name_fault_view}
 use Rattle.herm_numbers.specs.declared.fault.ResolveFault.{ResolveFault}
 use Rattle.herm_numbers.specs.declared.fault.ResolveFault.TheVariants.{Refused, Memory}
+use Rattle.herm_resolve.specs.Kept.{of_processes, names_of, names_written, numbers_of, numbers_written, KnowTypes}
 use Rattle.herm_resolve.specs.declared.program.Program.{Program}
 
 -- the places of a process of the module with this number
@@ -48,7 +49,10 @@ pub record HasRefusals (types : NamedTable) (modules : List Module) (refusals : 
   pub all : AreRefusalsOf types modules refusals
   pub some : refusals ≡ [] → ⊥
 
--- it is the program that modules mean
+-- It is the program that modules mean, with the names, the numbers and the places of the text, and the type of each path.
 pub record IsProgramOf (types : NamedTable) (modules : List Module) (p : Program) : Type 0 where
   pub processes : map typed_process_view p.processes.items ≡ meaning types (map module_view modules)
   pub main : p.main ≡ main_number (map module_view modules)
+  pub named : map names_of p.processes.items ≡ of_processes names_written modules
+  pub numbered : map numbers_of p.processes.items ≡ of_processes numbers_written modules
+  pub of : KnowTypes types.shapes p.processes.items

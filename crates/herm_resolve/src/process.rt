@@ -10,6 +10,7 @@ ghost use Rattle.herm_numbers.specs.Counts.{IsCounted};
 ghost use Rattle.herm_numbers.specs.Faults.{found_code_view, name_fault_view, spans_found, body_spans};
 ghost use Rattle.herm_resolve.specs.Judged.{IsReady, process_within, codes_within, found_codes, found_places, AddsRefusals};
 ghost use Rattle.herm_resolve.specs.Refused.{places_of};
+ghost use Rattle.herm_resolve.specs.Kept.{names_of, names_written, numbers_of, numbers_written, KnowsTypes};
 
 use crate::reach::unreached;
 use crate::statements::block;
@@ -194,6 +195,9 @@ pub fn process(
     requires ready { IsReady known.now }
     requires number { number ≤ length known.now.processes }
     ensures meaning { IfOk result (λ t. typed_process_view t ≡ process_within known.now port.now vars.now body.now) }
+    ensures named { IfOk result (λ t. names_of t ≡ names_written name.now port.now vars.now body.now) }
+    ensures numbered { IfOk result (λ t. numbers_of t ≡ numbers_written name.now port.now vars.now body.now) }
+    ensures of { IfOk result (λ t. faults.new.items ≡ [] → KnowsTypes known.now.types.now.shapes t) }
     ensures refused { OnOk result (AddsRefusals (map name_fault_view faults.old.items) (map name_fault_view faults.new.items) known.now.types.now.shapes (process_within known.now port.now vars.now body.now) (codes_within known.now number name.now port.now vars.now body.now) (places_of module_number name.now port.now vars.now body.now)) }
     ensures placed { OnOk result (length (body_spans body.now) ≡ numbers_of_block (process_within known.now port.now vars.now body.now).body) }
 {

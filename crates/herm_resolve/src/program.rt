@@ -10,6 +10,7 @@ ghost use Rattle.herm_typed.specs.View.{typed_process_view};
 ghost use Rattle.herm_numbers.specs.Faults.{name_fault_view};
 ghost use Rattle.herm_numbers.specs.View.{IsSized};
 ghost use Rattle.herm_resolve.specs.Judged.{IsReady, IsKnownOf, AreJudged, is_main_among};
+ghost use Rattle.herm_resolve.specs.Kept.{of_processes, names_of, names_written, numbers_of, numbers_written, KnowTypes};
 ghost use Rattle.herm_resolve.specs.Refused.{places_from, nowhere, AreRefusalsOf, IfRefused, HasRefusals, IsProgramOf};
 
 use crate::process::process;
@@ -133,6 +134,9 @@ fn judged(
     requires few { length modules.now < 2 ^ 32 }
     requires none { faults.old.items ≡ [] }
     ensures meaning { IfOk result (λ v. map typed_process_view v.items ≡ meaning known.now.types.now (map module_view modules.now)) }
+    ensures named { IfOk result (λ v. map names_of v.items ≡ of_processes names_written modules.now) }
+    ensures numbered { IfOk result (λ v. map numbers_of v.items ≡ of_processes numbers_written modules.now) }
+    ensures of { IfOk result (λ v. faults.new.items ≡ [] → KnowTypes known.now.types.now.shapes v.items) }
     ensures placed { OnOk result (ArePlaced known.now.types.now (processes_in (map module_view modules.now)) (processes_in (map module_view modules.now)) (places_from 0 modules.now)) }
     ensures refusals { OnOk result (AreRefusalsOf known.now.types.now modules.now (map name_fault_view faults.new.items)) }
 {

@@ -1,5 +1,5 @@
 //! Statements by number, and the code at each.
-ghost use Rattle.std.specs.Prelude.{◌≡◌, ◌<◌, ◌++◌, ◌∷◌, [], length, map, set, true, IfOk};
+ghost use Rattle.std.specs.Prelude.{◌≡◌, ◌<◌, ◌++◌, ◌∷◌, [], length, map, flat_map, set, true, IfOk};
 ghost use Rattle.herm_syntax.specs.Trees as trees;
 ghost use Rattle.herm_syntax.specs.ReadStatements.{arms_of, port_arms_of};
 ghost use Rattle.herm_syntax.specs.View.{path_form_view, name_view, stmt_form_view, stmts_view, expr_view};
@@ -10,6 +10,9 @@ ghost use Rattle.herm_typed.specs.View.{typed_path_view, typed_form_view};
 ghost use Rattle.herm_numbers.specs.View.{scope_view, number_of, IsKnown};
 ghost use Rattle.herm_numbers.specs.Faults.{found_code_view, codes_found, spans_found, spans_within, body_spans};
 ghost use Rattle.herm_numbers.specs.Statements.{meant, written, arm_view, port_arm_view, else_view, arms_meant, arms_written, handlers_meant, port_arms_meant, port_arms_written, else_meant, else_written, codes_of, body_codes, arms_codes, port_arms_codes, else_codes, all_spans, all_port_spans, else_spans};
+ghost use Rattle.herm_numbers.specs.Within.{statements_within, written_within, items_of};
+ghost use Rattle.herm_numbers.specs.Beside.{types_beside, types_seen, port_arm_types, port_arm_seen};
+ghost use Rattle.herm_resolve.specs.Entries.{typed_entry, written_entry, typed_entries, written_entries};
 
 use herm_base::{ExcNo, Name};
 use herm_numbers as forms;
@@ -45,6 +48,7 @@ fn case_arms(
     ensures meaning { IfOk result (λ r. arms_meant r.items ≡ arms_written (scope_view scope.now) (part_number scope.now.types.now (type_seen (scope_view scope.now) (typed_path_view v.now))) arms.now) }
     ensures codes { IfOk result (λ r. codes_found found.new.items ≡ codes_found found.old.items ++ arms_codes (scope_view scope.now) in_loop arms.now) }
     ensures spans { IfOk result (λ r. spans_found found.new.items ≡ spans_found found.old.items ++ all_spans arms.now) }
+    ensures entries { IfOk result (λ r. map (λ a. map typed_entries a.1.items) r.items ≡ map (λ a. map (written_entries (scope_view scope.now)) a.1.items) arms.now) }
 {
     let mut done = Vec::new(alloc);
     'arms: for (name, body) in arms {
@@ -68,6 +72,7 @@ fn handlers(
     ensures meaning { IfOk result (λ r. handlers_meant r.items ≡ arms_written (scope_view scope.now) (exception_number scope.now.types.now) arms.now) }
     ensures codes { IfOk result (λ r. codes_found found.new.items ≡ codes_found found.old.items ++ arms_codes (scope_view scope.now) in_loop arms.now) }
     ensures spans { IfOk result (λ r. spans_found found.new.items ≡ spans_found found.old.items ++ all_spans arms.now) }
+    ensures entries { IfOk result (λ r. map (λ a. map typed_entries a.1.items) r.items ≡ map (λ a. map (written_entries (scope_view scope.now)) a.1.items) arms.now) }
 {
     let mut done = Vec::new(alloc);
     'arms: for (name, body) in arms {
@@ -91,6 +96,8 @@ fn port_arms(
     ensures meaning { IfOk result (λ r. port_arms_meant r.items ≡ port_arms_written (scope_view scope.now) arms.now) }
     ensures codes { IfOk result (λ r. codes_found found.new.items ≡ codes_found found.old.items ++ port_arms_codes (scope_view scope.now) in_loop arms.now) }
     ensures spans { IfOk result (λ r. spans_found found.new.items ≡ spans_found found.old.items ++ all_port_spans arms.now) }
+    ensures entries { IfOk result (λ r. map (λ a. map typed_entries a.2.items) r.items ≡ map (λ a. map (written_entries (scope_view scope.now)) a.2.items) arms.now) }
+    ensures types { IfOk result (λ r. map port_arm_types r.items ≡ map (port_arm_seen (scope_view scope.now)) r.items) }
 {
     let mut done = Vec::new(alloc);
     'arms: for (port, target, body) in arms {
@@ -113,6 +120,7 @@ fn otherwise(
     ensures meaning { IfOk result (λ r. else_meant r ≡ else_written (scope_view scope.now) other.now) }
     ensures codes { IfOk result (λ r. codes_found found.new.items ≡ codes_found found.old.items ++ else_codes (scope_view scope.now) in_loop other.now) }
     ensures spans { IfOk result (λ r. spans_found found.new.items ≡ spans_found found.old.items ++ else_spans other.now) }
+    ensures entries { IfOk result (λ r. map typed_entries (items_of r) ≡ map (written_entries (scope_view scope.now)) (items_of other.now)) }
 {
     match other {
         None => Ok(None),
@@ -136,6 +144,8 @@ fn case_form(
     ensures meaning { IfOk result (λ f. typed_form_view f ≡ statement_number (scope_view scope.now) (trees.Case (path_form_view v.now) (arms_of (map arm_view arms.now)))) }
     ensures codes { IfOk result (λ f. codes_found found.new.items ≡ codes_found found.old.items ++ arms_codes (scope_view scope.now) in_loop arms.now) }
     ensures spans { IfOk result (λ f. spans_found found.new.items ≡ spans_found found.old.items ++ all_spans arms.now) }
+    ensures entries { IfOk result (λ f. map typed_entry (statements_within f) ≡ flat_map (λ a. flat_map (written_entries (scope_view scope.now)) a.1.items) arms.now) }
+    ensures types { IfOk result (λ f. types_beside f ≡ types_seen (scope_view scope.now) (typed_form_view f)) }
 {
     let v = path(alloc, scope, v)?;
     let arms = case_arms(alloc, scope, in_loop, &v, arms, found)?;
@@ -143,6 +153,7 @@ fn case_form(
 }
 
 #[cycle(statements)]
+#[tactic(auto, using(herm_numbers::proofs::Beside::select_beside))]
 fn select_form(
     alloc: Global,
     scope: &Scope,
@@ -154,6 +165,8 @@ fn select_form(
     ensures meaning { IfOk result (λ f. typed_form_view f ≡ statement_number (scope_view scope.now) (trees.Select (port_arms_of (map port_arm_view arms.now)))) }
     ensures codes { IfOk result (λ f. codes_found found.new.items ≡ codes_found found.old.items ++ port_arms_codes (scope_view scope.now) in_loop arms.now) }
     ensures spans { IfOk result (λ f. spans_found found.new.items ≡ spans_found found.old.items ++ all_port_spans arms.now) }
+    ensures entries { IfOk result (λ f. map typed_entry (statements_within f) ≡ flat_map (λ a. flat_map (written_entries (scope_view scope.now)) a.2.items) arms.now) }
+    ensures types { IfOk result (λ f. types_beside f ≡ types_seen (scope_view scope.now) (typed_form_view f)) }
 {
     let arms = port_arms(alloc, scope, in_loop, arms, found)?;
     Ok(TypedForm::Select(arms))
@@ -172,6 +185,8 @@ fn for_form(
     ensures meaning { IfOk result (λ f. typed_form_view f ≡ statement_number (scope_view scope.now) (trees.For (path_form_view r.now) (path_form_view t.now) (stmts_view body.now))) }
     ensures codes { IfOk result (λ f. codes_found found.new.items ≡ codes_found found.old.items ++ body_codes (scope_view scope.now) true body.now) }
     ensures spans { IfOk result (λ f. spans_found found.new.items ≡ spans_found found.old.items ++ body_spans body.now) }
+    ensures entries { IfOk result (λ f. map typed_entry (statements_within f) ≡ flat_map (written_entries (scope_view scope.now)) body.now) }
+    ensures types { IfOk result (λ f. types_beside f ≡ types_seen (scope_view scope.now) (typed_form_view f)) }
 {
     let r = path(alloc, scope, r)?;
     let t = path(alloc, scope, t)?;
@@ -191,6 +206,8 @@ fn while_form(
     ensures meaning { IfOk result (λ f. typed_form_view f ≡ statement_number (scope_view scope.now) (trees.While (expr_view e.now) (stmts_view body.now))) }
     ensures codes { IfOk result (λ f. codes_found found.new.items ≡ codes_found found.old.items ++ body_codes (scope_view scope.now) true body.now) }
     ensures spans { IfOk result (λ f. spans_found found.new.items ≡ spans_found found.old.items ++ body_spans body.now) }
+    ensures entries { IfOk result (λ f. map typed_entry (statements_within f) ≡ flat_map (written_entries (scope_view scope.now)) body.now) }
+    ensures types { IfOk result (λ f. types_beside f ≡ types_seen (scope_view scope.now) (typed_form_view f)) }
 {
     let e = expression(alloc, scope, e)?;
     let body = block(alloc, scope, true, body, found)?;
@@ -212,6 +229,8 @@ fn if_form(
     ensures meaning { IfOk result (λ f. typed_form_view f ≡ statement_number (scope_view scope.now) (trees.If (expr_view e.now) (stmts_view body.now) (else_view other.now))) }
     ensures codes { IfOk result (λ f. codes_found found.new.items ≡ codes_found found.old.items ++ (body_codes (scope_view scope.now) in_loop body.now ++ else_codes (scope_view scope.now) in_loop other.now)) }
     ensures spans { IfOk result (λ f. spans_found found.new.items ≡ spans_found found.old.items ++ (body_spans body.now ++ else_spans other.now)) }
+    ensures entries { IfOk result (λ f. map typed_entry (statements_within f) ≡ flat_map (written_entries (scope_view scope.now)) body.now ++ flat_map (written_entries (scope_view scope.now)) (items_of other.now)) }
+    ensures types { IfOk result (λ f. types_beside f ≡ types_seen (scope_view scope.now) (typed_form_view f)) }
 {
     let e = expression(alloc, scope, e)?;
     let body = block(alloc, scope, in_loop, body, found)?;
@@ -233,6 +252,8 @@ fn try_form(
     ensures meaning { IfOk result (λ f. typed_form_view f ≡ statement_number (scope_view scope.now) (trees.Try (stmts_view body.now) (arms_of (map arm_view handled.now)))) }
     ensures codes { IfOk result (λ f. codes_found found.new.items ≡ codes_found found.old.items ++ (body_codes (scope_view scope.now) in_loop body.now ++ arms_codes (scope_view scope.now) in_loop handled.now)) }
     ensures spans { IfOk result (λ f. spans_found found.new.items ≡ spans_found found.old.items ++ (body_spans body.now ++ all_spans handled.now)) }
+    ensures entries { IfOk result (λ f. map typed_entry (statements_within f) ≡ flat_map (written_entries (scope_view scope.now)) body.now ++ flat_map (λ a. flat_map (written_entries (scope_view scope.now)) a.1.items) handled.now) }
+    ensures types { IfOk result (λ f. types_beside f ≡ types_seen (scope_view scope.now) (typed_form_view f)) }
 {
     let body = block(alloc, scope, in_loop, body, found)?;
     let handled = handlers(alloc, scope, in_loop, handled, found)?;
@@ -253,6 +274,8 @@ fn form(
     ensures meaning { IfOk result (λ f. typed_form_view f ≡ statement_number (scope_view scope.now) (stmt_form_view form.now)) }
     ensures codes { IfOk result (λ f. codes_found found.new.items ≡ codes_found found.old.items ++ codes_of (scope_view scope.now) (within in_loop (stmt_form_view form.now))) }
     ensures spans { IfOk result (λ f. spans_found found.new.items ≡ spans_found found.old.items ++ spans_within form.now) }
+    ensures entries { IfOk result (λ f. map typed_entry (statements_within f) ≡ map (written_entry (scope_view scope.now)) (written_within form.now)) }
+    ensures types { IfOk result (λ f. types_beside f ≡ types_seen (scope_view scope.now) (typed_form_view f)) }
 {
     match form {
         StmtForm::Assign(x, e) => {
@@ -381,6 +404,7 @@ fn statement(
     ensures meaning { IfOk result (λ t. meant (t ∷ []) ≡ written (scope_view scope.now) (s.now ∷ [])) }
     ensures codes { IfOk result (λ t. codes_found found.new.items ≡ codes_found found.old.items ++ body_codes (scope_view scope.now) in_loop (s.now ∷ [])) }
     ensures spans { IfOk result (λ t. spans_found found.new.items ≡ spans_found found.old.items ++ body_spans (s.now ∷ [])) }
+    ensures entries { IfOk result (λ t. typed_entries t ≡ written_entries (scope_view scope.now) s.now) }
 {
     let place = found.len();
     found.push(Judged {
@@ -411,6 +435,7 @@ pub fn block(
     ensures meaning { IfOk result (λ r. meant r.items ≡ written (scope_view scope.now) list.now) }
     ensures codes { IfOk result (λ r. codes_found found.new.items ≡ codes_found found.old.items ++ body_codes (scope_view scope.now) in_loop list.now) }
     ensures spans { IfOk result (λ r. spans_found found.new.items ≡ spans_found found.old.items ++ body_spans list.now) }
+    ensures entries { IfOk result (λ r. map typed_entries r.items ≡ map (written_entries (scope_view scope.now)) list.now) }
 {
     let mut done = Vec::new(alloc);
     'statements: for s in list {

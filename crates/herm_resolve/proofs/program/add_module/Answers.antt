@@ -18,5 +18,5 @@ returns-in_ok-push-in-Process c = record {
       c.in-Process.name c.in-Process.port c.in-Process.vars c.in-Process.body c.index-modules-place.result (sym c.index-modules-place.is ∙ c.in-Process.is)
       c.in_ok-next-in-Process.next c.process.new.faults.items c.len-number.result c.as_slice-vars.result.now c.as_slice-body.result.now c.push.new.self.items
       (omega (arith, c.len-number.ensures)) c.as_slice-vars.ensures.value c.as_slice-body.ensures.value c.in_ok-push-in-Process.ensures.items
-      c.in_ok-next-in-Process.ensures.meaning c.in_ok-next-in-Process.ensures.refused c.in_ok-next-in-Process.ensures.placed;
+      c.in_ok-next-in-Process.ensures.named c.in_ok-next-in-Process.ensures.numbered c.in_ok-next-in-Process.ensures.of c.in_ok-next-in-Process.ensures.meaning c.in_ok-next-in-Process.ensures.refused c.in_ok-next-in-Process.ensures.placed;
 }

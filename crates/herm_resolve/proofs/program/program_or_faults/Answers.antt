@@ -20,3 +20,15 @@ returns-clause-typed c =
     subst (λ ps. IsTypedProgram (length T.exceptions) T.shapes ps c.number-main.result) (sym c.in_ok-processes.ensures.meaning)
     (subst (λ m. IsTypedProgram (length T.exceptions) T.shapes (meaning T ms) m) (sym main)
     (unrefused-typed T ms (places_from 0 c.args.modules.now) nowhere c.requires.ready.well c.in_ok-processes.ensures.placed refusals))
+
+pub returns-clause-program : goal.returns-clause-program
+returns-clause-program c =
+    let z = eqb-true _ 0 (sym c.is_empty.ensures ∙ c.if-not-is_empty.false) in
+    let none : c.judged.new.faults.items ≡ [] = empty c.judged.new.faults.items (omega (arith, z)) in
+    record {
+      processes = c.in_ok-processes.ensures.meaning;
+      main = c.number-main.ensures ∙ ap (place_of main_name) c.requires.of.names;
+      named = c.in_ok-processes.ensures.named;
+      numbered = c.in_ok-processes.ensures.numbered;
+      of = c.in_ok-processes.ensures.of none;
+    }

@@ -1,4 +1,4 @@
-use Rattle.std.proofs.Common.{◌≡◌, ◌<◌, ◌++◌, ◌∷◌, [], map, length, None, true, sym, ap, ap₂, ◌∙◌, arith}
+use Rattle.std.proofs.Common.{◌≡◌, ◌<◌, ◌++◌, ◌∷◌, [], map, flat_map, length, None, true, sym, ap, ap₂, ◌∙◌, arith}
 use Rattle.std.proofs.lemmas.List.{length-map, map-append}
 use Rattle.herm_syntax.specs.Trees as trees
 use Rattle.herm_syntax.specs.ReadStatements.{arms_of, port_arms_of}
@@ -12,6 +12,9 @@ use Rattle.herm_numbers.specs.Statements.{arm_view, port_arm_view, else_view, co
 use Rattle.herm_numbers.proofs.Written.{case_seen, case_codes, case_spans, for_seen, for_codes, for_spans, select_seen, select_codes, select_spans, if_seen, if_codes, if_spans, while_seen, while_codes, while_spans, try_seen, try_codes, try_spans}
 use Rattle.herm_resolve.proofs.Meant.{case_meaning, for_meaning, select_meaning, if_meaning, while_meaning, try_meaning}
 use Rattle.herm_resolve.proofs.Joined.{number_by, codes_by, spans_by}
+use Rattle.herm_numbers.specs.Within.{items_of}
+use Rattle.herm_resolve.specs.Entries.{written_entries}
+use Rattle.herm_resolve.proofs.Entries.{case_entries, select_entries, for_entries, while_entries, if_entries, try_entries, case_texts, select_texts, for_texts, while_texts, if_texts, try_texts, entries_by}
 use Rattle.herm_resolve.proofs.Placed.{coded, is_placed}
 use Rattle.herm_resolve.proofs.statements.+statements.Goals as goal
 
@@ -25,10 +28,10 @@ pub select_form-returns-clause-meaning : goal.select_form-returns-clause-meaning
 select_form-returns-clause-meaning t c = select_meaning (scope_view c.args.scope.now) c.in_ok-arms.arms c.args.arms.now c.in_ok-arms.ensures.meaning
 
 pub if_form-returns-clause-meaning : goal.if_form-returns-clause-meaning
-if_form-returns-clause-meaning t c = if_meaning (scope_view c.args.scope.now) c.in_ok-e.e c.in_ok-body.body c.in_ok-other.other (expr_view c.args.e.now) c.args.body.now c.args.other.now c.in_ok-e.ensures c.in_ok-body.ensures.meaning c.in_ok-other.ensures.meaning
+if_form-returns-clause-meaning t c = if_meaning (scope_view c.args.scope.now) c.in_ok-e.e c.in_ok-body.body c.in_ok-other.other (expr_view c.args.e.now) c.args.body.now c.args.other.now c.in_ok-e.ensures.meaning c.in_ok-body.ensures.meaning c.in_ok-other.ensures.meaning
 
 pub while_form-returns-clause-meaning : goal.while_form-returns-clause-meaning
-while_form-returns-clause-meaning t c = while_meaning (scope_view c.args.scope.now) c.in_ok-e.e c.in_ok-body.body (expr_view c.args.e.now) c.args.body.now c.in_ok-e.ensures c.in_ok-body.ensures.meaning
+while_form-returns-clause-meaning t c = while_meaning (scope_view c.args.scope.now) c.in_ok-e.e c.in_ok-body.body (expr_view c.args.e.now) c.args.body.now c.in_ok-e.ensures.meaning c.in_ok-body.ensures.meaning
 
 pub try_form-returns-clause-meaning : goal.try_form-returns-clause-meaning
 try_form-returns-clause-meaning t c = try_meaning (scope_view c.args.scope.now) c.in_ok-body.body c.in_ok-handled.handled c.args.body.now c.args.handled.now c.in_ok-body.ensures.meaning c.in_ok-handled.ensures.meaning
@@ -125,3 +128,39 @@ form-try_form-requires t c =
     let e : length (spans_within c.args.form.now) ≡ length (body_spans c.as_slice-try_list.result.now ++ all_spans c.as_slice-handlers_list.result.now) =
     ap (λ x. length (spans_within x)) c.in-Try.is ∙ (ap length (try_spans c.in-Try.body c.in-Try.handled) ∙ ap₂ (λ list arms. length (body_spans list ++ all_spans arms)) (sym c.as_slice-try_list.ensures.value) (sym c.as_slice-handlers_list.ensures.value)) in
     (omega (arith, e, c.decreases), c.requires.known)
+
+pub case_form-returns-clause-entries : goal.case_form-returns-clause-entries
+case_form-returns-clause-entries t c = case_entries (scope_view c.args.scope.now) c.in_ok-v.v c.in_ok-arms.arms c.args.arms.now c.in_ok-arms.ensures.entries
+
+pub select_form-returns-clause-entries : goal.select_form-returns-clause-entries
+select_form-returns-clause-entries t c = select_entries (scope_view c.args.scope.now) c.in_ok-arms.arms c.args.arms.now c.in_ok-arms.ensures.entries
+
+pub for_form-returns-clause-entries : goal.for_form-returns-clause-entries
+for_form-returns-clause-entries t c = for_entries (scope_view c.args.scope.now) c.in_ok-r.r c.in_ok-t.t c.in_ok-body.body c.args.body.now c.in_ok-body.ensures.entries
+
+pub while_form-returns-clause-entries : goal.while_form-returns-clause-entries
+while_form-returns-clause-entries t c = while_entries (scope_view c.args.scope.now) c.in_ok-e.e c.in_ok-body.body c.args.body.now c.in_ok-body.ensures.entries
+
+pub if_form-returns-clause-entries : goal.if_form-returns-clause-entries
+if_form-returns-clause-entries t c = if_entries (scope_view c.args.scope.now) c.in_ok-e.e c.in_ok-body.body c.in_ok-other.other c.args.body.now c.args.other.now c.in_ok-body.ensures.entries c.in_ok-other.ensures.entries
+
+pub try_form-returns-clause-entries : goal.try_form-returns-clause-entries
+try_form-returns-clause-entries t c = try_entries (scope_view c.args.scope.now) c.in_ok-body.body c.in_ok-handled.handled c.args.body.now c.args.handled.now c.in_ok-body.ensures.entries c.in_ok-handled.ensures.entries
+
+pub form-returns-in_ok-f-in-Case-clause-entries : goal.form-returns-in_ok-f-in-Case-clause-entries
+form-returns-in_ok-f-in-Case-clause-entries t c = entries_by (scope_view c.args.scope.now) c.args.form.now (Case c.in-Case.v c.in-Case.arms) _ _ c.in-Case.is (case_texts (scope_view c.args.scope.now) c.in-Case.v c.in-Case.arms ∙ ap (flat_map (λ a. flat_map (written_entries (scope_view c.args.scope.now)) a.1.items)) (sym c.as_slice-case_list.ensures.value)) c.in_ok-f-in-Case.ensures.entries
+
+pub form-returns-in_ok-f-in-For-clause-entries : goal.form-returns-in_ok-f-in-For-clause-entries
+form-returns-in_ok-f-in-For-clause-entries t c = entries_by (scope_view c.args.scope.now) c.args.form.now (For c.in-For.r c.in-For.t c.in-For.body) _ _ c.in-For.is (for_texts (scope_view c.args.scope.now) c.in-For.r c.in-For.t c.in-For.body ∙ ap (flat_map (written_entries (scope_view c.args.scope.now))) (sym c.as_slice-for_list.ensures.value)) c.in_ok-f-in-For.ensures.entries
+
+pub form-returns-in_ok-f-in-Select-clause-entries : goal.form-returns-in_ok-f-in-Select-clause-entries
+form-returns-in_ok-f-in-Select-clause-entries t c = entries_by (scope_view c.args.scope.now) c.args.form.now (Select c.in-Select.arms) _ _ c.in-Select.is (select_texts (scope_view c.args.scope.now) c.in-Select.arms ∙ ap (flat_map (λ a. flat_map (written_entries (scope_view c.args.scope.now)) a.2.items)) (sym c.as_slice-ports.ensures.value)) c.in_ok-f-in-Select.ensures.entries
+
+pub form-returns-in_ok-f-in-If-clause-entries : goal.form-returns-in_ok-f-in-If-clause-entries
+form-returns-in_ok-f-in-If-clause-entries t c = entries_by (scope_view c.args.scope.now) c.args.form.now (If c.in-If.e c.in-If.body c.in-If.other) _ _ c.in-If.is (if_texts (scope_view c.args.scope.now) c.in-If.e c.in-If.body c.in-If.other ∙ ap (λ list. flat_map (written_entries (scope_view c.args.scope.now)) list ++ flat_map (written_entries (scope_view c.args.scope.now)) (items_of c.in-If.other)) (sym c.as_slice-if_list.ensures.value)) c.in_ok-f-in-If.ensures.entries
+
+pub form-returns-in_ok-f-in-While-clause-entries : goal.form-returns-in_ok-f-in-While-clause-entries
+form-returns-in_ok-f-in-While-clause-entries t c = entries_by (scope_view c.args.scope.now) c.args.form.now (While c.in-While.e c.in-While.body) _ _ c.in-While.is (while_texts (scope_view c.args.scope.now) c.in-While.e c.in-While.body ∙ ap (flat_map (written_entries (scope_view c.args.scope.now))) (sym c.as_slice-while_list.ensures.value)) c.in_ok-f-in-While.ensures.entries
+
+pub form-returns-in_ok-f-in-Try-clause-entries : goal.form-returns-in_ok-f-in-Try-clause-entries
+form-returns-in_ok-f-in-Try-clause-entries t c = entries_by (scope_view c.args.scope.now) c.args.form.now (Try c.in-Try.body c.in-Try.handled) _ _ c.in-Try.is (try_texts (scope_view c.args.scope.now) c.in-Try.body c.in-Try.handled ∙ ap₂ (λ list arms. flat_map (written_entries (scope_view c.args.scope.now)) list ++ flat_map (λ a. flat_map (written_entries (scope_view c.args.scope.now)) a.1.items) arms) (sym c.as_slice-try_list.ensures.value) (sym c.as_slice-handlers_list.ensures.value)) c.in_ok-f-in-Try.ensures.entries
