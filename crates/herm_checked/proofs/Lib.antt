@@ -5,3 +5,5 @@ pub mod SourceKeeps
 pub mod FirstMessages
 pub mod SourceBegins
 pub mod CheckedRuns
+pub mod ReadyLabels
+pub mod ReadyPrograms

@@ -3,3 +3,4 @@
 #![tactic(auto)]
 
 pub mod checked_runs;
+pub mod running_programs;

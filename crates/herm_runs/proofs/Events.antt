@@ -115,7 +115,7 @@ then-run : {P : Type 0} (machine : Machine Name P) (o : Option (Round P)) (next 
 then-run machine None next r t first rest e = none-not_some e
 then-run machine (Some u) next r t first rest e = both-runs machine r.run u.run t.run (first u refl) (rest u e)
 
-turns-run : {P : Type 0} (n : ℕ) (machine : Machine Name P) (p : ℕ) (r t : Round P) → turns n machine p r ≡ Some t → IsRunBetween machine r.run t.run
+pub turns-run : {P : Type 0} (n : ℕ) (machine : Machine Name P) (p : ℕ) (r t : Round P) → turns n machine p r ≡ Some t → IsRunBetween machine r.run t.run
 turns-run zero machine p r t e = ([], ap (λ o. option_map (λ (x : Round _). x.run) o) e)
 turns-run (suc n) machine p r t e =
     then-run machine (after_turn machine (turn machine r.run.system p) r) (turns n machine (suc p)) r t (turn-run machine (turn machine r.run.system p) r) (λ u. turns-run n machine (suc p) u t) e

@@ -1,0 +1,75 @@
+-- Programs in the middle of their runs, and a ring of three processes as a term.
+use Rattle.std.specs.Prelude.{◌≡◌, ℕ, List, [], ◌∷◌, ◌++◌, Bool, Some, length, IsTrue}
+use Rattle.herm_model.specs.ControlPaths.{Flow}
+use Rattle.herm_model.specs.Expressions.{copy, operation, plus, decimal}
+use Rattle.herm_model.specs.Labels.{Labels, AreExact}
+use Rattle.herm_model.specs.Outcomes.{overflow}
+use Rattle.herm_model.specs.Paths.{Fact}
+use Rattle.herm_model.specs.Statements.{Assign, Connect, Create, New, Raise, Receive, Send, Statement, simple}
+use Rattle.herm_model.specs.Types.{TypeTable, predefined, fields, inport, outport}
+use Rattle.herm_model.specs.ControlPaths.{flow_of}
+use Rattle.herm_model.specs.Values.{Name}
+use Rattle.herm_journal.specs.PlaceStates.{Limits}
+use Rattle.herm_system.specs.Systems.{Run, start}
+use Rattle.herm_source.specs.Checked.{IsChecked}
+use Rattle.herm_source.specs.Instance.{source}
+use Rattle.herm_source.specs.Modules.{Program}
+use Rattle.herm_source.specs.States.{State}
+use Rattle.herm_source.specs.examples.CountExamples.{behind_rounds}
+use Rattle.herm_source.specs.examples.Programs.{variable, part_in, a_number, process_of, receives_start, says}
+use Rattle.herm_source.specs.examples.RunExamples.{ready_program}
+use Rattle.herm_checked.specs.laws.CheckedRuns.{IsSoundAndReached}
+
+-- The program made ready is checked; and its run, with an empty argument, has so many entries behind so many rounds, and its state
+-- there is sound.
+abbrev pub IsReady : (exceptions : ℕ) → Program → Type 0
+IsReady exceptions program = IsChecked exceptions program (ready_program program)
+
+abbrev pub IsSoundBehind : Program → Limits → (rounds entries : ℕ) → Type 0
+IsSoundBehind program limits n entries =
+    (r : Run (State Name)) × (behind_rounds n (source (ready_program program)) (start (source (ready_program program)) limits []) ≡ Some r) × (length r.journal ≡ entries)
+    × IsSoundAndReached program (ready_program program) r.system
+
+-- type li = inport of integer;  type lo = outport of li;  type boot = record { mine: li, next: lo };
+-- type boot_in = inport of boot;  type boot_out = outport of boot_in;
+-- process member(start: boot_in) {
+--   var b: boot, n: integer;
+--   receive b from start; receive n from b.mine; n := n + 1; send n to b.next;
+-- }
+-- process main(start: main_start) {
+--   var m: main_message, a: li, o: lo, b: boot, p: boot_out, n: integer, s: string;
+--   receive m from start; new a; connect o to a;
+--   three times: new b; b.next := o; new b.mine; connect o to b.mine; create p of member; send b to p;
+--   n := 0; send n to o; receive n from a; s := text(n); send s to m.out;
+-- }
+abbrev pub ring_types : TypeTable
+ring_types = inport 1 [] ∷ outport 8 ∷ fields (8 ∷ 9 ∷ []) ∷ inport 10 [] ∷ outport 11 ∷ []
+
+abbrev pub adds_member : List Statement
+adds_member =
+    simple (New (variable 4)) ∷ simple (Assign (part_in 4 1) (copy (variable 3))) ∷ simple (New (part_in 4 0)) ∷ simple (Connect (variable 3) (part_in 4 0))
+    ∷ simple (Create (variable 5) 0) ∷ simple (Send (variable 4) (variable 5)) ∷ []
+
+abbrev pub ring_of_three : Program
+ring_of_three = record {
+  types = predefined ++ ring_types;
+  processes =
+      process_of (11 ∷ 10 ∷ 1 ∷ []) (
+      receives_start ∷ simple (Receive (variable 2) (part_in 1 0)) ∷ simple (Assign (variable 2) (operation plus (copy (variable 2)) (a_number 1)))
+      ∷ simple (Send (variable 2) (part_in 1 1)) ∷ [])
+      ∷ process_of (7 ∷ 6 ∷ 8 ∷ 9 ∷ 10 ∷ 12 ∷ 1 ∷ 2 ∷ []) (
+      receives_start ∷ simple (New (variable 2)) ∷ simple (Connect (variable 3) (variable 2))
+      ∷ (adds_member ++ (adds_member ++ (adds_member ++
+      simple (Assign (variable 6) (a_number 0)) ∷ simple (Send (variable 6) (variable 3)) ∷ simple (Receive (variable 6) (variable 2))
+      ∷ simple (Assign (variable 7) (decimal (copy (variable 6)))) ∷ says 7 ∷ []))))
+      ∷ [];
+  main = 1;
+}
+
+-- a process p(start: main_start) { var n: integer; raise Overflow; n := 1; }, whose second statement no control path reaches
+abbrev pub past_a_raise : Flow
+past_a_raise = flow_of predefined (process_of (7 ∷ 1 ∷ []) (simple (Raise overflow) ∷ simple (Assign (variable 1) (a_number 1)) ∷ []))
+
+-- Labels that are exact for the flow may say anything at a place: each fact is said there, or is not, as one likes.
+abbrev pub IsFreeAt : Flow → ℕ → Type 0
+IsFreeAt flow i = (b : Bool) → (labels : Labels) × AreExact flow labels × ((f : Fact) → labels i f ≡ b)

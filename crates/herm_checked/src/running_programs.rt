@@ -1,0 +1,28 @@
+// Programs in the middle of their runs: the laws of checked programs, applied to states that are computed.
+
+ghost use Rattle.herm_checked.specs.examples.RunningPrograms.{IsFreeAt, IsReady, IsSoundBehind, past_a_raise, ring_of_three};
+ghost use Rattle.herm_source.specs.examples.CallPrograms.{calls_both_ways, kept_parameter};
+ghost use Rattle.herm_source.specs.examples.Programs.{two_senders};
+ghost use Rattle.herm_source.specs.examples.RunExamples.{limited};
+
+/// A ring of three processes, two senders with three items, two processes that call each other, and an exception with a parameter that
+/// it keeps are typed and accepted, with the labels that three rounds find: these are exact.
+pub fn programs_are_ready()
+    ensures ring { IsReady 7 ring_of_three }
+    ensures senders { IsReady 7 (two_senders 3) }
+    ensures both { IsReady 7 calls_both_ways }
+    ensures kept { IsReady 8 kept_parameter }
+{}
+
+/// In the middle of the run of each the state is sound.
+pub fn states_in_the_middle_are_sound()
+    ensures ring { IsSoundBehind ring_of_three (limited 1000 4 8) 24 0 }
+    ensures senders { IsSoundBehind (two_senders 3) (limited 1000 4 4) 12 0 }
+    ensures both { IsSoundBehind calls_both_ways (limited 1000 4 8) 8 0 }
+    ensures kept { IsSoundBehind kept_parameter (limited 1000 4 4) 5 0 }
+{}
+
+/// Where no control path leads, labels are free: exact ones may say every fact there, or none.
+pub fn labels_past_a_raise_are_free()
+    ensures free { IsFreeAt past_a_raise 1 }
+{}
