@@ -7,3 +7,4 @@ pub mod SourceBegins
 pub mod CheckedRuns
 pub mod ReadyLabels
 pub mod ReadyPrograms
+pub mod RunningPrograms

@@ -16,10 +16,10 @@ pub fn programs_are_ready()
 
 /// In the middle of the run of each the state is sound.
 pub fn states_in_the_middle_are_sound()
-    ensures ring { IsSoundBehind ring_of_three (limited 1000 4 8) 24 0 }
-    ensures senders { IsSoundBehind (two_senders 3) (limited 1000 4 4) 12 0 }
-    ensures both { IsSoundBehind calls_both_ways (limited 1000 4 8) 8 0 }
-    ensures kept { IsSoundBehind kept_parameter (limited 1000 4 4) 5 0 }
+    ensures ring { IsSoundBehind ring_of_three (limited 1000 4 8) 24 16 }
+    ensures senders { IsSoundBehind (two_senders 3) (limited 1000 4 4) 12 6 }
+    ensures both { IsSoundBehind calls_both_ways (limited 1000 4 8) 10 7 }
+    ensures kept { IsSoundBehind kept_parameter (limited 1000 4 4) 5 4 }
 {}
 
 /// Where no control path leads, labels are free: exact ones may say every fact there, or none.
