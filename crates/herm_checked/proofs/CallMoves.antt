@@ -1,6 +1,6 @@
 -- Open calls of the source machine's processes: opened by a message that is placed, closed by a reply, kept by all else.
 use Rattle.std.proofs.Common.{◌≡◌, ◌⊎◌, inl, inr, ℕ, List, Option, Some, None, option_map, option_and_then, refl, sym, ap, subst, ◌∙◌}
-use Rattle.std.specs.Prelude.{⊤, cond, Bool, true, false}
+use Rattle.std.specs.Prelude.{cond, Bool, true, false, slice_get}
 use Rattle.herm_model.specs.Outcomes.{raised, disconnected}
 use Rattle.herm_model.specs.Statements.{Form, Call}
 use Rattle.herm_model.specs.Nodes.{Node}
@@ -15,7 +15,7 @@ use Rattle.herm_forms.specs.EdgeFinalising.{arrive}
 use Rattle.herm_forms.specs.Exchanges
 use Rattle.herm_forms.specs.Frames.{Frame, Completion, goes, stays, stuck, if_there, drop, finalise_at_once, counted_step, counted_action}
 use Rattle.herm_forms.specs.Modules.{Module}
-use Rattle.herm_forms.specs.OpenCalls.{Calling, call_type}
+use Rattle.herm_forms.specs.OpenCalls.{Calling, call_type, calling_form}
 use Rattle.herm_forms.proofs.CountedCalls.{arrive-call, drop-call}
 use Rattle.herm_forms.proofs.KeptBodies.{IsKept, All, went, stayed, never, all-act, all-work, all-settle, all-settle_reply, is-composed}
 use Rattle.herm_system.specs.Machines.{OpenCall}
@@ -50,8 +50,8 @@ module _ (modules : Modules) where
   -- the call that a process has open, by its module, its point and the call's number
   abbrev opened_by : (code : ℕ) → Target → Option ℕ → Option OpenCall
   opened_by code t call =
-      option_and_then (λ c. option_and_then (λ k. option_map (λ (calls : Calling). record { number = k; call_type = call_type c calls }) (option_and_then (λ (n : Node). Rattle.herm_forms.specs.OpenCalls.calling_form n.form) (node_at c t))) call)
-      (Rattle.std.specs.Prelude.slice_get modules.codes code)
+      option_and_then (λ c. option_and_then (λ k. option_map (λ (calls : Calling). record { number = k; call_type = call_type c calls }) (option_and_then (λ (n : Node). calling_form n.form) (node_at c t))) call)
+      (slice_get modules.codes code)
 
   pub closed : (x : State Name) → x.frame.call ≡ None → (source modules).open_call x ≡ None
   closed x e = by (code_at modules x) (x.frame.call) e refl
@@ -178,5 +178,5 @@ module _ (modules : Modules) where
   -- a process begins with no call open
   pub begin-closed : (code number : ℕ) (port : Cell Name) (x : State Name) → (source modules).begin code number port ≡ Some x → (source modules).open_call x ≡ None
   begin-closed code number port x e =
-      let m = map-some (λ c. begin c code number port) (Rattle.std.specs.Prelude.slice_get modules.codes code) x e in
+      let m = map-some (λ c. begin c code number port) (slice_get modules.codes code) x e in
       closed x (ap (λ (x : State Name). x.frame.call) (sym m.2) ∙ arrive-call m.0 (m.0).entry (opening_frame m.0 number port))

@@ -2,7 +2,7 @@
 use Rattle.std.proofs.Common.{◌≡◌, ℕ, List, Some}
 use Rattle.herm_model.specs.Values.{Name}
 use Rattle.herm_system.specs.Sound.{IsSoundWith, IsSoundFor}
-use Rattle.herm_system.specs.Systems.{System}
+use Rattle.herm_system.specs.Systems.{System, numbered_from_one}
 use Rattle.herm_source.specs.Instance.{source, IsSoundIn}
 use Rattle.herm_source.specs.Modules.{Program, Modules}
 use Rattle.herm_source.specs.States.{State}
@@ -20,7 +20,7 @@ use Rattle.herm_checked.proofs.CallNumbers.{source-numbers-calls}
 use Rattle.herm_checked.proofs.SourceKeeps.{source-keeps-sound}
 use Rattle.herm_checked.proofs.SourceBegins.{source-begins-sound, source-goes-on, source-keeps-limits}
 
-with-within : (modules : Modules) (Is Within : State Name → Type 0) (s : System (State Name)) (types : List ℕ) → ((p : ℕ) (x : State Name) → Rattle.herm_system.specs.Systems.numbered_from_one p s.processes ≡ Some x → Within x)
+with-within : (modules : Modules) (Is Within : State Name → Type 0) (s : System (State Name)) (types : List ℕ) → ((p : ℕ) (x : State Name) → numbered_from_one p s.processes ≡ Some x → Within x)
     → IsSoundWith (source modules) Is types s → IsSoundWith (source modules) Within types s
 with-within modules Is Within s types all sound = record {
   processes = all;

@@ -1,10 +1,10 @@
 -- Labels that rounds find are exact where one more round would change nothing, which is tested.
-use Rattle.std.proofs.Common.{◌≡◌, ◌↔◌, ◌⊎◌, inl, inr, ℕ, zero, suc, ◌+◌, List, [], ◌∷◌, ◌++◌, map, filter, Bool, true, false, cond, not, ◌&&◌, Option, Some, None, slice_get, IsTrue, refl, sym, ap, subst, ◌∙◌, arith, true≢false}
+use Rattle.std.proofs.Common.{◌≡◌, ◌⊎◌, inl, inr, ℕ, zero, suc, ◌+◌, List, [], ◌∷◌, ◌++◌, map, filter, Bool, true, false, cond, not, ◌&&◌, Option, Some, None, slice_get, IsTrue, refl, sym, ap, subst, ◌∙◌, arith, true≢false}
 use Rattle.std.proofs.Math.Bool.{or-false}
 use Rattle.herm_model.specs.Lists.{IsIn, all_pass, any_pass, list_of, numbered}
 use Rattle.herm_model.specs.Paths.{Fact, init, same_fact, path_of, is_at_or_below}
 use Rattle.herm_model.specs.Targets.{Target, node, end, end_by}
-use Rattle.herm_model.specs.ControlPaths.{Edge, Point, Flow, Hop, held_after_edge, held_at_start, walk, IsReached, Holds, Lacks}
+use Rattle.herm_model.specs.ControlPaths.{Edge, Point, Flow, Hop, held_after_edge, held_at_start, walk, IsReached, Holds, Lacks, edge_from}
 use Rattle.herm_model.specs.Labels as labels
 use Rattle.herm_model.specs.Labels.{AreInductive, AreExact}
 use Rattle.herm_model.specs.laws.FlowLaws.{EdgesDiffer, IsLedTo, begins, goes_on}
@@ -53,7 +53,7 @@ module _ (flow : Flow) (differ : EdgesDiffer flow) where
   module _ (i : ℕ) (p : Point) (at : slice_get flow.points i ≡ Some p) (fs : List Fact) (known : Known i fs) where
     -- one hop more
     module _ (e : Edge) (member : IsIn e p.edges) where
-      taken : Rattle.herm_model.specs.ControlPaths.edge_from flow (node i) (hop_by p e) ≡ Some e
+      taken : edge_from flow (node i) (hop_by p e) ≡ Some e
       taken = hop-taken flow differ i p e at (got-IsIn flow.points i p at) member
 
       hop-reached : IsReached flow e.target
@@ -86,7 +86,7 @@ module _ (flow : Flow) (differ : EdgesDiffer flow) where
           kept : any_pass (λ q. is_at_or_below q (path_of f)) e.kills ≡ false → Lacks flow f j
           kept stay =
               let none : listed fs f ≡ false = unlisted f fs (λ h. not-listed f (facts_behind e fs) missing
-                  (in-append_right f e.makes (filter (λ f. not (any_pass (λ q. is_at_or_below q (path_of f)) e.kills)) fs) (in-filter (λ f. not (any_pass (λ q. is_at_or_below q (path_of f)) e.kills)) f fs h (ap not stay)))) in
+              (in-append_right f e.makes (filter (λ f. not (any_pass (λ q. is_at_or_below q (path_of f)) e.kills)) fs) (in-filter (λ f. not (any_pass (λ q. is_at_or_below q (path_of f)) e.kills)) f fs h (ap not stay)))) in
               let l = known.lacks f none in
               behind l.0 false l.1 (ap (λ b. cond b true (cond (any_pass (λ q. is_at_or_below q (path_of f)) e.kills) false false)) not-made ∙ ap (λ b. cond b false false) stay)
 

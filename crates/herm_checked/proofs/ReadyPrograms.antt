@@ -1,10 +1,9 @@
 -- Programs that are made ready by rounds of labels are checked, and their runs are through sound states.
-use Rattle.std.proofs.Common.{◌≡◌, ℕ, zero, suc, List, [], ◌∷◌, ◌++◌, map, length, Bool, true, false, Option, Some, None, option_map, inl, inr, refl, ap, subst, ◌∙◌}
+use Rattle.std.proofs.Common.{◌≡◌, ℕ, zero, suc, List, [], ◌∷◌, ◌++◌, map, length, true, false, Some, option_map, inl, inr, refl}
 use Rattle.std.specs.Prelude.{IsTrue, ⊤}
 use Rattle.herm_model.specs.Lists.{IsIn}
 use Rattle.herm_model.specs.ControlPaths.{flow_of}
-use Rattle.herm_model.specs.Statements.{Process}
-use Rattle.herm_model.specs.Typed.{is_text}
+use Rattle.herm_model.specs.Statements.{Process, IsWellFormedBlock}
 use Rattle.herm_model.specs.Types.{TypeTable, predefined}
 use Rattle.herm_model.specs.Values.{Name}
 use Rattle.herm_model.specs.tests.BodyTests.{is_typed_program}
@@ -12,11 +11,11 @@ use Rattle.herm_model.proofs.DecidedPrograms.{test-programs}
 use Rattle.herm_model.proofs.DifferentOutcomes.{process-EdgesDiffer}
 use Rattle.herm_model.proofs.ExampleRefusals.{computed}
 use Rattle.herm_model.proofs.Labels.{confirms, labels_found}
-use Rattle.herm_model.proofs.Options.{none-not_some, some-injective, map-some}
+use Rattle.herm_model.proofs.Options.{map-some}
 use Rattle.herm_journal.specs.PlaceStates.{Limits}
 use Rattle.herm_system.specs.Machines.{Machine}
-use Rattle.herm_system.specs.Rounds.{Round, one_round, turns}
-use Rattle.herm_system.specs.Systems.{Run, run, start}
+use Rattle.herm_system.specs.Rounds.{one_round}
+use Rattle.herm_system.specs.Systems.{Run, start}
 use Rattle.herm_runs.proofs.Events.{IsRunBetween, both-runs, turns-run}
 use Rattle.herm_runs.proofs.RoundsEnd.{elim-some}
 use Rattle.herm_source.specs.AcceptedRuns.{AreCodesOf}
@@ -37,7 +36,7 @@ AllReady types [] = ⊤
 AllReady types (p ∷ ps) =
     (settled (flow_of types p) (rounds 3 (flow_of types p).points (first_labels (flow_of types p))) ≡ true) × (confirms (flow_of types p) (labels_found (flow_of types p)) [] ≡ true) × AllReady types ps
 
-ready-codes : (program : Program) (ps : List Process) → ((p : Process) → IsIn p ps → Rattle.herm_model.specs.Statements.IsWellFormedBlock p.body) → AllReady program.types ps → AreCodesOf program ps (map (ready 3 program.types) ps)
+ready-codes : (program : Program) (ps : List Process) → ((p : Process) → IsIn p ps → IsWellFormedBlock p.body) → AllReady program.types ps → AreCodesOf program ps (map (ready 3 program.types) ps)
 ready-codes program [] formed h = tt
 ready-codes program (p ∷ ps) formed h =
     let flow = flow_of program.types p in

@@ -1,12 +1,10 @@
 -- The four programs are ready, and labels past a raise are free.
-use Rattle.std.proofs.Common.{◌≡◌, ◌⊎◌, inl, inr, ℕ, zero, suc, List, [], ◌∷◌, Bool, true, false, Option, Some, None, slice_get, refl, sym, ap, subst, ◌∙◌, true≢false}
-use Rattle.std.specs.Prelude.{◌↔◌}
-use Rattle.herm_model.specs.ControlPaths.{Edge, Point, Flow, IsReached, Holds}
+use Rattle.std.proofs.Common.{◌≡◌, ◌⊎◌, inl, inr, ℕ, zero, suc, [], ◌∷◌, Bool, true, false, Option, Some, None, slice_get, refl, sym, ap, subst, ◌∙◌, true≢false}
+use Rattle.herm_model.specs.ControlPaths.{Edge, Point, IsReached}
 use Rattle.herm_model.specs.Labels.{Labels, AreExact}
 use Rattle.herm_model.specs.Lists.{IsIn, list_of}
 use Rattle.herm_model.specs.Outcomes.{overflow}
-use Rattle.herm_model.specs.Paths.{Fact}
-use Rattle.herm_model.specs.Targets.{Target, node, end, end_by}
+use Rattle.herm_model.specs.Targets.{Target, node, end_by}
 use Rattle.herm_model.specs.Types.{fields, inport, outport, callmessage, by_inout}
 use Rattle.herm_model.specs.laws.FlowLaws.{IsLedTo, begins, goes_on}
 use Rattle.herm_model.proofs.HeldDecided.{exact-labels}

@@ -2,6 +2,8 @@
 use Rattle.std.proofs.Common.{◌≡◌, ◌<◌, ◌≤◌, ℕ, suc, [], ◌∷◌, Bool, true, false, cond, Option, Some, None, option_and_then, slice_get, refl, sym, ap, subst, ◌∙◌, arith}
 use Rattle.std.specs.Prelude.{nat_lt, IsTrue}
 use Rattle.std.proofs.lemmas.Bool.Decides.{nat_tests}
+use Rattle.herm_system.specs.Kinds.{typed_of}
+use Rattle.herm_journal.specs.Entries.{Text}
 use Rattle.herm_model.specs.Types.{TypeTable}
 use Rattle.herm_model.specs.Nodes.{Node}
 use Rattle.herm_model.specs.Targets.{Target}
@@ -16,7 +18,7 @@ use Rattle.herm_forms.specs.Exchanges
 use Rattle.herm_forms.specs.Frames.{Frame, Completion, counted_step, counted_action}
 use Rattle.herm_forms.specs.Modules.{Module}
 use Rattle.herm_forms.proofs.KeptBodies.{IsKept, All, all-act, all-work, all-settle, all-settle_reply, is-arrive}
-use Rattle.herm_system.specs.Machines.{Standing, local, acting, to_act, is_local, is_acting, greatest_actions}
+use Rattle.herm_system.specs.Machines.{Standing, local, to_act, is_local, is_acting, greatest_actions, out_of_steps}
 use Rattle.herm_system.specs.Systems.{main_port, first_message}
 use Rattle.herm_system.specs.Sound.{console_type}
 use Rattle.herm_source.specs.Checked.{IsChecked}
@@ -60,10 +62,10 @@ module _ (exceptions : ℕ) (program : Program) (modules : Modules) (checked : I
         stands = λ argument u is. stands d.0 d.1 argument u is;
       }
     where
-      stands : (more : TypeTable) → modules.types ≡ types more → (argument : Rattle.herm_journal.specs.Entries.Text) (u : ℕ) → message_of_port modules.types main_start ≡ Some u
-          → AllStand modules.types (console_type ∷ main_start ∷ []) (λ caller call. None) (Rattle.herm_system.specs.Kinds.typed_of modules.types u (first_message argument))
+      stands : (more : TypeTable) → modules.types ≡ types more → (argument : Text) (u : ℕ) → message_of_port modules.types main_start ≡ Some u
+          → AllStand modules.types (console_type ∷ main_start ∷ []) (λ caller call. None) (typed_of modules.types u (first_message argument))
       stands more same argument u is =
-          subst (λ ts. AllStand ts (console_type ∷ main_start ∷ []) (λ caller call. None) (Rattle.herm_system.specs.Kinds.typed_of ts u (first_message argument))) (sym same)
+          subst (λ ts. AllStand ts (console_type ∷ main_start ∷ []) (λ caller call. None) (typed_of ts u (first_message argument))) (sym same)
           (first-stands more argument u (ap (λ ts. message_of_port ts main_start) (sym same) ∙ is))
 
   pub source-goes-on : GoesOn (source modules) (IsSoundProcess program modules)
@@ -116,7 +118,7 @@ module _ (modules : Modules) where
       → (y.frame.steps ≡ suc x.frame.steps) × (y.frame.actions ≡ x.frame.actions) × (x.frame.steps < limit)
   local-limits limit x y ready e = let c = local-code modules x y e in by c.0 (next_of c.0 x) (ready-code is_local limit x c.0 c.1 ready) c.2
     where
-      steps-below : (c : Module) (n : Node) (b : Bool) → nat_lt x.frame.steps limit ≡ b → IsTrue (is_local (cond b (cond (is_action c n.form) (to_act (nat_lt x.frame.actions greatest_actions)) local) Rattle.herm_system.specs.Machines.out_of_steps)) → x.frame.steps < limit
+      steps-below : (c : Module) (n : Node) (b : Bool) → nat_lt x.frame.steps limit ≡ b → IsTrue (is_local (cond b (cond (is_action c n.form) (to_act (nat_lt x.frame.actions greatest_actions)) local) out_of_steps)) → x.frame.steps < limit
       steps-below c n true is h = below x.frame.steps limit is
       steps-below c n false is h = not_true h
 
@@ -144,7 +146,7 @@ module _ (modules : Modules) where
       more-steps : HasCounts (suc x.frame.steps) (suc x.frame.actions) y.frame → x.frame.actions < greatest_actions → x.frame.steps < limit → Counted limit x y
       more-steps k less few = (k.1, less, omega (arith, k.0), λ le. omega (arith, k.0, few))
 
-      stands : (c : Module) (n : Node) (b t : Bool) → nat_lt x.frame.steps limit ≡ b → IsTrue (is_acting (cond b (cond t (to_act (nat_lt x.frame.actions greatest_actions)) local) Rattle.herm_system.specs.Machines.out_of_steps))
+      stands : (c : Module) (n : Node) (b t : Bool) → nat_lt x.frame.steps limit ≡ b → IsTrue (is_acting (cond b (cond t (to_act (nat_lt x.frame.actions greatest_actions)) local) out_of_steps))
           → (x.frame.steps < limit) × (x.frame.actions < greatest_actions)
       stands c n true true is h = (below x.frame.steps limit is, act-below x.frame.actions h)
       stands c n true false is h = not_true h

@@ -146,7 +146,7 @@ stamped-entry journal (acts p place) (Some a) s = stamped-more [] journal (entry
 stamped-entry journal (acts p place) None s = s
 stamped-entry journal (steps p) a s = s
 
-stamped-on : {P : Type 0} (machine : Machine Name P) (e : Event) (r t : Run P) → IsStamped r.journal → run_on machine e r ≡ Some t → IsStamped t.journal
+pub stamped-on : {P : Type 0} (machine : Machine Name P) (e : Event) (r t : Run P) → IsStamped r.journal → run_on machine e r ≡ Some t → IsStamped t.journal
 stamped-on machine e r t s is =
     let m = map-some (λ (m : Moved _). record { system = m.system; journal = with_entry r.journal e m.done }) (step machine e r.system) t is
     in subst (λ (x : Run _). IsStamped x.journal) m.2 (stamped-entry r.journal e m.0.done s)

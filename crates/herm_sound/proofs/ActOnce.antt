@@ -1,6 +1,7 @@
 -- In a sound state ports that are closed were open, and calls that are answered are open and have no answer yet.
 use Rattle.std.proofs.Common.{◌≡◌, ◌⊎◌, inl, inr, ℕ, ◌+◌, List, [], ◌∷◌, length, Bool, true, false, cond, Option, Some, None, refl, sym, ap, ◌∙◌, arith}
 use Rattle.std.specs.Prelude.{nat_eq, ◌&&◌}
+use Rattle.herm_sound.proofs.ReplyCells.{heard_of, replied}
 use Rattle.herm_model.specs.Lists.{IsIn}
 use Rattle.herm_model.specs.Values.{Name, a_callmessage, an_inport}
 use Rattle.herm_model.proofs.Options.{some-injective, none-not_some}
@@ -108,9 +109,9 @@ module _ {P : Type 0} (machine : Machine Name P) (Is : P → Type 0) (keeps : Ke
       let ends : how_many (is_callmessage_of q k) (kinds_ended parts.want.0) ≡ 1 =
       ap (λ (w : CellWant Name). how_many (is_callmessage_of q k) (kinds_ended w)) wants ∙ ap (λ b. length (cond b (a_callmessage q k ∷ []) [])) self in
       let made : how_many (is_callmessage_of q k) (kinds_made machine parts.left.0 parts.did.0) ≡ 0 = ap (λ a. how_many (is_callmessage_of q k) (kinds_made machine parts.left.0 a)) did in
-      let silent : Rattle.herm_sound.proofs.ReplyCells.heard_of p parts.did.0 q k ≡ 0 = ap (λ a. Rattle.herm_sound.proofs.ReplyCells.heard_of p a q k) did in
+      let silent : heard_of p parts.did.0 q k ≡ 0 = ap (λ a. heard_of p a q k) did in
       let none : waiting ≡ 0 = omega (arith, all, ap one_if opened, some.1) in
-      let one : Rattle.herm_sound.proofs.ReplyCells.replied (parts.makes.0).replies q k ≡ 1 = omega (arith, change.replies q k, silent, ends, none) in
+      let one : replied (parts.makes.0).replies q k ≡ 1 = omega (arith, change.replies q k, silent, ends, none) in
       let no_more : how_many (is_callmessage_of q k) (unfinalised machine parts.makes.0) ≡ 0 = omega (arith, change.counts (is_callmessage_of q k) (callmessages-wait q k), ends, made, all, ap one_if opened) in (
         opened,
         none,

@@ -5,7 +5,7 @@ use Rattle.herm_model.specs.Lists.{IsIn, list_of, total}
 use Rattle.herm_model.specs.Values.{Name, an_inport, Cell}
 use Rattle.herm_model.proofs.Options.{some-injective, none-not_some, chain-some}
 use Rattle.herm_journal.specs.Actions.{to_take}
-use Rattle.herm_journal.specs.PlaceStates.{Port, PlaceState, after}
+use Rattle.herm_journal.specs.PlaceStates.{Port, after, left_in}
 use Rattle.herm_journal.specs.Entries.{Place}
 use Rattle.herm_journal.specs.Messages.{CellReply, CellWant, CellAction, cells_in, is_inport, message_of_port, types_of_reply}
 use Rattle.herm_system.specs.Machines.{OpenCall, Machine}
@@ -22,9 +22,9 @@ use Rattle.herm_runs.proofs.SystemLedger.{processes-stay, total-from_one}
 use Rattle.herm_sound.specs.Standing.{StandsAt, AllStand, typed_coming, typed_going}
 use Rattle.herm_sound.specs.SoundMachines.{HasFor, KeepsSound}
 use Rattle.herm_sound.proofs.Acted.{Holding, port_of, IsAct, port_made, port_refused, process_made, process_refused, placed, came_back, taken, closed, answered, heard, acted, act-answers}
-use Rattle.herm_sound.proofs.Places.{QueuedFrom, act-queued, IsPut, IsAnswered, port-there, cell-there}
+use Rattle.herm_sound.proofs.Places.{act-queued, IsPut, IsAnswered, port-there, cell-there, Cells}
 use Rattle.herm_sound.proofs.Counted.{of_process, unfinalised-parts, act-moves, made-counts}
-use Rattle.herm_sound.proofs.ReplyCells.{own-from_one, other-from_one, RepliedFrom, replied, heard_of, act-replied, act-replies}
+use Rattle.herm_sound.proofs.ReplyCells.{own-from_one, other-from_one, act-replied, act-replies, in_cell}
 use Rattle.herm_sound.proofs.OpenPorts.{act-open}
 use Rattle.herm_sound.proofs.TypedCells.{AllPlaced, in-places, in-list_of}
 use Rattle.herm_sound.proofs.MadeSystems.{new_ports, made_port, made-messages, made-answers, made-replies, made-stays, made-length, made-opens, act-number}
@@ -37,7 +37,7 @@ module _ {P : Type 0} (machine : Machine Name P) (Is : P → Type 0) (keeps : Ke
   one-type x a t i before behind types is_port makes last more =
       let one : new_types machine Is keeps x a ≡ t ∷ [] = ap (list_of (λ t. t ∷ [])) types in
       record {
-        length = more ∙ ap (λ (us : List ℕ). before + length us) (sym one);
+        lengths = more ∙ ap (λ (us : List ℕ). before + length us) (sym one);
         inports = λ u h. by u (subst (IsIn u) one h);
         made = λ ports e u n makes' types'.
             let number : n ≡ length ports = some-injective (sym makes' ∙ makes) ∙ last ∙ sym e in
@@ -56,7 +56,7 @@ module _ {P : Type 0} (machine : Machine Name P) (Is : P → Type 0) (keeps : Ke
   no-type x a before behind types makes same =
       let none : new_types machine Is keeps x a ≡ [] = ap (list_of (λ t. t ∷ [])) types in
       record {
-        length = same ∙ ap (λ (us : List ℕ). before + length us) (sym none);
+        lengths = same ∙ ap (λ (us : List ℕ). before + length us) (sym none);
         inports = λ u h. absurd (subst (IsIn u) none h);
         made = λ ports e u n makes' types'. none-not_some (sym makes ∙ makes');
       }
@@ -156,13 +156,13 @@ module _ {P : Type 0} (machine : Machine Name P) (Is : P → Type 0) (keeps : Ke
             (both.0, λ want e. subst (λ w. AllStand machine.types more calls (typed_going machine.types more calls w a)) (some-injective e) both.1);
       }
     where
-      went : (w : CellWant Name) (a : CellAction Name) (before : List (Port (Cell Name))) (n : ℕ) (d : Cell Name) → ((o : Port (Cell Name)) × (slice_get before n ≡ Some o) × IsIn d (Rattle.herm_journal.specs.PlaceStates.left_in o)) ⊎ IsPut w a n d
-          → ((o : Port (Cell Name)) × (slice_get before n ≡ Some o) × IsIn d (Rattle.herm_journal.specs.PlaceStates.left_in o)) ⊎ WentTo (Some w) a n d
+      went : (w : CellWant Name) (a : CellAction Name) (before : List (Port (Cell Name))) (n : ℕ) (d : Cell Name) → ((o : Port (Cell Name)) × (slice_get before n ≡ Some o) × IsIn d (left_in o)) ⊎ IsPut w a n d
+          → ((o : Port (Cell Name)) × (slice_get before n ≡ Some o) × IsIn d (left_in o)) ⊎ WentTo (Some w) a n d
       went w a before n d (inl e) = inl e
       went w a before n d (inr e) = inr (ap (λ w. Some w) e.0, e.1)
 
-      replied-to : (w : CellWant Name) (a : CellAction Name) (before : Rattle.herm_sound.proofs.Places.Cells) (q : ℕ) (r : ℕ × CellReply Name) → IsIn r (Rattle.herm_sound.proofs.ReplyCells.in_cell before q) ⊎ IsAnswered w a q r
-          → IsIn r (Rattle.herm_sound.proofs.ReplyCells.in_cell before q) ⊎ AnsweredTo (Some w) a q r
+      replied-to : (w : CellWant Name) (a : CellAction Name) (before : Cells) (q : ℕ) (r : ℕ × CellReply Name) → IsIn r (in_cell before q) ⊎ IsAnswered w a q r
+          → IsIn r (in_cell before q) ⊎ AnsweredTo (Some w) a q r
       replied-to w a before q r (inl e) = inl e
       replied-to w a before q r (inr e) = inr (ap (λ w. Some w) e.0, e.1)
 

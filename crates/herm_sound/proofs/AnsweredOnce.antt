@@ -3,6 +3,7 @@ use Rattle.std.proofs.Common.{◌≡◌, ◌⊎◌, inl, inr, ℕ, zero, suc, �
 use Rattle.std.proofs.lemmas.Bool.{eqb-true, eqb-false}
 use Rattle.std.proofs.Math.Bool.{or-false}
 use Rattle.std.specs.Prelude.{nat_eq, ◌&&◌}
+use Rattle.herm_journal.proofs.Rising.{same-true}
 use Rattle.herm_model.specs.Lists.{IsIn, list_of}
 use Rattle.herm_model.specs.Values.{Name, a_callmessage, Cell}
 use Rattle.herm_model.proofs.Lists.{and-both}
@@ -16,7 +17,7 @@ use Rattle.herm_system.specs.Machines.{OpenCall, Machine}
 use Rattle.herm_system.specs.Kinds.{unfinalised, has_open, replies_of, is_callmessage_of}
 use Rattle.herm_system.specs.Sound.{one_if, IsSoundWith, IsSoundFor}
 use Rattle.herm_system.specs.Summary.{how_many}
-use Rattle.herm_system.specs.Systems.{System, Moved, Event, steps, acts, Run, run, run_on, step, start, opening, with_entry, set_process, number_of, numbered_from_one, main_port}
+use Rattle.herm_system.specs.Systems.{System, Moved, Event, steps, acts, Run, run, run_on, step, start, opening, with_entry, set_process, number_of, numbered_from_one, main_port, opening_name}
 use Rattle.herm_runs.specs.Counting.{kinds_made, kinds_ended}
 use Rattle.herm_runs.proofs.ActionParts.{action-parts, step-parts}
 use Rattle.herm_runs.proofs.Stands.{IsNew}
@@ -178,7 +179,7 @@ module _ {P : Type 0} (machine : Machine Name P) (Is : P → Type 0) (keeps : Ke
 
     ended-open : (q k n : ℕ) → how_many (is_callmessage_of q k) (ended w) ≡ suc n → has_open machine r.system q k ≡ true
     ended-open q k n e =
-        let self : is_callmessage_of q k (a_callmessage q k) ≡ true = ap (λ b. b && nat_eq k k) (Rattle.herm_journal.proofs.Rising.same-true q) ∙ Rattle.herm_journal.proofs.Rising.same-true k in
+        let self : is_callmessage_of q k (a_callmessage q k) ≡ true = ap (λ b. b && nat_eq k k) (same-true q) ∙ same-true k in
         let some = counted (is_callmessage_of q k) (a_callmessage q k) (unfinalised machine r.system) (ends-there q k n e) self in
         let waiting = how_many (λ (v : ℕ × CellReply Name). nat_eq v.0 k) (replies_of r.system q) in
         let all : waiting + callmessages r.system q k ≡ one_if (has_open machine r.system q k) = omega (arith, sound.calls.answers q k) in
@@ -287,7 +288,7 @@ module _ {P : Type 0} (machine : Machine Name P) (Is : P → Type 0) (keeps : Ke
       closed-first : (q : ℕ) (z : P) → numbered_from_one q (opening machine limits argument).processes ≡ Some z → machine.open_call z ≡ None
       closed-first q z e =
           let same = only q z (sym (ap (λ o. numbered_from_one q (list_of (λ x. x ∷ []) o)) is) ∙ e) in
-          subst (λ z. machine.open_call z ≡ None) same (keeps.processes.begins machine.main 1 1 (Rattle.herm_system.specs.Systems.opening_name 1) first is).1
+          subst (λ z. machine.open_call z ≡ None) same (keeps.processes.begins machine.main 1 1 (opening_name 1) first is).1
 
       no-calls : (q k : ℕ) → 0 + callmessages (opening machine limits argument) q k ≤ 1
       no-calls q k = omega (arith, sound.1.calls.answers q k, at-most-one (has_open machine (opening machine limits argument) q k))

@@ -1,5 +1,5 @@
 -- What an event changes, by one process: all that the law of a step reads of the systems before and behind it.
-use Rattle.std.proofs.Common.{◌≡◌, ◌⊎◌, inl, inr, ℕ, zero, suc, ◌+◌, List, [], ◌∷◌, ◌++◌, map, flat_map, length, Bool, true, false, cond, Option, Some, None, option_map, option_and_then, slice_get, refl, sym, ap, subst, ◌∙◌, arith}
+use Rattle.std.proofs.Common.{◌≡◌, ◌⊎◌, inl, inr, ℕ, ◌+◌, List, [], ◌∷◌, ◌++◌, length, Bool, true, Option, Some, None, slice_get, refl, ◌∙◌, arith}
 use Rattle.std.specs.Prelude.{IsTrue}
 use Rattle.herm_model.specs.Lists.{IsIn, list_of}
 use Rattle.herm_model.specs.Values.{Name, Kind, Cell}
@@ -49,9 +49,9 @@ module _ {P : Type 0} (machine : Machine Name P) (Is : P → Type 0) (keeps : Ke
 
   -- the types of ports grow with the ports
   pub record Grows (x : P) (a : CellAction Name) (before behind : ℕ) : Type 0 where
-    pub length : behind ≡ before + Rattle.std.proofs.Common.length (new_types x a)
+    pub lengths : behind ≡ before + length (new_types x a)
     pub inports : (u : ℕ) → IsIn u (new_types x a) → IsTrue (is_inport (slice_get machine.types u))
-    pub made : (ports : List ℕ) → Rattle.std.proofs.Common.length ports ≡ before → (u n : ℕ) → made_port a ≡ Some n → made_type x a ≡ Some u → slice_get (ports ++ new_types x a) n ≡ Some u
+    pub made : (ports : List ℕ) → length ports ≡ before → (u n : ℕ) → made_port a ≡ Some n → made_type x a ≡ Some u → slice_get (ports ++ new_types x a) n ≡ Some u
 
   -- One process changes from x to y. It wanted something or made a local step, which counts as a port that it was refused.
   pub record IsChange (ports : List ℕ) (s t : System P) (p : ℕ) (x y : P) (w : Option (CellWant Name)) (at : ℕ) (a : CellAction Name) : Type 0 where
@@ -91,7 +91,7 @@ module _ {P : Type 0} (machine : Machine Name P) (Is : P → Type 0) (keeps : Ke
           messages = same-queued (WentTo None (make_port None)) s.ports;
           answers = same-replied (AnsweredTo None (make_port None)) s.replies;
           replies = λ q k. refl;
-          grows = record { length = omega arith; inports = λ u h. absurd h; made = λ ports e u n none. none-not_some none };
+          grows = record { lengths = omega arith; inports = λ u h. absurd h; made = λ ports e u n none. none-not_some none };
           opens = λ ready n. refl;
           counts = λ test of. omega (
             arith,

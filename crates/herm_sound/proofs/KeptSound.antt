@@ -21,7 +21,7 @@ use Rattle.herm_runs.specs.Counting.{IsOfWaiting}
 use Rattle.herm_runs.proofs.ActionParts.{action-parts, step-parts}
 use Rattle.herm_runs.proofs.Numbered.{step-numbered, numbered-once}
 use Rattle.herm_runs.proofs.Stands.{IsNew}
-use Rattle.herm_runs.proofs.SystemLedger.{event-balance}
+use Rattle.herm_runs.proofs.SystemLedger.{event-balance, Balance}
 use Rattle.herm_sound.specs.laws.SoundLaws.{StepsKeepSound}
 use Rattle.herm_sound.specs.SoundMachines.{CallMoves, KeepsSound}
 use Rattle.herm_sound.proofs.OpenPorts.{open_at}
@@ -108,7 +108,7 @@ module _ {P : Type 0} (machine : Machine Name P) (Is : P → Type 0) (keeps : Ke
 
     ports-kept : HasPorts machine ports_behind u
     ports-kept = record {
-      types = joined-length ports (new_types machine Is keeps x a) ∙ ap (λ n. n + length (new_types machine Is keeps x a)) sound.ports.types ∙ sym change.grows.length;
+      types = joined-length ports (new_types machine Is keeps x a) ∙ ap (λ n. n + length (new_types machine Is keeps x a)) sound.ports.types ∙ sym change.grows.lengths;
       inport_types = λ n t e. by t (got-either ports (new_types machine Is keeps x a) n t e) (λ e. sound.ports.inport_types n t e);
       console = got-more ports (new_types machine Is keeps x a) 0 console_type sound.ports.console;
       inports = λ n. omega (arith, change.counts (is_inport_of n) (inports-wait n), change.opens to-close-open n, sound.ports.inports n);
@@ -194,7 +194,7 @@ steps-keep-sound {P} machine Is keeps (steps p) s m e sound =
     subst (λ (m : Moved P). (types : List ℕ) × IsSoundWith machine Is types m.system) same (
       _,
       change-sound machine Is keeps sound.0 s sound.1 u p parts.state parts.left.0 None 0 (make_port None) change
-          (λ w. subst (λ (m : Moved P). Rattle.herm_runs.proofs.SystemLedger.Balance machine w m.system) (sym same) (event-balance machine keeps.ledger w (steps p) s m e (sound.1.ledger w)))
+          (λ w. subst (λ (m : Moved P). Balance machine w m.system) (sym same) (event-balance machine keeps.ledger w (steps p) s m e (sound.1.ledger w)))
           (subst (λ (m : Moved P). IsNumbered machine m.system) (sym same) (step-numbered machine keeps.numbers (steps p) s m e sound.1.numbers)),
     )
 steps-keep-sound {P} machine Is keeps (acts p place) s m e sound =
@@ -205,6 +205,6 @@ steps-keep-sound {P} machine Is keeps (acts p place) s m e sound =
     subst (λ (m : Moved P). (types : List ℕ) × IsSoundWith machine Is types m.system) same (
       _,
       change-sound machine Is keeps sound.0 s sound.1 u p parts.state parts.left.0 (Some parts.want.0) (number_of place) parts.did.0 change
-          (λ w. subst (λ (m : Moved P). Rattle.herm_runs.proofs.SystemLedger.Balance machine w m.system) (sym same) (event-balance machine keeps.ledger w (acts p place) s m e (sound.1.ledger w)))
+          (λ w. subst (λ (m : Moved P). Balance machine w m.system) (sym same) (event-balance machine keeps.ledger w (acts p place) s m e (sound.1.ledger w)))
           (subst (λ (m : Moved P). IsNumbered machine m.system) (sym same) (step-numbered machine keeps.numbers (acts p place) s m e sound.1.numbers)),
     )

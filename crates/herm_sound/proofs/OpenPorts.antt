@@ -3,7 +3,7 @@ use Rattle.std.proofs.Common.{◌≡◌, ℕ, zero, suc, ◌+◌, [], ◌∷◌,
 use Rattle.std.proofs.lemmas.Bool.{eqb-true, eqb-false}
 use Rattle.std.specs.Prelude.{nat_eq}
 use Rattle.herm_model.specs.Lists.{any_pass, list_of}
-use Rattle.herm_model.specs.Values.{Name, Cell}
+use Rattle.herm_model.specs.Values.{Name, Cell, an_inport}
 use Rattle.herm_model.proofs.Options.{some-injective, none-not_some}
 use Rattle.herm_journal.specs.Actions.{to_close}
 use Rattle.herm_journal.specs.PlaceStates.{Port, empty_port, after}
@@ -71,7 +71,7 @@ module _ {P : Type 0} (s : System P) (p : ℕ) where
       same-open _ _ (set-open s.ports i n (port_of b ((j, m) ∷ q) k) (port_of b q k) (port-there s i (port_of b ((j, m) ∷ q) k) at) refl)
   act-open w place h a (closed i b q k) at ready n = by (nat_eq i n) refl
     where
-      by : (t : Bool) → nat_eq i n ≡ t → one_if (open_at (slice_set s.ports i (port_of false [] k)) n) + length (cond t (Rattle.herm_model.specs.Values.an_inport i ∷ []) []) ≡ one_if (open_at s.ports n)
+      by : (t : Bool) → nat_eq i n ≡ t → one_if (open_at (slice_set s.ports i (port_of false [] k)) n) + length (cond t (an_inport i ∷ []) []) ≡ one_if (open_at s.ports n)
       by true e =
           let same = eqb-true i n e in
           let own = closed-own s.ports i (port_of b q k) (port_of false [] k) (port-there s i (port_of b q k) at) refl in

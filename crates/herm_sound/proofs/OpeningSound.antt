@@ -8,7 +8,7 @@ use Rattle.herm_model.specs.Values.{Name, Kind, a_callmessage, an_inport, an_out
 use Rattle.herm_model.proofs.Options.{some-injective, none-not_some, chain-some, map-some}
 use Rattle.herm_journal.specs.PlaceStates.{Limits, Port, empty_port, port_with, first_book, left_in}
 use Rattle.herm_journal.specs.Entries.{Text}
-use Rattle.herm_journal.specs.Messages.{CellReply, IsMessage, message_of_port, types_of_reply, cells_in}
+use Rattle.herm_journal.specs.Messages.{CellReply, IsMessage, message_of_port, is_inport}
 use Rattle.herm_system.specs.Machines.{Machine}
 use Rattle.herm_system.specs.Ledger.{HasLedger}
 use Rattle.herm_system.specs.Summary.{how_many}
@@ -84,9 +84,9 @@ module _ {P : Type 0} (machine : Machine Name P) (Is : P → Type 0) (keeps : Ke
         by (inr h) = absurd h
     messages (suc (suc n)) t q m types there member = none-not_some types
 
-    inport-types : (n t : ℕ) → slice_get ports n ≡ Some t → IsTrue (Rattle.herm_journal.specs.Messages.is_inport (slice_get machine.types t))
-    inport-types zero t e = subst (λ t. IsTrue (Rattle.herm_journal.specs.Messages.is_inport (slice_get machine.types t))) (some-injective e) begins.console
-    inport-types (suc zero) t e = subst (λ t. IsTrue (Rattle.herm_journal.specs.Messages.is_inport (slice_get machine.types t))) (some-injective e) begins.inport
+    inport-types : (n t : ℕ) → slice_get ports n ≡ Some t → IsTrue (is_inport (slice_get machine.types t))
+    inport-types zero t e = subst (λ t. IsTrue (is_inport (slice_get machine.types t))) (some-injective e) begins.console
+    inport-types (suc zero) t e = subst (λ t. IsTrue (is_inport (slice_get machine.types t))) (some-injective e) begins.inport
     inport-types (suc (suc n)) t e = none-not_some e
 
     -- the two inports are those of the two ports

@@ -6,7 +6,7 @@ use Rattle.herm_model.specs.Lists.{IsIn, list_of}
 use Rattle.herm_model.specs.Values.{Name}
 use Rattle.herm_model.proofs.Lists.{in-append_cases}
 use Rattle.herm_model.proofs.Options.{none-not_some}
-use Rattle.herm_journal.specs.Actions.{answer, hear}
+use Rattle.herm_journal.specs.Actions.{answer, hear, to_answer}
 use Rattle.herm_journal.specs.PlaceStates.{Replies, after}
 use Rattle.herm_journal.specs.Entries.{Place}
 use Rattle.herm_journal.specs.Messages.{CellReply, CellWant, CellAction}
@@ -129,7 +129,7 @@ module _ {P : Type 0} (s : System P) (p : ℕ) where
     where
       by : (x : ℕ × CellReply Name) → IsIn x rs ⊎ IsIn x ((call, r) ∷ []) → IsIn x rs ⊎ IsAnswered w a caller x
       by x (inl h) = inl h
-      by x (inr (inl e)) = inr (ap (λ (x : ℕ × CellReply Name). Rattle.herm_journal.specs.Actions.to_answer caller x.0 x.1) (sym e), ap (λ (x : ℕ × CellReply Name). answer x.0 x.1) (sym e))
+      by x (inr (inl e)) = inr (ap (λ (x : ℕ × CellReply Name). to_answer caller x.0 x.1) (sym e), ap (λ (x : ℕ × CellReply Name). answer x.0 x.1) (sym e))
       by x (inr (inr h)) = absurd h
   act-replied w place h a (heard k r rs) at = set-replied (IsAnswered w a) s.replies p ((k, r) ∷ rs) rs (cell-there s p ((k, r) ∷ rs) at) (λ x member. inl (inr member))
   act-replied w place h a (port_made b n e) at = same-replied (IsAnswered w a) s.replies

@@ -3,13 +3,18 @@
 ghost use Rattle.herm_model.specs.Values.{Name};
 ghost use Rattle.herm_system.specs.Machines.{Machine};
 ghost use Rattle.herm_sound.specs.SoundMachines.{BeginsSound, KeepsSound, NumbersCalls};
-ghost use Rattle.herm_sound.specs.laws.SoundLaws.{AnswersOpenCalls, CallsAreAnsweredOnce, ClosesOpenPorts, IsAmong, OpeningIsSound, PortsCloseOnce, RunsAreSound, RunsKeepSound, StatesAlongAreSound, StepsKeepSound};
+ghost use Rattle.herm_sound.specs.laws.SoundLaws.{AnswersOpenCalls, CallsAreAnsweredOnce, ClosesOpenPorts, EventsKeepStamps, IsAmong, OpeningIsSound, PortsCloseOnce, RunsAreSound, RunsKeepSound, StatesAlongAreSound, StepsKeepSound};
 
 /// What an event leaves of a sound state is a sound state, whatever the event: a local step, or an action of any kind at any place
 /// where it can be done. So is what a list of events leaves.
 pub fn events_keep_sound<P, J>()
     ensures steps { (machine : Machine Name P) → (state : J → P) → KeepsSound machine (IsAmong state) → StepsKeepSound machine (IsAmong state) }
     ensures runs { (machine : Machine Name P) → (state : J → P) → KeepsSound machine (IsAmong state) → RunsKeepSound machine (IsAmong state) }
+{}
+
+/// What an event adds to a journal has the stamp of the two clocks.
+pub fn events_keep_stamps<P>()
+    ensures stamps { (machine : Machine Name P) → EventsKeepStamps machine }
 {}
 
 /// The state at the start is sound, with any text as the argument. So is each state that events lead to from there, whatever the

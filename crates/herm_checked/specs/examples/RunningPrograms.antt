@@ -1,5 +1,5 @@
 -- Programs in the middle of their runs, and a ring of three processes as a term.
-use Rattle.std.specs.Prelude.{◌≡◌, ℕ, List, [], ◌∷◌, ◌++◌, Bool, Some, length, IsTrue}
+use Rattle.std.specs.Prelude.{◌≡◌, ℕ, List, [], ◌∷◌, ◌++◌, Bool, Some, length}
 use Rattle.herm_model.specs.ControlPaths.{Flow}
 use Rattle.herm_model.specs.Expressions.{copy, operation, plus, decimal}
 use Rattle.herm_model.specs.Labels.{Labels, AreExact}

@@ -6,9 +6,10 @@ use Rattle.herm_model.specs.Values.{Name, Cell}
 use Rattle.herm_journal.specs.Actions.{Action, close, answer}
 use Rattle.herm_journal.specs.PlaceStates.{Limits}
 use Rattle.herm_journal.specs.Entries.{Text, Place, port, reply_cell, same_place, Entry}
+use Rattle.herm_journal.specs.Stamps.{IsStamped}
 use Rattle.herm_journal.specs.Messages.{CellReply, CellWant}
 use Rattle.herm_system.specs.Machines.{Machine, is_local, is_acting, greatest_actions}
-use Rattle.herm_system.specs.Systems.{System, Moved, Event, steps, acts, step, Run, run, start, opening, numbered_from_one, places_for, done_in, stands, IsFinal}
+use Rattle.herm_system.specs.Systems.{System, Moved, Event, steps, acts, step, Run, run, run_on, start, opening, numbered_from_one, places_for, done_in, stands, IsFinal}
 use Rattle.herm_system.specs.Rounds.{rounds}
 use Rattle.herm_system.specs.Kinds.{unfinalised, replies_of, is_callmessage_of, has_open, is_open_port}
 use Rattle.herm_system.specs.Reports.{IsAlong}
@@ -44,6 +45,10 @@ abbrev pub replies_to : {P : Type 0} → System P → (caller call : ℕ) → �
 replies_to s q k = how_many (λ (r : ℕ × CellReply Name). nat_eq r.0 k) (replies_of s q)
 
 module _ {P : Type 0} (machine : Machine Name P) where
+  -- Behind an event the journal has the stamps of the two clocks, if it had them before. Language reference, "Stamps".
+  abbrev pub EventsKeepStamps : Type 0
+  EventsKeepStamps = (e : Event) (r t : Run P) → run_on machine e r ≡ Some t → IsStamped r.journal → IsStamped t.journal
+
   -- A process that is to make a local step makes it; one that can act can do so at some place, and at each place where something of
   -- what it wants can be done. Language reference, "Sound states".
   pub record GoOnFrom (s : System P) (p : ℕ) : Type 0 where
