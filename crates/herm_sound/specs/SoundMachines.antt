@@ -93,7 +93,7 @@ module _ {P : Type 0} (machine : Machine Name P) where
     pub wants : (limit : ℕ) (x : P) → Is x → IsTrue (is_acting (machine.ready limit x)) → (want : CellWant Name) × (machine.wanted x ≡ Some want)
     pub answers : (x : P) (want : CellWant Name) (at : ℕ) (a : CellAction Name) → Is x → machine.wanted x ≡ Some want → Answers want a → Suits machine x at a → (y : P) × (machine.answered x at a ≡ Some y)
 
-  -- Steps and actions are counted from 0 on, and none is made beyond its limit. Language reference, "Limits".
+  -- Steps and actions are counted from 0 on, and none is made beyond its limit. Language reference, "Limits of a run".
   pub record KeepsLimits : Type 0 where
     pub begins : (code number : ℕ) (port : Cell Name) (x : P) → machine.begin code number port ≡ Some x → (machine.steps x ≡ 0) × (machine.actions x ≡ 0)
     pub local_steps : (limit : ℕ) (x y : P) → IsTrue (is_local (machine.ready limit x)) → machine.local_step x ≡ Some y

@@ -68,7 +68,7 @@ module _ {P : Type 0} (machine : Machine Name P) where
   CallsAreAnsweredOnce = (limits : Limits) (argument : Text) (events : List Event) (r : Run P) → IsTrue (is_text argument) → run machine events (start machine limits argument) ≡ Some r
       → (caller call : ℕ) → how_many (answers_call caller call) r.journal ≤ 1
 
-  -- A run has at most so many events as its limits say. Language reference, "Limits".
+  -- A run has at most so many events as its limits say. Language reference, "Limits of a run".
   abbrev pub EventsAreBounded : Type 0
   EventsAreBounded = (limits : Limits) (argument : Text) (events : List Event) (r : Run P) → run machine events (start machine limits argument) ≡ Some r → length events ≤ most_events limits
 
