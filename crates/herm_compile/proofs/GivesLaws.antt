@@ -1,6 +1,5 @@
 -- What a function that stops says of the plain reader.
-use Rattle.std.specs.Prelude.{map}
-use Rattle.std.proofs.Common.{ap, refl, arith, ℕ, List, [], ◌∷◌, length, get_or, ◌≡◌, Option, None, Result, Err}
+use Rattle.std.proofs.Common.{ap, ◌≡◌, Option, None, Result, Err}
 use Rattle.herm_compile.specs.declared.stop.Stop.{Stop}
 use Rattle.herm_compile.specs.declared.stop.Stop.TheVariants.{NotBuilt, Memory}
 use Rattle.herm_compile.specs.Gives.{Fails}

@@ -114,7 +114,7 @@ list_goes past view skip one (x ∷ xs) = then_goes (one x) (each_goes (past_beh
 abbrev pub skip_path : Path → Tokens → Tokens
 skip_path p tokens = skip_list skip_name p tokens
 
-path_goes : (p : PathForm) → Goes (past_path p) (skip_path (path_form_view p))
+pub path_goes : (p : PathForm) → Goes (past_path p) (skip_path (path_form_view p))
 path_goes p = list_goes past_name name_view skip_name name_goes p.parts.items
 
 abbrev pub skip_literal : Literal → Tokens → Tokens
@@ -166,7 +166,7 @@ signed_goes None p inner = inner
 signed_goes (Some operator) p inner = then_goes token_goes inner
 
 mutual
-  expression_goes : (e : Expr) → Goes (past_expression e) (skip_expression (expr_view e))
+  pub expression_goes : (e : Expr) → Goes (past_expression e) (skip_expression (expr_view e))
   expression_goes (expressions.struct-Expr first shape others) = then_goes (conjunction_goes first) (conjunctions_go others)
 
   conjunctions_go : {m : _} (others : expressions.Row_of-Conj m) → Goes (past_conjunctions others) (skip_operands (conjs_view others))
@@ -289,7 +289,7 @@ ended_goes n {past} {skip} one = record {
       end_leads n l.0 w l.2 ∙ ap tail (one.leads a l.0 l.1);
 }
 
-pair_goes : (y x : PathForm) → Goes (past_pair y x) (skip_pair (path_form_view y) (path_form_view x))
+pub pair_goes : (y x : PathForm) → Goes (past_pair y x) (skip_pair (path_form_view y) (path_form_view x))
 pair_goes y x = then_goes (path_goes y) (then_goes token_goes (path_goes x))
 
 path_name_goes : (x : PathForm) (name : Name) → Goes (past_path_name x name) (λ t. tail (tail (skip_path (path_form_view x) t)))
@@ -322,8 +322,19 @@ at_walk n one = record { leads = λ t w e. one.leads (n, (0, t)) w e }
 of_walk : {past : ℕ → Tokens → Walked} → {skip : Tokens → Tokens} → ((n : ℕ) → Leads plain walked (past n) skip) → Leads walked walked (λ w. past w.0 w.1.1) skip
 of_walk one = record { leads = λ w v e. (one w.0).leads w.1.1 v e }
 
-block_goes : (inner : ℕ → Tokens → Moved) (skip : Tokens → Tokens) → Leads moved moved (λ w. inner w.0 w.1) skip → (n : ℕ) → Leads plain walked (blocked inner n) (λ t. tail (skip (tail t)))
+pub block_goes : (inner : ℕ → Tokens → Moved) (skip : Tokens → Tokens) → Leads moved moved (λ w. inner w.0 w.1) skip → (n : ℕ) → Leads plain walked (blocked inner n) (λ t. tail (skip (tail t)))
 block_goes inner skip one n = then_goes token_goes (then_goes (at_number n one) moved_end)
+
+pub stated_goes : (number : StmtNo) (span : Span) → {past : ℕ → Tokens → Walked} → {skip : Tokens → Tokens} → ((n : ℕ) → Leads plain walked (past n) skip) → Leads moved moved (λ w. stated number span w.0 w.1 (past (suc w.0) w.1)) skip
+stated_goes number span {past} {skip} one = record { leads = λ w v e. stated_leads number span w.0 w.1 (skip w.1) (past (suc w.0) w.1) (λ u h. (one (suc w.0)).leads w.1 u h) v e }
+
+pub arm_goes : (name : Name) (inner : ℕ → Tokens → Moved) (skip : Tokens → Tokens) → Leads moved moved (λ w. inner w.0 w.1) skip →
+    Leads walked walked (λ w. past_token w.1.1 >>= λ a. past_name name a >>= λ b. blocked inner w.0 b) (λ t. tail (skip (tail (tail (tail t)))))
+arm_goes name inner skip one = of_walk (λ n. then_goes token_goes (then_goes (name_goes name) (block_goes inner skip one n)))
+
+pub port_arm_goes : (port target : PathForm) (inner : ℕ → Tokens → Moved) (skip : Tokens → Tokens) → Leads moved moved (λ w. inner w.0 w.1) skip →
+    Leads walked walked (λ w. past_token w.1.1 >>= λ a. past_pair port target a >>= λ b. blocked inner w.0 b) (λ t. tail (skip (tail (skip_pair (path_form_view port) (path_form_view target) (tail t)))))
+port_arm_goes port target inner skip one = of_walk (λ n. then_goes token_goes (then_goes (pair_goes port target) (block_goes inner skip one n)))
 
 no_move : Leads moved moved (λ w. Some (w.0, w.1)) plain
 no_move = record { leads = λ w v e. let here : v ≡ (w.0, w.1) = cc in ap (λ (u : ℕ × Tokens). u.1) here }
@@ -332,7 +343,7 @@ no_walk : Leads walked walked (λ w. Some w) plain
 no_walk = record { leads = λ w v e. let here : v ≡ w = cc in ap (λ (u : ℕ × (ℕ × Tokens)). u.1.1) here }
 
 mutual
-  form_goes : (form : StmtForm) (n : ℕ) → Leads plain walked (walk_form form n) (skip_statement (stmt_form_view form))
+  pub form_goes : (form : StmtForm) (n : ℕ) → Leads plain walked (walk_form form n) (skip_statement (stmt_form_view form))
   form_goes (forms.Assign x e) n = ended_goes n (then_goes (path_goes x) (then_goes token_goes (expression_goes e)))
   form_goes (forms.Move y x) n = ended_goes n (then_goes token_goes (pair_goes y x))
   form_goes (forms.New x) n = ended_goes n (then_goes token_goes (path_goes x))
@@ -363,27 +374,25 @@ mutual
   form_goes (forms.Try' shape body shape_of_handlers handled) n =
       then_goes token_goes (then_goes (block_goes (λ m c. walk_statements body m c) (skip_statements (stmt_rows_view body)) (statements_go body) n) (arms_go handled))
 
-  statements_go : {m : _} (body : forms.Row_of-Stmt m) → Leads moved moved (λ w. walk_statements body w.0 w.1) (skip_statements (stmt_rows_view body))
+  pub statements_go : {m : _} (body : forms.Row_of-Stmt m) → Leads moved moved (λ w. walk_statements body w.0 w.1) (skip_statements (stmt_rows_view body))
   statements_go forms.end_of-Stmt = no_move
-  statements_go (forms.more_of-Stmt number span form others) =
-      then_goes {middle = moved} (record { leads = λ w v e. stated_leads number span w.0 w.1 (skip_statement (stmt_form_view form) w.1) (walk_form form (suc w.0) w.1) (λ u h. (form_goes form (suc w.0)).leads w.1 u h) v e }) (statements_go others)
+  statements_go (forms.more_of-Stmt number span form others) = then_goes {middle = moved} (stated_goes number span (λ n. form_goes form n)) (statements_go others)
 
-  arms_go : {m : _} (arms : forms.Row_of-StmtForm-Case-1-3 m) → Leads walked walked (walk_arms arms) (skip_arms (arms_view arms))
+  pub arms_go : {m : _} (arms : forms.Row_of-StmtForm-Case-1-3 m) → Leads walked walked (walk_arms arms) (skip_arms (arms_view arms))
   arms_go forms.end_of-StmtForm-Case-1-3 = no_walk
   arms_go (forms.more_of-StmtForm-Case-1-3 name shape body others) =
-      then_goes (of_walk (λ n. then_goes token_goes (then_goes (name_goes name) (block_goes (λ m c. walk_statements body m c) (skip_statements (stmt_rows_view body)) (statements_go body) n)))) (arms_go others)
+      then_goes (arm_goes name (λ m c. walk_statements body m c) (skip_statements (stmt_rows_view body)) (statements_go body)) (arms_go others)
 
-  port_arms_go : {m : _} (arms : forms.Row_of-StmtForm-Select-0-4 m) → Leads walked walked (walk_port_arms arms) (skip_port_arms (port_arms_view arms))
+  pub port_arms_go : {m : _} (arms : forms.Row_of-StmtForm-Select-0-4 m) → Leads walked walked (walk_port_arms arms) (skip_port_arms (port_arms_view arms))
   port_arms_go forms.end_of-StmtForm-Select-0-4 = no_walk
   port_arms_go (forms.more_of-StmtForm-Select-0-4 port target shape body others) =
-      then_goes (of_walk (λ n. then_goes token_goes (then_goes (pair_goes port target) (block_goes (λ m c. walk_statements body m c) (skip_statements (stmt_rows_view body)) (statements_go body) n)))) (port_arms_go others)
+      then_goes (port_arm_goes port target (λ m c. walk_statements body m c) (skip_statements (stmt_rows_view body)) (statements_go body)) (port_arms_go others)
 
-  otherwise_goes : (other : forms.Held-StmtForm-If-2) → Leads walked walked (walk_otherwise other) (skip_otherwise (otherwise_view other))
+  pub otherwise_goes : (other : forms.Held-StmtForm-If-2) → Leads walked walked (walk_otherwise other) (skip_otherwise (otherwise_view other))
   otherwise_goes forms.None' = no_walk
   otherwise_goes (forms.Some' shape body) =
       of_walk (λ n. then_goes token_goes (block_goes (λ m c. walk_statements body m c) (skip_statements (stmt_rows_view body)) (statements_go body) n))
 
 pub body_goes : (body : List Stmt) → Leads moved moved (λ w. walk_body body w.0 w.1) (skip_statements (stmts_view body))
 body_goes [] = no_move
-body_goes (s ∷ others) =
-    then_goes {middle = moved} (record { leads = λ w v e. stated_leads s.no s.span w.0 w.1 (skip_statement (stmt_form_view s.form) w.1) (walk_form s.form (suc w.0) w.1) (λ u h. (form_goes s.form (suc w.0)).leads w.1 u h) v e }) (body_goes others)
+body_goes (s ∷ others) = then_goes {middle = moved} (stated_goes s.no s.span (λ n. form_goes s.form n)) (body_goes others)

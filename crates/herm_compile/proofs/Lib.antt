@@ -1,6 +1,11 @@
 pub mod Leads
+pub mod Told
 pub mod NamedPlaces
+pub mod StatementPlaces
+pub mod FilesAlike
 pub mod OneAnswerLaws
+pub mod SeenRefusals
+pub mod OneNamingLaws
 pub mod Choices
 pub mod TokenFacts
 pub mod PhaseLaws

@@ -1,5 +1,5 @@
 -- The names of definitions and the marks of their shapes are those of the tokens, by what is seen of the trees.
-use Rattle.std.proofs.Common.{◌≡◌, ℕ, Bool, true, false, ◌==◌, ◌&&◌, if◌then◌else◌, List, [], ◌∷◌, ◌++◌, Option, Some, None, map, refl, sym, ap, ◌∙◌, subst, eqb-true}
+use Rattle.std.proofs.Common.{◌≡◌, ℕ, true, ◌==◌, List, [], ◌∷◌, ◌++◌, Option, Some, None, map, refl, sym, ap, ◌∙◌, eqb-true}
 use Rattle.herm_base.specs.declared.word.Span.{Span}
 use Rattle.herm_base.specs.declared.word.Name.{Name}
 use Rattle.herm_syntax.specs.declared.definitions.DFact.{DFact}
@@ -23,27 +23,8 @@ use Rattle.herm_parser.specs.Along.{◌>>=◌, past_token, is_place, past_name, 
 use Rattle.herm_parser.specs.AlongDefinitions.{past_enclosed, past_field, past_param, past_fact, past_facts, past_keep, past_kept, past_raising, past_raisings, past_shape, past_definition, past_item, past_variables, past_module}
 use Rattle.herm_parser.specs.Walk.{walk_body}
 use Rattle.herm_meaning.specs.Marks.{Mark, a_content, a_row, a_port, a_raised, in_turn, mark, part_marks, field_marks, key_marks, param_marks, kept_marks, raise_marks, shape_marks}
+use Rattle.herm_compile.proofs.Told.{Known, first_known, then_known, both_known, known_so, both_true, taken_true}
 use Rattle.herm_compile.proofs.Leads.{Tokens, tail, Leads, Goes, plain, moved, then_goes, stays, token_goes, name_goes, skip_each, skip_behind, skip_list, skip_name, each_goes, list_goes, skip_statements, body_goes, at_number}
-
--- What is known of tokens along which a step leads on.
-pub record Known (past : Tokens → Option Tokens) (P : Tokens → Type 0) : Type 0 where
-  pub known : (a b : Tokens) → past a ≡ Some b → P a
-
-split : {A B : Type 0} → (first : Option A) (q : A → Option B) (b : B) → (first >>= q) ≡ Some b → (a : A) × (first ≡ Some a) × (q a ≡ Some b)
-split None q b e = absurd (cc)
-split (Some a) q b e = (a, refl, e)
-
-first_known : {p : Tokens → Option Tokens} → {P : Tokens → Type 0} → (q : Tokens → Option Tokens) → Known p P → Known (λ t. p t >>= q) P
-first_known {p} {P} q x = record { known = λ a c e. let s = split (p a) q c e in x.known a s.0 s.1 }
-
-then_known : {p q : Tokens → Option Tokens} → {f : Tokens → Tokens} → {P : Tokens → Type 0} → Goes p f → Known q P → Known (λ t. p t >>= q) (λ t. P (f t))
-then_known {p} {q} {f} {P} x y = record { known = λ a c e. let s = split (p a) q c e in subst P (x.leads a s.0 s.1) (y.known s.0 c s.2) }
-
-both_known : {p q : Tokens → Option Tokens} → {f : Tokens → Tokens} → {P Q : Tokens → Type 0} → Goes p f → Known p P → Known q Q → Known (λ t. p t >>= q) (λ t. P t × Q (f t))
-both_known {p} {q} {f} {P} {Q} g x y = record { known = λ a c e. let s = split (p a) q c e in (x.known a s.0 s.1, subst Q (g.leads a s.0 s.1) (y.known s.0 c s.2)) }
-
-known_so : {p : Tokens → Option Tokens} → {P Q : Tokens → Type 0} → ((t : Tokens) → P t → Q t) → Known p P → Known p Q
-known_so so x = record { known = λ a b e. so a (x.known a b e) }
 
 -- ---- names
 
@@ -57,24 +38,16 @@ abbrev pub name_at : Letters → Tokens → Name
 name_at text [] = name_of text (span_of 0 0)
 name_at text (t ∷ tokens) = name_of text t.span
 
-both_true : (x y : Bool) → (x && y) ≡ true → (x ≡ true) × (y ≡ true)
-both_true true y e = (refl, e)
-both_true false y e = absurd (cc)
-
 place_same : (a b : Span) → is_place a b ≡ true → a ≡ b
 place_same a b e =
     let h = both_true (a.start == b.start) (a.end == b.end) e in
     ap (λ s. span_of s a.end) (eqb-true a.start b.start h.0) ∙ ap (λ s. span_of b.start s) (eqb-true a.end b.end h.1)
 
-taken_true : (x : Bool) (tokens b : Tokens) → (if x then Some tokens else None) ≡ Some b → x ≡ true
-taken_true true tokens b e = refl
-taken_true false tokens b e = absurd (cc)
-
 name_is : (n : Name) (a b : Tokens) → past_name n a ≡ Some b → n ≡ name_at n.text a
 name_is n [] b e = absurd (cc)
 name_is n (t ∷ tokens) b e = ap (λ s. name_of n.text s) (place_same n.span t.span (taken_true (is_place n.span t.span) tokens b e))
 
-name_known : (n : Name) → Known (past_name n) (λ t. n ≡ name_at n.text t)
+pub name_known : (n : Name) → Known (past_name n) (λ t. n ≡ name_at n.text t)
 name_known n = record { known = name_is n }
 
 -- ---- lists
@@ -122,14 +95,14 @@ map_same [] = refl
 map_same (x ∷ xs) = ap (λ ys. x ∷ ys) (map_same xs)
 
 -- elements that are all that their views and tokens say
-whole_known : {X Y : Type 0} → {past : X → Tokens → Option Tokens} → {view : X → Y} → {skip : Y → Tokens → Tokens} → {at : Y → Tokens → X} →
+pub whole_known : {X Y : Type 0} → {past : X → Tokens → Option Tokens} → {view : X → Y} → {skip : Y → Tokens → Tokens} → {at : Y → Tokens → X} →
     Reads past view (λ x. x) skip at → (xs : List X) → Known (past_list past xs) (λ t. xs ≡ at_list skip at (map view xs) t)
 whole_known r xs = known_so (λ t h. sym (map_same xs) ∙ h) (list_known r xs)
 
-enclosed_goes : {inner : Tokens → Option Tokens} → {f : Tokens → Tokens} → Goes inner f → Goes (past_enclosed inner) (λ t. tail (f (tail t)))
+pub enclosed_goes : {inner : Tokens → Option Tokens} → {f : Tokens → Tokens} → Goes inner f → Goes (past_enclosed inner) (λ t. tail (f (tail t)))
 enclosed_goes g = then_goes token_goes (then_goes g token_goes)
 
-enclosed_known : {inner : Tokens → Option Tokens} → {P : Tokens → Type 0} → Known inner P → Known (past_enclosed inner) (λ t. P (tail t))
+pub enclosed_known : {inner : Tokens → Option Tokens} → {P : Tokens → Type 0} → Known inner P → Known (past_enclosed inner) (λ t. P (tail t))
 enclosed_known x = then_known token_goes (first_known past_token x)
 
 -- ---- parts of shapes
@@ -140,13 +113,13 @@ name_reads = record { goes = name_goes; is = name_known }
 abbrev field_form : Name → Name → FieldForm
 field_form name of_type = record { name = name; of = of_type }
 
-abbrev field_at : Field → Tokens → FieldForm
+abbrev pub field_at : Field → Tokens → FieldForm
 field_at f tokens = field_form (name_at f.0 tokens) (name_at f.1 (tail (tail tokens)))
 
-abbrev skip_field : Field → Tokens → Tokens
+abbrev pub skip_field : Field → Tokens → Tokens
 skip_field f tokens = tail (tail (tail tokens))
 
-field_reads : Reads past_field field_view (λ f. f) skip_field field_at
+pub field_reads : Reads past_field field_view (λ f. f) skip_field field_at
 field_reads = record {
   goes = λ f. then_goes (name_goes f.name) (then_goes token_goes (name_goes f.of));
   is = λ f. known_so (λ t h. ap (λ n. field_form n f.of) h.0 ∙ ap (λ n. field_form (name_at f.name.text t) n) h.1)
@@ -352,19 +325,19 @@ abbrev pub cores_of : ModuleForm → List Core
 cores_of (modules.Definitions name list) = map core_of list.items
 cores_of (modules.Process name port vars body) = []
 
-abbrev cores_at : Module → Tokens → List Core
+abbrev pub cores_at : Module → Tokens → List Core
 cores_at (Definitions name list) tokens = at_each skip_item core_at list (tail (tail (tail tokens)))
 cores_at (Process name port vars body) tokens = []
 
-abbrev skip_variables : List Field → Tokens → Tokens
+abbrev pub skip_variables : List Field → Tokens → Tokens
 skip_variables [] tokens = tokens
 skip_variables (v ∷ vs) tokens = tail (skip_list skip_field (v ∷ vs) (tail tokens))
 
-abbrev skip_module : Module → Tokens → Tokens
+abbrev pub skip_module : Module → Tokens → Tokens
 skip_module (Definitions name list) tokens = tail (skip_each skip_item list (tail (tail (tail tokens))))
 skip_module (Process name port vars body) tokens = tail (skip_statements body (skip_variables vars (tail (tail (skip_field port (tail (tail (tail tokens))))))))
 
-variables_go : (list : List FieldForm) → Goes (past_variables list) (skip_variables (map field_view list))
+pub variables_go : (list : List FieldForm) → Goes (past_variables list) (skip_variables (map field_view list))
 variables_go [] = stays
 variables_go (v ∷ vs) = then_goes token_goes (then_goes (list_along field_reads (v ∷ vs)) token_goes)
 
@@ -374,7 +347,7 @@ left_of_walk = record { leads = λ w b e. let same : b ≡ w.1 = cc in same }
 process_body_goes : (body : List Stmt) → Goes (λ t. walk_body body 1 t >>= λ w. Some w.1) (skip_statements (stmts_view body))
 process_body_goes body = then_goes (at_number 1 (body_goes body)) left_of_walk
 
-module_goes : (m : ModuleForm) → Goes (past_module m) (skip_module (module_view m))
+pub module_goes : (m : ModuleForm) → Goes (past_module m) (skip_module (module_view m))
 module_goes (modules.Definitions name list) = then_goes token_goes (then_goes (name_goes name) (enclosed_goes (each_goes past_item def_item_view skip_item item_reads.goes list.items)))
 module_goes (modules.Process name port vars body) =
     then_goes token_goes (then_goes (name_goes name) (then_goes (enclosed_goes (field_reads.goes port)) (enclosed_goes (then_goes (variables_go vars.items) (process_body_goes body.items)))))
@@ -383,10 +356,11 @@ module_known : (m : ModuleForm) → Known (past_module m) (λ t. cores_of m ≡ 
 module_known (modules.Definitions name list) = then_known token_goes (then_known (name_goes name) (enclosed_known (each_known item_reads list.items)))
 module_known (modules.Process name port vars body) = record { known = λ a b e. refl }
 
-module_reads : Reads past_module module_view cores_of skip_module cores_at
+pub module_reads : Reads past_module module_view cores_of skip_module cores_at
 module_reads = record { goes = module_goes; is = module_known }
 
--- Modules that go along the same tokens and are seen alike have the same names at the same places.
-pub same_cores : (tokens rest left : Tokens) (a b : List ModuleForm) → map module_view a ≡ map module_view b → past_each past_module a tokens ≡ Some rest → past_each past_module b tokens ≡ Some left → map cores_of a ≡ map cores_of b
-same_cores tokens rest left a b same of_a of_b =
-    (each_known module_reads a).known tokens rest of_a ∙ (ap (λ ms. at_each skip_module cores_at ms tokens) same ∙ sym ((each_known module_reads b).known tokens left of_b))
+-- Modules that go along the same tokens and are seen alike are alike in what is read off their tokens and views.
+pub read_alike : {Z : Type 0} → {core : ModuleForm → Z} → {at : Module → Tokens → Z} → Reads past_module module_view core skip_module at → (tokens rest left : Tokens) (a b : List ModuleForm) →
+    map module_view a ≡ map module_view b → past_each past_module a tokens ≡ Some rest → past_each past_module b tokens ≡ Some left → map core a ≡ map core b
+read_alike {Z} {core} {at} r tokens rest left a b same of_a of_b =
+    (each_known r a).known tokens rest of_a ∙ (ap (λ ms. at_each skip_module at ms tokens) same ∙ sym ((each_known r b).known tokens left of_b))

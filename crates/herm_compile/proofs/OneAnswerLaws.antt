@@ -1,10 +1,7 @@
 -- Files have one answer of the second phase: what it takes from modules is determined by the tokens.
-use Rattle.std.proofs.Common.{◌≡◌, ℕ, suc, List, [], ◌∷◌, ◌++◌, Option, Some, None, map, length, replicate, refl, sym, ap, ◌∙◌, subst}
+use Rattle.std.proofs.Common.{◌≡◌, ℕ, suc, List, [], ◌∷◌, ◌++◌, Option, Some, None, map, refl, sym, ap, ◌∙◌, subst}
 use Rattle.std.proofs.lemmas.List.{map-append}
 use Rattle.herm_base.specs.declared.word.Name.{Name}
-use Rattle.herm_alphabet.specs.declared.token.Token.{Token}
-use Rattle.herm_model.proofs.Lists.{length-map}
-use Rattle.herm_lexer.proofs.FileLaws.{one_token_list}
 use Rattle.herm_syntax.specs.declared.definitions.DefForm.{DefForm}
 use Rattle.herm_syntax.specs.declared.definitions.DefForm.TheVariants.{Shaped, Exception}
 use Rattle.herm_syntax.specs.declared.definitions.DefItem.{DefItem}
@@ -12,8 +9,6 @@ use Rattle.herm_syntax.specs.declared.modules.Module.{Module}
 use Rattle.herm_syntax.specs.declared.modules.Module.TheVariants.{Definitions, Process}
 use Rattle.herm_syntax.specs.Trees.{Letters, Shape}
 use Rattle.herm_syntax.specs.View.{module_view, shape_form_view}
-use Rattle.herm_parser.specs.Parsing.{IsParsed}
-use Rattle.herm_parser.proofs.OneAnswer.{one_parse}
 use Rattle.herm_meaning.specs.Names.{NamedTable, behind_predefined, predefined_names, predefined_exception_names}
 use Rattle.herm_meaning.specs.Items.{Placed, module_items, items_from, items_of, types_by, types_in, exceptions_by, exceptions_in}
 use Rattle.herm_naming.specs.Meaning.{meaning as program_meaning, main_number}
@@ -21,10 +16,11 @@ use Rattle.herm_meaning.specs.Meaning.{part_names, numbered_shape, outline, mean
 use Rattle.herm_meaning.specs.Marks.{Mark, a_type, an_exception, mark, shape_marks, Place, places_in, places_by, places_from, places}
 use Rattle.herm_meaning.specs.DefinitionFaults.{Fault as Wrong, AreFaults, AreFaultsOf}
 use Rattle.herm_meaning.proofs.Unique.{one-list}
-use Rattle.herm_compile.specs.FirstPhase.{HasModules, HaveModules}
-use Rattle.herm_compile.specs.SecondPhase.{definition_fault}
+use Rattle.herm_compile.specs.FirstPhase.{HaveModules}
+use Rattle.herm_compile.specs.SecondPhase.{AreTypesOf, definition_fault}
 use Rattle.herm_compile.specs.OneDefinition.{HaveOneTable, AreOneList, TypesOrFaults, HaveOneProgram}
-use Rattle.herm_compile.proofs.NamedPlaces.{Core, core_by, core_of, cores_of, same_cores}
+use Rattle.herm_compile.proofs.NamedPlaces.{Core, core_by, core_of, cores_of, module_reads}
+use Rattle.herm_compile.proofs.FilesAlike.{same_views, same_read, same_owners}
 
 -- ---- what is taken from items
 
@@ -153,58 +149,35 @@ module _ (items others : List Placed) (same : map placed_core items ≡ map plac
 
 -- ---- files
 
-has_same : (bytes : List ℕ) (a b : List Module) → HasModules bytes a → HasModules bytes b → (map module_view a ≡ map module_view b) × (map cores_of a ≡ map cores_of b)
-has_same bytes a b of_a of_b =
-    let tokens_same = one_token_list bytes of_b.tokens of_a.tokens of_b.read of_a.read in
-    let parsed = subst (λ (ts : List Token). IsParsed ts b) tokens_same of_b.parsed in
-    let views = (one_parse of_a.tokens a b of_a.parsed parsed).0 in
-    (views, same_cores of_a.tokens [] [] a b views of_a.parsed.along parsed.along)
-
-have_same : (number : ℕ) (files : List (List ℕ)) (a b : List Module) (owners others : List ℕ) → HaveModules number files a owners → HaveModules number files b others → (map cores_of a ≡ map cores_of b) × (owners ≡ others)
-have_same number [] a b owners others of_a of_b = (ap (map cores_of) (of_a.0 ∙ sym of_b.0), of_a.1 ∙ sym of_b.1)
-have_same number (bytes ∷ files) a b owners others of_a of_b =
-    let own = has_same bytes of_a.0 of_b.0 of_a.1 of_b.1 in
-    let more = have_same (suc number) files of_a.2 of_b.2 of_a.3 of_b.3 of_a.6 of_b.6 in
-    let count = sym (length-map module_view of_a.0) ∙ (ap length own.0 ∙ length-map module_view of_b.0) in (
-      ap (map cores_of) of_a.4 ∙ (map-append cores_of of_a.0 of_a.2
-          ∙ (ap (λ cs. cs ++ map cores_of of_a.2) own.1 ∙ (ap (λ cs. map cores_of of_b.0 ++ cs) more.0 ∙ (sym (map-append cores_of of_b.0 of_b.2) ∙ ap (map cores_of) (sym of_b.4))))),
-      of_a.5 ∙ (ap (λ n. replicate n number ++ of_a.3) count ∙ (ap (λ os. replicate (length of_b.0) number ++ os) more.1 ∙ sym of_b.5)),
-    )
-
-have_views : (number : ℕ) (files : List (List ℕ)) (a b : List Module) (owners others : List ℕ) → HaveModules number files a owners → HaveModules number files b others → map module_view a ≡ map module_view b
-have_views number [] a b owners others of_a of_b = ap (map module_view) (of_a.0 ∙ sym of_b.0)
-have_views number (bytes ∷ files) a b owners others of_a of_b =
-    let own = has_same bytes of_a.0 of_b.0 of_a.1 of_b.1 in
-    let more = have_views (suc number) files of_a.2 of_b.2 of_a.3 of_b.3 of_a.6 of_b.6 in
-    ap (map module_view) of_a.4 ∙ (map-append module_view of_a.0 of_a.2
-    ∙ (ap (λ vs. vs ++ map module_view of_a.2) own.0 ∙ (ap (λ vs. map module_view of_b.0 ++ vs) more ∙ (sym (map-append module_view of_b.0 of_b.2) ∙ ap (map module_view) (sym of_b.4)))))
-
 same_items : (a b : List Module) → map cores_of a ≡ map cores_of b → map placed_core (items_of a) ≡ map placed_core (items_of b)
 same_items a b same = items_are 0 a ∙ (ap (cores_from 0) same ∙ sym (items_are 0 b))
 
+module _ (files : List (List ℕ)) (a b : List Module) (owners others : List ℕ) (of_a : HaveModules 0 files a owners) (of_b : HaveModules 0 files b others) where
+  placed_alike : map placed_core (items_of a) ≡ map placed_core (items_of b)
+  placed_alike = same_items a b (same_read module_reads 0 files a b owners others of_a of_b)
+
+  pub tables_alike : (table other : NamedTable) → AreTypesOf a table → AreTypesOf b other → table ≡ other
+  tables_alike table other x y = x.meant ∙ (same_meaning (items_of a) (items_of b) placed_alike ∙ sym y.meant)
+
+  lists_alike : (list more : List Wrong) → AreFaultsOf (items_of a) list → AreFaultsOf (items_of b) more → list ≡ more
+  lists_alike list more x y = one-list (outline (items_of b)) (places (items_of b)) list more (same_faults (items_of a) (items_of b) placed_alike list x) y
+
 pub one_table : HaveOneTable
-one_table files table other a b =
-    let same = have_same 0 files a.modules b.modules a.owners b.owners a.read b.read in
-    a.are.meant ∙ (same_meaning (items_of a.modules) (items_of b.modules) (same_items a.modules b.modules same.0) ∙ sym b.are.meant)
+one_table files table other a b = tables_alike files a.modules b.modules a.owners b.owners a.read b.read table other a.are b.are
 
 pub one_list : AreOneList
 one_list files faults others a b =
-    let same = have_same 0 files a.modules b.modules a.owners b.owners a.read b.read in
-    let there = same_faults (items_of a.modules) (items_of b.modules) (same_items a.modules b.modules same.0) a.list a.are in
-    let lists = one-list (outline (items_of b.modules)) (places (items_of b.modules)) a.list b.list there b.are in
-    a.each ∙ (ap (λ os. map (definition_fault files os) a.list) same.1 ∙ (ap (λ l. map (definition_fault files b.owners) l) lists ∙ sym b.each))
+    let owners = same_owners 0 files a.modules b.modules a.owners b.owners a.read b.read in
+    let lists = lists_alike files a.modules b.modules a.owners b.owners a.read b.read a.list b.list a.are b.are in
+    a.each ∙ (ap (λ os. map (definition_fault files os) a.list) owners ∙ (ap (λ l. map (definition_fault files b.owners) l) lists ∙ sym b.each))
 
 pub types_or_faults : TypesOrFaults
-types_or_faults files table faults a b =
-    let same = have_same 0 files a.modules b.modules a.owners b.owners a.read b.read in
-    let there = same_faults (items_of a.modules) (items_of b.modules) (same_items a.modules b.modules same.0) [] a.are.right in
-    b.some (one-list (outline (items_of b.modules)) (places (items_of b.modules)) b.list [] b.are there)
+types_or_faults files table faults a b = b.some (sym (lists_alike files a.modules b.modules a.owners b.owners a.read b.read [] b.list a.are.right b.are))
 
 pub one_program : HaveOneProgram
 one_program files table other processes others main number a b =
-    let same = have_same 0 files a.modules b.modules a.owners b.owners a.read b.read in
-    let views = have_views 0 files a.modules b.modules a.owners b.owners a.read b.read in
-    let tables = a.types.meant ∙ (same_meaning (items_of a.modules) (items_of b.modules) (same_items a.modules b.modules same.0) ∙ sym b.types.meant) in (
+    let views = same_views 0 files a.modules b.modules a.owners b.owners a.read b.read in
+    let tables = tables_alike files a.modules b.modules a.owners b.owners a.read b.read table other a.types b.types in (
       tables,
       a.meant ∙ (ap (λ t. program_meaning t (map module_view a.modules)) tables ∙ (ap (program_meaning other) views ∙ sym b.meant)),
       a.main_is ∙ (ap main_number views ∙ sym b.main_is),

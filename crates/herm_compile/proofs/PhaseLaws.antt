@@ -1,6 +1,5 @@
 -- The first phase over the files.
 use Rattle.std.proofs.Common.{◌≡◌, ◌⊎◌, inl, inr, ℕ, suc, List, [], ◌∷◌, ◌++◌, Option, Some, None, map, length, refl, sym, ap, subst, ◌∙◌, ◌<◌, ◌≤◌, ◌+◌, get_or, drop, replicate, arith, add-one, drop-cons, append_assoc, append-nil}
-use Rattle.herm_lexer.specs.Spelling.{HasTokens}
 use Rattle.herm_lexer.specs.Faults.{HasFault}
 use Rattle.herm_lexer.specs.declared.fault.LexFault.{LexFault}
 use Rattle.herm_lexer.specs.declared.fault.LexFault.TheVariants.{Memory}
@@ -16,7 +15,7 @@ use Rattle.herm_parser.specs.Gives.{kinds as symbols_of}
 use Rattle.herm_parser.specs.OpenBrackets.{most_brackets}
 use Rattle.herm_syntax.specs.declared.modules.Module.{Module}
 use Rattle.herm_compile.specs.View.{Seen, fault_view}
-use Rattle.herm_compile.specs.FirstPhase.{HasTrees, HasModules, HasFileFault, IsSaid, AreFirstFaults, HaveModules, HaveTrees, file_fault, fault_list, TreesOrFault}
+use Rattle.herm_compile.specs.FirstPhase.{HasTrees, HasModules, IsSaid, AreFirstFaults, HaveModules, HaveTrees, file_fault, fault_list, TreesOrFault}
 use Rattle.herm_compile.specs.Added.{IsAdded}
 use Rattle.herm_compile.specs.declared.phase.ReadFiles.{ReadFiles}
 use Rattle.herm_compile.proofs.CheckLaws.{drop_end}

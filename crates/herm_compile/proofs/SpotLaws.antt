@@ -1,6 +1,5 @@
 -- Files that have modules are short.
-use Rattle.std.proofs.Common.{◌≡◌, inl, inr, ℕ, zero, suc, ◌≤◌, List, [], ◌∷◌, length, get_or, refl, subst, sym, arith}
-use Rattle.herm_model.specs.Lists.{IsIn}
+use Rattle.std.proofs.Common.{inl, inr, ℕ, zero, suc, ◌≤◌, List, [], ◌∷◌, length, refl, subst, sym, arith}
 use Rattle.herm_syntax.specs.declared.modules.Module.{Module}
 use Rattle.herm_compile.specs.FirstPhase.{HaveModules}
 use Rattle.herm_compile.specs.Spots.{AreShort, bytes_of}

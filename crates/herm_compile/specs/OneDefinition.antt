@@ -1,10 +1,10 @@
--- Files have one answer in the second phase, and mean one program (Language reference, "Refusals of definitions", "Processes").
+-- Files have one answer in the second phase and one in the third (Language reference, "Refusals of definitions", "Refusals", "Processes").
 use Rattle.std.specs.Prelude.{◌≡◌, ℕ, List, map}
 use Rattle.herm_meaning.specs.Names.{NamedTable}
 use Rattle.herm_compile.specs.View.{fault_view}
 use Rattle.herm_model.specs.Statements.{Process}
 use Rattle.herm_compile.specs.SecondPhase.{HaveTypes, AreMisdefined}
-use Rattle.herm_compile.specs.ThirdPhase.{HaveProgram}
+use Rattle.herm_compile.specs.ThirdPhase.{HaveProgram, AreMisnamed}
 use Rattle.herm_compile.specs.declared.fault.Fault.{Fault}
 
 -- Files mean one table of types at most.
@@ -23,3 +23,11 @@ TypesOrFaults = (files : List (List ℕ)) (table : NamedTable) (faults : List Fa
 abbrev pub HaveOneProgram : Type 0
 HaveOneProgram = (files : List (List ℕ)) (table other : NamedTable) (processes others : List Process) (main number : ℕ) → HaveProgram files table processes main → HaveProgram files other others number
     → (table ≡ other) × (processes ≡ others) × (main ≡ number)
+
+-- The faults of names and types are one list: their files, places, codes and words, in their order.
+abbrev pub NameFaultsAreOneList : Type 0
+NameFaultsAreOneList = (files : List (List ℕ)) (faults others : List Fault) → AreMisnamed files faults → AreMisnamed files others → map fault_view faults ≡ map fault_view others
+
+-- Files that mean a program have no faults of names and types.
+abbrev pub ProgramOrFaults : Type 0
+ProgramOrFaults = (files : List (List ℕ)) (table : NamedTable) (processes : List Process) (main : ℕ) (faults : List Fault) → HaveProgram files table processes main → AreMisnamed files faults → ⊥

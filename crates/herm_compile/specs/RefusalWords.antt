@@ -1,6 +1,5 @@
 -- The words behind the codes of refusals. Language reference, "Refusals".
 use Rattle.std.specs.Prelude.{ℕ, List, codes, ◌∷◌, ◌++◌, decimal}
-use Rattle.herm_lexer.specs.declared.fault.LexFault.TheVariants as lexical
 use Rattle.herm_compile.specs.declared.phase.FileFault.{FileFault}
 use Rattle.herm_compile.specs.declared.phase.FileFault.TheVariants.{Byte, Token as NoToken, TooLong, Syntax, Nesting}
 use Rattle.herm_meaning.specs.DefinitionFaults.{Code, unknown, twice, cycle, deep, bad_key, bad_state}

@@ -1,7 +1,6 @@
 -- Why files are refused: the words and the faults.
 use Rattle.std.specs.Prelude.{◌≡◌, ◌≢◌, ◌⊎◌, ℕ, Some, None, List, [], ◌∷◌, map, length, codes, get_or, drop}
 use Rattle.herm_model.specs.Types.{predefined}
-use Rattle.herm_model.specs.ControlPaths as control
 use Rattle.herm_model.specs.Refusals.{IsMissing}
 use Rattle.herm_alphabet.specs.declared.token.Token.{Token}
 use Rattle.herm_compile.specs.Form.{line_tokens, IsOfForm, AreOfForm}

@@ -1,5 +1,5 @@
 -- What the code's faults stand for.
-use Rattle.std.specs.Prelude.{ℕ, Option, List, [], ◌∷◌, map}
+use Rattle.std.specs.Prelude.{ℕ, Option, List, ◌∷◌, map}
 use Rattle.std.specs.Option.{option_map}
 use Rattle.herm_model.specs.Paths as facts
 use Rattle.herm_model.specs.Outcomes as outcomes

@@ -26,7 +26,7 @@ ghost use Rattle.herm_compile.specs.View.{fault_view};
 ghost use Rattle.herm_compile.specs.FirstPhase.{HasTrees, HaveModules, HaveTrees, TreesOrFault};
 ghost use Rattle.herm_compile.specs.SecondPhase.{HaveTypes, AreTypesOf};
 ghost use Rattle.herm_compile.specs.Phases.{IsDefined, HaveThisProgram, IsResolution};
-ghost use Rattle.herm_compile.specs.OneDefinition.{HaveOneTable, AreOneList, TypesOrFaults, HaveOneProgram};
+ghost use Rattle.herm_compile.specs.OneDefinition.{HaveOneTable, AreOneList, TypesOrFaults, HaveOneProgram, NameFaultsAreOneList, ProgramOrFaults};
 ghost use Rattle.herm_compile.specs.Refused.{IsExactRefusal, IsLater, AreLater, IfRefused, not_built, reported, starts};
 
 use check::gaps_of;
@@ -81,12 +81,15 @@ pub fn trees_or_fault()
     ensures { TreesOrFault }
 {}
 
-/// Files have one answer of the second phase: one table of types, or one list of faults. They mean one program at most.
+/// Files have one answer of the second phase: one table of types, or one list of faults, and never both. Files have one
+/// answer of the third: one program, or one list of faults, and never both.
 pub fn one_definition()
     ensures types { HaveOneTable }
     ensures faults { AreOneList }
     ensures either { TypesOrFaults }
     ensures program { HaveOneProgram }
+    ensures names { NameFaultsAreOneList }
+    ensures program_or_faults { ProgramOrFaults }
 {}
 
 /// Compiles files that all have trees.

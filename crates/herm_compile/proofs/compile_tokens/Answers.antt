@@ -1,4 +1,3 @@
-use Rattle.herm_compile.specs.Refused.{IfRefused}
 use Rattle.herm_compile.proofs.GivesLaws.{stops_same}
 use Rattle.herm_compile.proofs.ProgramLaws.{form_read, not_built_later}
 use Rattle.herm_compile.proofs.compile_tokens.Goals as goal

@@ -1,4 +1,3 @@
-use Rattle.std.proofs.Common.{map, length, ◌≤◌}
 use Rattle.herm_compile.proofs.SpotLaws.{there_short}
 use Rattle.herm_compile.proofs.spots.spot_fault.Goals as goal
 
