@@ -6,6 +6,8 @@ use Rattle.herm_meaning.specs.Names.{NamedTable}
 use Rattle.herm_syntax.specs.declared.modules.Module.{Module}
 use Rattle.herm_typed.specs.View.{typed_process_view}
 use Rattle.herm_resolve.specs.declared.program.Program.{Program}
+use Rattle.herm_resolve.specs.Refused.{IsProgramOf}
+use Rattle.herm_compile.specs.FirstPhase.{HaveModules}
 use Rattle.herm_compile.specs.SecondPhase.{AreTypesOf, AreMisdefined}
 use Rattle.herm_compile.specs.ThirdPhase.{HaveProgram, AreMisnamed}
 use Rattle.herm_compile.specs.declared.fault.Fault.{Fault}
@@ -18,6 +20,11 @@ IsDefined files modules (Err faults) = AreMisdefined files faults.items
 -- these are the processes and the number of main of the program that the files' modules mean
 abbrev pub HaveThisProgram : List (List ℕ) → NamedTable → Program → Type 0
 HaveThisProgram files types program = HaveProgram files types (map typed_process_view program.processes.items) program.main
+
+-- The program is the one of the files' modules: its names, numbers and places are those of the text, and each path has its type
+-- (Language reference, "Processes").
+abbrev pub IsOfModules : List (List ℕ) → NamedTable → Program → Type 0
+IsOfModules files types program = (modules : List Module) × (owners : List ℕ) × HaveModules 0 files modules owners × IsProgramOf types modules program
 
 -- the program that the modules mean, or their faults of names and types
 abbrev pub IsResolution : List (List ℕ) → NamedTable → Result Program (Vec Fault Global) → Type 0

@@ -25,7 +25,7 @@ ghost use Rattle.herm_compile.specs.Straight.{process_of, gaps};
 ghost use Rattle.herm_compile.specs.View.{fault_view};
 ghost use Rattle.herm_compile.specs.FirstPhase.{HasTrees, HaveModules, HaveTrees, TreesOrFault};
 ghost use Rattle.herm_compile.specs.SecondPhase.{HaveTypes, AreTypesOf};
-ghost use Rattle.herm_compile.specs.Phases.{IsDefined, HaveThisProgram, IsResolution};
+ghost use Rattle.herm_compile.specs.Phases.{IsDefined, HaveThisProgram, IsOfModules, IsResolution};
 ghost use Rattle.herm_compile.specs.OneDefinition.{HaveOneTable, AreOneList, TypesOrFaults, HaveOneProgram, NameFaultsAreOneList, ProgramOrFaults};
 ghost use Rattle.herm_compile.specs.Refused.{IsExactRefusal, IsLater, AreLater, IfRefused, not_built, reported, starts};
 
@@ -56,6 +56,7 @@ pub fn compile(alloc: Global, files: &[(Word, Vec<u8>)]) -> Result<Compiled, Com
     ensures read { IfOk result (λ c. HaveTrees (map (λ file. file.1.items) files.now)) }
     ensures types { IfOk result (λ c. HaveTypes (map (λ file. file.1.items) files.now) c.types) }
     ensures program { IfOk result (λ c. HaveThisProgram (map (λ file. file.1.items) files.now) c.types c.program) }
+    ensures kept { IfOk result (λ c. IsOfModules (map (λ file. file.1.items) files.now) c.types c.program) }
     ensures form { IfOk result (λ c. AreOfForm (map (λ file. file.1.items) files.now) c.names.items c.lines.items) }
     ensures accepted { IfOk result (λ c. IsAccepted predefined (process_of (length c.names.items) c.lines.items)) }
     ensures refused { IfErr result (λ e. IsExactRefusal (map (λ file. file.1.items) files.now) e) }
@@ -102,6 +103,7 @@ fn compile_read(
     requires modules { HaveModules 0 (map (λ file. file.1.items) files.now) read.now.modules.items read.now.owners.items }
     ensures types { IfOk result (λ c. HaveTypes (map (λ file. file.1.items) files.now) c.types) }
     ensures program { IfOk result (λ c. HaveThisProgram (map (λ file. file.1.items) files.now) c.types c.program) }
+    ensures kept { IfOk result (λ c. IsOfModules (map (λ file. file.1.items) files.now) c.types c.program) }
     ensures form { IfOk result (λ c. AreOfForm (map (λ file. file.1.items) files.now) c.names.items c.lines.items) }
     ensures accepted { IfOk result (λ c. IsAccepted predefined (process_of (length c.names.items) c.lines.items)) }
     ensures refused { IfErr result (λ e. IsExactRefusal (map (λ file. file.1.items) files.now) e) }
@@ -125,6 +127,7 @@ fn compile_typed(
     requires types { AreTypesOf read.now.modules.items types }
     ensures types { IfOk result (λ c. HaveTypes (map (λ file. file.1.items) files.now) c.types) }
     ensures program { IfOk result (λ c. HaveThisProgram (map (λ file. file.1.items) files.now) c.types c.program) }
+    ensures kept { IfOk result (λ c. IsOfModules (map (λ file. file.1.items) files.now) c.types c.program) }
     ensures form { IfOk result (λ c. AreOfForm (map (λ file. file.1.items) files.now) c.names.items c.lines.items) }
     ensures accepted { IfOk result (λ c. IsAccepted predefined (process_of (length c.names.items) c.lines.items)) }
     ensures refused { IfErr result (λ e. IsExactRefusal (map (λ file. file.1.items) files.now) e) }
@@ -146,8 +149,10 @@ fn compile_program(
     requires trees { HaveTrees (map (λ file. file.1.items) files.now) }
     requires types { HaveTypes (map (λ file. file.1.items) files.now) types }
     requires program { HaveThisProgram (map (λ file. file.1.items) files.now) types program }
+    requires kept { IsOfModules (map (λ file. file.1.items) files.now) types program }
     ensures types { IfOk result (λ c. HaveTypes (map (λ file. file.1.items) files.now) c.types) }
     ensures program { IfOk result (λ c. HaveThisProgram (map (λ file. file.1.items) files.now) c.types c.program) }
+    ensures kept { IfOk result (λ c. IsOfModules (map (λ file. file.1.items) files.now) c.types c.program) }
     ensures form { IfOk result (λ c. AreOfForm (map (λ file. file.1.items) files.now) c.names.items c.lines.items) }
     ensures accepted { IfOk result (λ c. IsAccepted predefined (process_of (length c.names.items) c.lines.items)) }
     ensures refused { IfErr result (λ e. IsExactRefusal (map (λ file. file.1.items) files.now) e) }

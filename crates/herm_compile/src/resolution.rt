@@ -6,7 +6,7 @@ ghost use Rattle.herm_compile.specs.FirstPhase.{HaveModules};
 ghost use Rattle.herm_compile.specs.SecondPhase.{AreTypesOf};
 ghost use Rattle.herm_compile.specs.ThirdPhase.{name_rank, name_fault, placed_fault, main_fault};
 ghost use Rattle.herm_compile.specs.RefusalWords.{name_words};
-ghost use Rattle.herm_compile.specs.Phases.{IsResolution};
+ghost use Rattle.herm_compile.specs.Phases.{IsOfModules, IsResolution};
 ghost use Rattle.herm_compile.specs.View.{fault_view};
 ghost use Rattle.herm_compile.specs.Spots.{AreShort};
 
@@ -149,7 +149,8 @@ pub fn resolution_of(
 ) -> Result<Result<Program, Vec<Fault>>, AllocError>
     requires read { HaveModules 0 (map (λ file. file.1.items) files.now) read.now.modules.items read.now.owners.items }
     requires types { AreTypesOf read.now.modules.items types.now }
-    ensures { IfOk result (λ said. IsResolution (map (λ file. file.1.items) files.now) types.now said) }
+    ensures said { IfOk result (λ said. IsResolution (map (λ file. file.1.items) files.now) types.now said) }
+    ensures kept { IfOk result (λ said. IfOk said (λ p. IsOfModules (map (λ file. file.1.items) files.now) types.now p)) }
 {
     match resolve(alloc, read.modules.as_slice(), types) {
         Ok(program) => Ok(Ok(program)),
