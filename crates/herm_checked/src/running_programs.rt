@@ -1,6 +1,8 @@
 // Programs in the middle of their runs: the laws of checked programs, applied to states that are computed.
 
-ghost use Rattle.herm_checked.specs.examples.RunningPrograms.{IsFreeAt, IsReady, IsSoundBehind, past_a_raise, ring_of_three};
+ghost use Rattle.std.specs.Prelude.{◌≡◌, [], ◌∷◌, true, false};
+ghost use Rattle.herm_model.specs.Statements.{block, no_blocks, no_statements};
+ghost use Rattle.herm_checked.specs.examples.RunningPrograms.{choosing_program, IsFreeAt, IsReady, IsSoundBehind, makes_rounds, past_a_raise, ring_of_three};
 ghost use Rattle.herm_source.specs.examples.CallPrograms.{calls_both_ways, kept_parameter};
 ghost use Rattle.herm_source.specs.examples.Programs.{two_senders};
 ghost use Rattle.herm_source.specs.examples.RunExamples.{limited};
@@ -20,6 +22,13 @@ pub fn states_in_the_middle_are_sound()
     ensures senders { IsSoundBehind (two_senders 3) (limited 1000 4 4) 12 6 }
     ensures both { IsSoundBehind calls_both_ways (limited 1000 4 8) 10 7 }
     ensures kept { IsSoundBehind kept_parameter (limited 1000 4 4) 5 4 }
+{}
+
+/// Where an arm of a `case` is missing, the program is not typed, and its run is stuck at the third round; with both arms it goes on.
+pub fn missing_arms_stop_a_run()
+    ensures before { makes_rounds 2 (choosing_program (1 ∷ []) (block no_statements no_blocks)) ≡ true }
+    ensures missing { makes_rounds 3 (choosing_program (1 ∷ []) (block no_statements no_blocks)) ≡ false }
+    ensures complete { makes_rounds 3 (choosing_program (0 ∷ 1 ∷ []) (block no_statements (block no_statements no_blocks))) ≡ true }
 {}
 
 /// Where no control path leads, labels are free: exact ones may say every fact there, or none.

@@ -1,13 +1,12 @@
 -- Programs in the middle of their runs, and a ring of three processes as a term.
-use Rattle.std.specs.Prelude.{◌≡◌, ℕ, List, [], ◌∷◌, ◌++◌, Bool, Some, length}
-use Rattle.herm_model.specs.ControlPaths.{Flow}
+use Rattle.std.specs.Prelude.{◌≡◌, ℕ, List, [], ◌∷◌, ◌++◌, Bool, Some, is_some, length}
 use Rattle.herm_model.specs.Expressions.{copy, operation, plus, decimal}
 use Rattle.herm_model.specs.Labels.{Labels, AreExact}
 use Rattle.herm_model.specs.Outcomes.{overflow}
 use Rattle.herm_model.specs.Paths.{Fact}
-use Rattle.herm_model.specs.Statements.{Assign, Connect, Create, New, Raise, Receive, Send, Statement, simple}
-use Rattle.herm_model.specs.Types.{TypeTable, predefined, fields, inport, outport}
-use Rattle.herm_model.specs.ControlPaths.{flow_of}
+use Rattle.herm_model.specs.Statements.{Assign, Blocks, Connect, Create, New, Raise, Receive, Send, Statement, simple}
+use Rattle.herm_model.specs.Types.{TypeTable, predefined, cases, fields, inport, outport}
+use Rattle.herm_model.specs.ControlPaths.{Flow, flow_of}
 use Rattle.herm_model.specs.Values.{Name}
 use Rattle.herm_journal.specs.PlaceStates.{Limits}
 use Rattle.herm_system.specs.Systems.{Run, start}
@@ -15,9 +14,10 @@ use Rattle.herm_source.specs.Checked.{IsChecked}
 use Rattle.herm_source.specs.Instance.{source}
 use Rattle.herm_source.specs.Modules.{Program}
 use Rattle.herm_source.specs.States.{State}
+use Rattle.herm_source.specs.examples.CheckedExamples.{choosing_process}
 use Rattle.herm_source.specs.examples.CountExamples.{behind_rounds}
-use Rattle.herm_source.specs.examples.Programs.{variable, part_in, a_number, process_of, receives_start, says}
-use Rattle.herm_source.specs.examples.RunExamples.{ready_program}
+use Rattle.herm_source.specs.examples.Programs.{variable, part_in, a_number, alone, process_of, receives_start, says}
+use Rattle.herm_source.specs.examples.RunExamples.{limited, ready_program}
 use Rattle.herm_checked.specs.laws.CheckedRuns.{IsSoundAndReached}
 
 -- The program made ready is checked; and its run, with an empty argument, has so many entries behind so many rounds, and its state
@@ -65,6 +65,14 @@ ring_of_three = record {
       ∷ [];
   main = 1;
 }
+
+-- the program whose main is  var v: either, k: integer; k := 1; unite v.a from k; case v { .. }  with these arms; and whether so many
+-- rounds of its run can be made, or a process is stuck
+abbrev pub choosing_program : List ℕ → Blocks → Program
+choosing_program arms blocks = alone (cases (1 ∷ 2 ∷ []) ∷ []) (choosing_process arms blocks)
+
+abbrev pub makes_rounds : ℕ → Program → Bool
+makes_rounds n program = is_some (behind_rounds n (source (ready_program program)) (start (source (ready_program program)) (limited 1000 4 4) []))
 
 -- a process p(start: main_start) { var n: integer; raise Overflow; n := 1; }, whose second statement no control path reaches
 abbrev pub past_a_raise : Flow
