@@ -1,0 +1,2 @@
+-- Sets of facts as trees.
+pub mod Trees

@@ -1,0 +1,4 @@
+//! Sets of facts: a tree of marks for each variable.
+#![tactic(auto)]
+
+mod tree;
