@@ -1,3 +1,4 @@
 pub mod Marks
 pub mod Meets
 pub mod Within
+pub mod FactSets

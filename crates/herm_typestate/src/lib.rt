@@ -1,4 +1,8 @@
 //! Sets of facts: a tree of marks for each variable.
 #![tactic(auto)]
 
+mod facts;
+mod state;
 mod tree;
+
+pub use state::State;

@@ -2,7 +2,8 @@
 ghost use Rattle.std.specs.Prelude.{◌≡◌, [], ◌∷◌, ◌&&◌, ◌||◌, not, false, ℕ, List, length, IfOk, OnOk, OnErr, ◌≤◌, ◌<◌, nat_eq, true};
 ghost use Rattle.herm_model.specs.Paths.{is_at_or_below};
 ghost use Rattle.herm_typestate.specs.Trees.{has_mark, is_marked, same_mark, tree_has, is_mark_of, IsWithin, IsBeyond, Tells};
-ghost use Rattle.herm_model.specs.Lists.{any_pass};
+ghost use Rattle.herm_model.specs.Lists.{any_pass, all_pass};
+ghost use Rattle.herm_typestate.specs.Small.{is_step};
 ghost use Rattle.herm_typestate.specs.declared.tree.Tree.{out-Tree};
 ghost use Rattle.herm_typestate.specs.declared.tree.Mark.{Mark as Sign};
 
@@ -132,6 +133,7 @@ pub fn make(
 ) -> Result<(), AllocError>
     ensures ok { OnOk result ((m : Sign) (q : List ℕ) → has_mark trees.new.items m q ≡ (is_mark_of (at ∷ rest.now) mark m q || has_mark trees.old.items m q)) }
     ensures err { OnErr result ((m : Sign) (q : List ℕ) → has_mark trees.new.items m q ≡ has_mark trees.old.items m q) }
+    ensures steps { all_pass is_step (at ∷ rest.now) ≡ true }
 {
     reach(alloc, trees, at)?;
     let tree = &mut trees[at as usize];
