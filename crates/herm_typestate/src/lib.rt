@@ -1,6 +1,7 @@
 //! Sets of facts: a tree of marks for each variable.
 #![tactic(auto)]
 
+mod excess;
 mod facts;
 mod state;
 mod tree;

@@ -6,6 +6,7 @@ ghost use Rattle.herm_model.specs.Lists.{any_pass, all_pass};
 ghost use Rattle.herm_typestate.specs.Small.{is_step};
 ghost use Rattle.herm_typestate.specs.declared.tree.Tree.{out-Tree};
 ghost use Rattle.herm_typestate.specs.declared.tree.Mark.{Mark as Sign};
+ghost use Rattle.herm_typestate.specs.declared.tree.Mark.TheVariants.{Here as here};
 
 use std::alloc::{AllocError, Global};
 
@@ -253,7 +254,7 @@ fn marks_below(tree: &Tree, others: &[Tree], at: usize) -> bool
 }
 
 /// The parts of the tree at a place, none where there is no tree.
-fn parts_at(trees: &[Tree], at: usize) -> &[Tree]
+pub fn parts_at(trees: &[Tree], at: usize) -> &[Tree]
     ensures { (m : Sign) (j : ℕ) (q : List ℕ) → has_mark trees.now m (at ∷ j ∷ q) ≡ has_mark result.now m (j ∷ q) }
 {
     match trees.get(at) {
@@ -275,4 +276,14 @@ pub fn is_below(trees: &[Tree], others: &[Tree]) -> bool
         }
     }
     true
+}
+
+/// Whether there is a value in the tree at a place.
+pub fn is_here(trees: &[Tree], at: usize) -> bool
+    ensures { result ≡ has_mark trees.now here (at ∷ []) }
+{
+    match trees.get(at) {
+        Some(tree) => tree.here,
+        None => false,
+    }
 }
