@@ -1,13 +1,13 @@
 -- Trees seen as sets of facts.
-use Rattle.std.proofs.Common.{◌≡◌, ℕ, suc, zero, ◌<◌, ◌^◌, List, [], ◌∷◌, Bool, true, false, not, ◌&&◌, ◌||◌, nat_eq, nat_lt, Result, Ok, Err, OnOk, OnErr, IsTrue, IsFalse, Fits, w32, true≢false, get_or, refl, sym, ◌∙◌, ap, ap₂, subst, arith}
+use Rattle.std.proofs.Common.{◌≡◌, ℕ, suc, ◌<◌, ◌^◌, List, [], ◌∷◌, Bool, true, false, ◌&&◌, ◌||◌, nat_eq, Result, Ok, Err, OnOk, OnErr, IsTrue, IsFalse, Fits, w32, true≢false, get_or, refl, sym, ◌∙◌, ap, ap₂, subst, arith}
 use Rattle.std.proofs.lemmas.Bool.Decides.{nat_tests}
-use Rattle.herm_model.specs.Lists.{any_pass, all_pass, same_numbers}
-use Rattle.herm_model.specs.Paths.{Fact, init, case, same_path, same_fact, path_of, is_at_or_below}
+use Rattle.herm_model.specs.Lists.{all_pass}
+use Rattle.herm_model.specs.Paths.{Fact, init, case, same_path, same_fact, path_of}
 use Rattle.herm_model.proofs.Equality.{same_numbers-is}
 use Rattle.herm_typestate.specs.declared.tree.Mark.{Mark}
 use Rattle.herm_typestate.specs.declared.tree.Mark.TheVariants.{Here, Component}
 use Rattle.herm_typestate.specs.declared.tree.Tree.{Tree}
-use Rattle.herm_typestate.specs.Trees.{has_mark, same_mark, is_mark_of, IsWithin, IsBeyond, Tells}
+use Rattle.herm_typestate.specs.Trees.{has_mark, same_mark, is_mark_of, IsBeyond, Tells}
 use Rattle.herm_typestate.specs.Small.{is_step, AreSmall}
 use Rattle.herm_typestate.specs.Facts.{mark_of, facts_of}
 use Rattle.herm_typestate.proofs.Meets.{and_false}
@@ -76,6 +76,7 @@ small_made ts us p n small steps h m q has = by (is_mark_of p n m q) refl (sym (
     first : (a b : Bool) → (a && b) ≡ true → a ≡ true
     first true b e = refl
     first false b e = e
+
     by : (b : Bool) → is_mark_of p n m q ≡ b → (b || has_mark ts m q) ≡ true → all_pass is_step q ≡ true
     by true e k = subst (λ r. all_pass is_step r ≡ true) (same_numbers-is p q (first (same_path p q) (same_mark n m) e)) steps
     by false e k = small m q k

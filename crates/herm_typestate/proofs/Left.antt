@@ -1,8 +1,7 @@
 -- What is left of trees, place by place.
-use Rattle.std.proofs.Common.{◌≡◌, ℕ, ◌+◌, ◌<◌, ◌≤◌, ◌^◌, List, [], ◌∷◌, ◌++◌, length, map, Bool, true, false, not, ◌&&◌, nat_lt, get_or, refl, sym, ◌∙◌, ap, ap₂, subst, arith, true≢false}
+use Rattle.std.proofs.Common.{◌≡◌, ℕ, ◌<◌, ◌≤◌, ◌^◌, List, [], ◌∷◌, ◌++◌, length, map, Bool, true, false, not, ◌&&◌, get_or, refl, sym, ◌∙◌, ap, ap₂, subst, arith}
 use Rattle.std.proofs.lemmas.Bool.{ltb-true, false≢true}
-use Rattle.herm_model.specs.Lists.{all_pass}
-use Rattle.herm_model.specs.Paths.{Path, init}
+use Rattle.herm_model.specs.Paths.{Path}
 use Rattle.herm_model.specs.laws.ExcessLaws.{IsExcess}
 use Rattle.herm_model.proofs.Lists.{and-both}
 use Rattle.herm_typestate.specs.declared.tree.Mark.{Mark}
@@ -11,9 +10,8 @@ use Rattle.herm_typestate.specs.declared.tree.Tree.{Tree, out-Tree}
 use Rattle.herm_typestate.specs.Trees.{tree_has, has_mark}
 use Rattle.herm_typestate.specs.Small.{is_step, AreSmall}
 use Rattle.herm_typestate.specs.Facts.{facts_of}
-use Rattle.herm_typestate.specs.Topmost.{AreTopmost, AddTopmost, is_left, is_left_at}
+use Rattle.herm_typestate.specs.Topmost.{AddTopmost, is_left, is_left_at}
 use Rattle.herm_typestate.proofs.Marks.{at_place}
-use Rattle.herm_typestate.proofs.Meets.{past}
 use Rattle.herm_typestate.proofs.Topmost.{up_to, up_to_all, add-same}
 
 -- the parts of a tree of small trees are small
@@ -52,4 +50,4 @@ said_from_root (x ∷ xs) = ap (λ ys. x ∷ ys) (said_from_root xs)
 pub excess_of_left : (ts low : List Tree) (at : Path) (old new : List Path) → at ≡ [] → old ≡ [] → AddTopmost (is_left ts low) at old new → IsExcess (facts_of ts) (facts_of low) new
 excess_of_left ts low at old new root none h =
     subst (λ xs. IsExcess (facts_of ts) (facts_of low) xs) (sym (h.added ∙ (ap₂ (λ xs p. xs ++ map (p ++◌) h.paths) none root ∙ said_from_root h.paths)))
-        (record { order = h.topmost.order; topmost = h.topmost.topmost })
+    (record { order = h.topmost.order; topmost = h.topmost.topmost })

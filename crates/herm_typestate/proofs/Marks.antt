@@ -1,5 +1,5 @@
 -- Which marks a tree has that is made or changed.
-use Rattle.std.proofs.Common.{◌≡◌, ◌≢◌, ℕ, zero, suc, ◌+◌, ◌<◌, ◌≤◌, List, [], ◌∷◌, ◌++◌, length, Bool, true, false, not, ◌&&◌, ◌||◌, cond, nat_eq, Option, Some, None, Result, Ok, Err, OnErr, slice_get, slice_set, get_or, refl, sym, ◌∙◌, ap, ap₂, subst, arith}
+use Rattle.std.proofs.Common.{◌≡◌, ℕ, zero, suc, ◌<◌, List, [], ◌∷◌, ◌++◌, length, Bool, true, false, not, ◌&&◌, ◌||◌, nat_eq, Result, Ok, Err, OnErr, slice_set, get_or, refl, sym, ◌∙◌, ap, ap₂, subst, arith}
 use Rattle.std.proofs.lemmas.Bool.{eq-eqb, eqb-true}
 use Rattle.std.proofs.lemmas.Bool.Decides.{nat_tests}
 use Rattle.std.proofs.lemmas.Option.{slice_get_read}
@@ -9,7 +9,7 @@ use Rattle.herm_typestate.specs.declared.tree.Mark.{Mark}
 use Rattle.herm_typestate.specs.declared.tree.Mark.TheVariants.{Here, Component}
 use Rattle.herm_typestate.specs.declared.tree.Tree.{Tree, out-Tree, roll-Tree, out-roll-Tree}
 use Rattle.herm_typestate.specs.declared.tree.Tree.TheOpen.{Tree-F}
-use Rattle.herm_typestate.specs.Trees.{is_marked, tree_has, has_mark, same_mark, is_mark_of}
+use Rattle.herm_typestate.specs.Trees.{tree_has, has_mark, same_mark, is_mark_of}
 
 -- what a tree has that is made of these fields
 abbrev pub node_has : Mark → List ℕ → Tree-F Tree → Bool

@@ -1,5 +1,5 @@
 -- Trees that keep what others have too, place by place.
-use Rattle.std.proofs.Common.{◌≡◌, ◌≢◌, ℕ, zero, suc, ◌+◌, ◌<◌, ◌≤◌, List, [], ◌∷◌, length, take, Bool, true, false, ◌&&◌, ◌⊎◌, inl, inr, nat_eq, slice_get, slice_set, get_or, refl, sym, ◌∙◌, ap, ap₂, subst, arith, length-set}
+use Rattle.std.proofs.Common.{◌≡◌, ◌≢◌, ℕ, zero, suc, ◌+◌, ◌<◌, ◌≤◌, List, [], ◌∷◌, length, take, Bool, true, false, ◌&&◌, ◌⊎◌, inl, inr, nat_eq, slice_set, get_or, refl, sym, ◌∙◌, ap, ap₂, subst, arith, length-set}
 use Rattle.std.proofs.lemmas.Bool.Decides.{nat_tests}
 use Rattle.std.proofs.lemmas.Option.{slice_get_past}
 use Rattle.herm_model.specs.Lists.{any_pass, map_or}
@@ -44,13 +44,14 @@ next_or_before i j h = by (nat_eq i j) refl
 pub meet_next : (old others new : List Tree) (i : ℕ) (t o u : Tree) → HaveMet old others new i → i < length new → i < length others → t ≡ get_or new i t → o ≡ get_or others i o
     → ((m : Mark) (q : List ℕ) → tree_has m q u ≡ (tree_has m q t && tree_has m q o)) → HaveMet old others (slice_set new i u) (i + 1)
 meet_next old others new i t o u h within there et eo f = record {
-    many = length-set new i u ∙ h.many;
-    met = λ m j q less. by m j q (next_or_before i j less);
-    left = λ m j q above. set-has_other new i u m j q (grind (arith, nat_tests)) ∙ h.left m j q (omega arith);
-  }
+  many = length-set new i u ∙ h.many;
+  met = λ m j q less. by m j q (next_or_before i j less);
+  left = λ m j q above. set-has_other new i u m j q (grind (arith, nat_tests)) ∙ h.left m j q (omega arith);
+}
   where
     here : (m : Mark) (q : List ℕ) → has_mark (slice_set new i u) m (i ∷ q) ≡ (has_mark old m (i ∷ q) && has_mark others m (i ∷ q))
     here m q = set-has_same new i u m q within ∙ (f m q ∙ ap₂ ◌&&◌ (sym (at_place new i t within et m q) ∙ h.left m i q (omega arith)) (sym (at_place others i o there eo m q)))
+
     by : (m : Mark) (j : ℕ) (q : List ℕ) → (i ≡ j) ⊎ ((j < i) × (nat_eq i j ≡ false)) → has_mark (slice_set new i u) m (j ∷ q) ≡ (has_mark old m (j ∷ q) && has_mark others m (j ∷ q))
     by m j q (inl e) = subst (λ k. has_mark (slice_set new i u) m (k ∷ q) ≡ (has_mark old m (k ∷ q) && has_mark others m (k ∷ q))) e (here m q)
     by m j q (inr less) = set-has_other new i u m j q less.1 ∙ h.met m j q less.0
@@ -61,6 +62,7 @@ all_met old others new i h whole m (j ∷ q) = by (below_or_not j i)
   where
     below_or_not : (a b : ℕ) → (a < b) ⊎ (b ≤ a)
     below_or_not a b = grind arith
+
     by : (j < i) ⊎ (i ≤ j) → has_mark new m (j ∷ q) ≡ (has_mark old m (j ∷ q) && has_mark others m (j ∷ q))
     by (inl less) = h.met m j q less
     by (inr above) = let gone = past old m j q (omega arith) in h.left m j q above ∙ (gone ∙ ap (λ b. b && has_mark others m (j ∷ q)) (sym gone))

@@ -1,5 +1,5 @@
 -- Lists of topmost paths are made place by place.
-use Rattle.std.proofs.Common.{◌≡◌, ◌↔◌, ◌≢◌, ℕ, zero, suc, ◌+◌, ◌<◌, ◌≤◌, List, [], ◌∷◌, ◌++◌, map, length, Bool, true, false, not, ◌&&◌, ◌||◌, ◌⊎◌, inl, inr, nat_eq, nat_lt, IsTrue, IsFalse, refl, sym, ◌∙◌, ap, ap₂, subst, arith, append_assoc, append-nil, true≢false}
+use Rattle.std.proofs.Common.{◌≡◌, ℕ, ◌+◌, ◌<◌, ◌≤◌, List, [], ◌∷◌, ◌++◌, map, Bool, true, false, ◌&&◌, ◌⊎◌, inl, inr, nat_eq, nat_lt, IsTrue, IsFalse, refl, sym, ◌∙◌, ap, ap₂, subst, arith, append_assoc, append-nil, true≢false}
 use Rattle.std.proofs.lemmas.Bool.{eq-eqb, lt-ltb, ltb-true}
 use Rattle.std.proofs.lemmas.Bool.Decides.{nat_tests}
 use Rattle.herm_model.specs.Lists.{IsIn}
@@ -13,10 +13,12 @@ HasNoneAbove test x = (q : Path) (i : ℕ) (more : List ℕ) → x ≡ q ++ i �
 
 pub topmost-same : (a b : Path → Bool) (xs : List Path) → ((p : Path) → a p ≡ b p) → AreTopmost a xs → AreTopmost b xs
 topmost-same a b xs h t = record {
-    order = t.order;
-    topmost = λ x. (λ member. let both = (t.topmost x).0 member in (subst IsTrue (h x) both.0, λ q i more e. subst IsFalse (h q) (both.1 q i more e)),
-        λ both. (t.topmost x).1 (subst IsTrue (sym (h x)) both.0, λ q i more e. subst IsFalse (sym (h q)) (both.1 q i more e)));
-  }
+  order = t.order;
+  topmost = λ x. (
+    λ member. let both = (t.topmost x).0 member in (subst IsTrue (h x) both.0, λ q i more e. subst IsFalse (h q) (both.1 q i more e)),
+    λ both. (t.topmost x).1 (subst IsTrue (sym (h x)) both.0, λ q i more e. subst IsFalse (sym (h q)) (both.1 q i more e)),
+  );
+}
 
 nothing_before : (q : Path) (i : ℕ) (more : List ℕ) → [] ≡ q ++ i ∷ more → ⊥
 nothing_before [] i more e = cons-not_nil i more (sym e)
@@ -29,6 +31,7 @@ topmost-root a h = record { order = (λ y member. absurd member, tt); topmost = 
     forth : (x : Path) → IsIn x ([] ∷ []) → IsTrue (a x) × HasNoneAbove a x
     forth x (inl e) = subst (λ y. IsTrue (a y) × HasNoneAbove a y) (sym e) (h, λ q i more f. absurd (nothing_before q i more f))
     forth x (inr n) = absurd n
+
     back : (x : Path) → HasNoneAbove a x → IsIn x ([] ∷ [])
     back [] none = inl refl
     back (j ∷ q) none = absurd (true≢false (sym h ∙ none [] j q refl))
@@ -73,6 +76,7 @@ up_to_all b i root past (j ∷ q) = by (nat_lt j i) refl
   where
     not_below : nat_lt j i ≡ false → i ≤ j
     not_below e = grind (arith, nat_tests)
+
     by : (c : Bool) → nat_lt j i ≡ c → (c && b (j ∷ q)) ≡ b (j ∷ q)
     by true e = refl
     by false e = sym (past j q (not_below e))
@@ -110,9 +114,9 @@ module _ (b : Path → Bool) (i : ℕ) where
 
   pub topmost-next : (xs ys : List Path) → AreTopmost (up_to i b) xs → AreTopmost (λ p. b (i ∷ p)) ys → AreTopmost (up_to (i + 1) b) (xs ++ map (i ∷◌) ys)
   topmost-next xs ys s t = record {
-      order = in_order-append xs (map (i ∷◌) ys) s.order (in_order-map i ys t.order) (λ x y m n. before x y m (in-map_from (i ∷◌) y ys n));
-      topmost = λ x. (λ member. forth x (in-append_cases x xs (map (i ∷◌) ys) member), λ both. back x both.0 both.1);
-    }
+    order = in_order-append xs (map (i ∷◌) ys) s.order (in_order-map i ys t.order) (λ x y m n. before x y m (in-map_from (i ∷◌) y ys n));
+    topmost = λ x. (λ member. forth x (in-append_cases x xs (map (i ∷◌) ys) member), λ both. back x both.0 both.1);
+  }
     where
       before : (x y : Path) → IsIn x xs → (z : Path) × IsIn z ys × (y ≡ i ∷ z) → IsTrue (comes_before x y)
       before x y m n = by x ((s.topmost x).0 m).0
@@ -120,24 +124,28 @@ module _ (b : Path → Bool) (i : ℕ) where
           by : (w : Path) → IsTrue (up_to i b w) → IsTrue (comes_before w y)
           by [] h = not_true h
           by (j ∷ q) h = subst (λ v. IsTrue (comes_before (j ∷ q) v)) (sym n.2) (or-left (nat_lt j i) _ (and-both (nat_lt j i) _ h).0)
+
       forth : (x : Path) → IsIn x xs ⊎ IsIn x (map (i ∷◌) ys) → IsTrue (up_to (i + 1) b x) × HasNoneAbove (up_to (i + 1) b) x
       forth x (inl m) = let both = (s.topmost x).0 m in (raised x both.0, none_raised x both.0 both.1)
       forth x (inr m) =
           let n = in-map_from (i ∷◌) x ys m in
           let both = (t.topmost n.0).0 n.1 in
           subst (λ y. IsTrue (up_to (i + 1) b y) × HasNoneAbove (up_to (i + 1) b) y) (sym n.2) (both-and (nat_lt i (i + 1)) _ here_below both.0, none_here n.0 both.1)
+
       back : (x : Path) → IsTrue (up_to (i + 1) b x) → HasNoneAbove (up_to (i + 1) b) x → IsIn x (xs ++ map (i ∷◌) ys)
       back [] h none = not_true h
       back (j ∷ q) h none = by (below_or_here j (let l : j < i + 1 = ltb-true j (i + 1) (and-both (nat_lt j (i + 1)) _ h).0 in l))
         where
           below_or_here : (k : ℕ) → k < i + 1 → (k < i) ⊎ (k ≡ i)
           below_or_here k l = grind arith
+
           by : (j < i) ⊎ (j ≡ i) → IsIn (j ∷ q) (xs ++ map (i ∷◌) ys)
           by (inl l) = in-append_left (j ∷ q) xs (map (i ∷◌) ys) ((s.topmost (j ∷ q)).1 (sym (same_below j q l) ∙ h, λ p k more e. lowered p (none p k more e)))
           by (inr e) =
-              subst (λ n. IsIn (n ∷ q) (xs ++ map (i ∷◌) ys)) (sym e) (in-append_right (i ∷ q) xs (map (i ∷◌) ys) (in-map (i ∷◌) q ys ((t.topmost q).1
-                  (subst (λ n. IsTrue (b (n ∷ q))) e (and-both (nat_lt j (i + 1)) _ h).1,
-                   λ p k more f. sym (ap (λ c. c && b (i ∷ p)) here_below) ∙ none (i ∷ p) k more (ap₂ ◌∷◌ e f)))))
+              subst (λ n. IsIn (n ∷ q) (xs ++ map (i ∷◌) ys)) (sym e) (in-append_right (i ∷ q) xs (map (i ∷◌) ys) (in-map (i ∷◌) q ys ((t.topmost q).1 (
+                subst (λ n. IsTrue (b (n ∷ q))) e (and-both (nat_lt j (i + 1)) _ h).1,
+                λ p k more f. sym (ap (λ c. c && b (i ∷ p)) here_below) ∙ none (i ∷ p) k more (ap₂ ◌∷◌ e f),
+              ))))
 
 pub map-append : {X Y : Type 0} (f : X → Y) (xs ys : List X) → map f (xs ++ ys) ≡ map f xs ++ map f ys
 map-append f [] ys = refl
@@ -152,10 +160,10 @@ add-begin b at old = record { paths = []; topmost = topmost-none (up_to 0 b) (up
 
 pub add-next : (b : Path → Bool) (i : ℕ) (at : Path) (old mid new : List Path) → AddTopmost (up_to i b) at old mid → AddTopmost (λ p. b (i ∷ p)) (at ++ i ∷ []) mid new → AddTopmost (up_to (i + 1) b) at old new
 add-next b i at old mid new s t = record {
-    paths = s.paths ++ map (i ∷◌) t.paths;
-    topmost = topmost-next b i s.paths t.paths s.topmost t.topmost;
-    added = t.added ∙ (ap₂ ◌++◌ s.added (map-on at i t.paths) ∙ (append_assoc old (map (at ++◌) s.paths) (map (at ++◌) (map (i ∷◌) t.paths)) ∙ ap (λ zs. old ++ zs) (sym (map-append (at ++◌) s.paths (map (i ∷◌) t.paths)))));
-  }
+  paths = s.paths ++ map (i ∷◌) t.paths;
+  topmost = topmost-next b i s.paths t.paths s.topmost t.topmost;
+  added = t.added ∙ (ap₂ ◌++◌ s.added (map-on at i t.paths) ∙ (append_assoc old (map (at ++◌) s.paths) (map (at ++◌) (map (i ∷◌) t.paths)) ∙ ap (λ zs. old ++ zs) (sym (map-append (at ++◌) s.paths (map (i ∷◌) t.paths)))));
+}
 
 pub add-same : (a b : Path → Bool) (at : Path) (old new : List Path) → ((p : Path) → a p ≡ b p) → AddTopmost a at old new → AddTopmost b at old new
 add-same a b at old new h s = record { paths = s.paths; topmost = topmost-same a b s.paths h s.topmost; added = s.added }

@@ -1,7 +1,6 @@
 -- Trees whose marks are among those of others, place by place, or a mark that is not.
-use Rattle.std.proofs.Common.{◌≡◌, ◌≢◌, ℕ, zero, suc, ◌+◌, ◌<◌, ◌≤◌, List, [], ◌∷◌, ◌++◌, length, take, Bool, true, false, cond, filter, ◌&&◌, ◌||◌, ◌⊎◌, inl, inr, nat_eq, get_or, refl, sym, ◌∙◌, ap, subst, arith}
+use Rattle.std.proofs.Common.{◌≡◌, ℕ, zero, suc, ◌+◌, ◌<◌, ◌≤◌, List, [], ◌∷◌, ◌++◌, length, Bool, true, false, cond, filter, ◌&&◌, ◌||◌, ◌⊎◌, inl, inr, nat_eq, get_or, refl, sym, ◌∙◌, ap, subst, arith}
 use Rattle.std.proofs.lemmas.Bool.{eq-eqb, eqb-true, false≢true}
-use Rattle.std.proofs.lemmas.List.{take_more, take_all}
 use Rattle.herm_model.specs.Lists.{any_pass}
 use Rattle.herm_typestate.specs.declared.tree.Mark.{Mark}
 use Rattle.herm_typestate.specs.declared.tree.Tree.{Tree, out-Tree}
@@ -39,6 +38,7 @@ within_next ts us i t h within e f m j q less has = by (same_or_before j)
   where
     same_or_before : (k : ℕ) → (i ≡ j) ⊎ (j < i)
     same_or_before k = grind arith
+
     by : (i ≡ j) ⊎ (j < i) → has_mark us m (j ∷ q) ≡ true
     by (inl same) = subst (λ k. has_mark us m (k ∷ q) ≡ true) same (f m q (sym (at_place ts i t within e m q) ∙ subst (λ k. has_mark ts m (k ∷ q) ≡ true) (sym same) has))
     by (inr before) = h m j q before has
@@ -49,6 +49,7 @@ all_within ts us i whole h m (j ∷ q) has = by (below_or_not j i)
   where
     below_or_not : (a b : ℕ) → (a < b) ⊎ (b ≤ a)
     below_or_not a b = grind arith
+
     by : (j < i) ⊎ (i ≤ j) → has_mark us m (j ∷ q) ≡ true
     by (inl less) = h m j q less has
     by (inr above) = absurd (false≢true (sym (past ts m j q (omega arith)) ∙ has))

@@ -3,7 +3,12 @@
 
 mod excess;
 mod facts;
+mod labels;
 mod state;
 mod tree;
 
+pub use labels::Labels;
 pub use state::State;
+
+#[cfg(test)]
+mod tests;

@@ -1,7 +1,6 @@
-use Rattle.std.proofs.Common.{◌≡◌, ◌+◌, ◌<◌, ◌++◌, ◌∷◌, [], ℕ, List, length, take, get_or, nat_eq, refl, sym, ◌∙◌, ap, subst, arith, length-append}
+use Rattle.std.proofs.Common.{◌≡◌, ◌+◌, ◌++◌, ◌∷◌, [], length, take, nat_eq, refl, sym, ◌∙◌, ap, arith}
 use Rattle.std.proofs.lemmas.List.{take_more, length-take-le, length_push}
 use Rattle.herm_model.specs.Lists.{any_pass}
-use Rattle.herm_typestate.specs.declared.tree.Mark.{Mark}
 use Rattle.herm_typestate.specs.Trees.{has_mark}
 use Rattle.herm_typestate.proofs.Marks.{same_appended, same_tree}
 use Rattle.herm_typestate.proofs.tree.+copy.Goals as goal
@@ -15,7 +14,7 @@ loop-tree-preserved t c =
       many = ap length c.in_ok-push.ensures.items ∙ (length_push c.loop-tree.copies.items _ ∙ ap (λ n. n + 1) done.many);
       same = λ m q. ap (λ ts. has_mark ts m q) c.in_ok-push.ensures.items
           ∙ (same_appended c.loop-tree.copies.items (take c.loop-tree.tree-index c.args.trees.now) _ c.tree-item.result many done.same
-              (same_tree _ c.tree-item.result refl (λ k. ap (any_pass (nat_eq k)) (c.in_ok-known.ensures.items ∙ c.as_slice.ensures.value))
-                  (λ m q. c.in_ok-parts.ensures m q ∙ ap (λ ts. has_mark ts m q) c.as_slice-in-loop-tree.ensures.value)) m q
+          (same_tree _ c.tree-item.result refl (λ k. ap (any_pass (nat_eq k)) (c.in_ok-known.ensures.items ∙ c.as_slice.ensures.value))
+          (λ m q. c.in_ok-parts.ensures m q ∙ ap (λ ts. has_mark ts m q) c.as_slice-in-loop-tree.ensures.value)) m q
           ∙ ap (λ ts. has_mark ts m q) (ap (λ x. take c.loop-tree.tree-index c.args.trees.now ++ x ∷ []) c.tree-item.is ∙ sym more));
     }

@@ -1,4 +1,4 @@
-use Rattle.std.proofs.Common.{refl, ap, ◌∙◌}
+use Rattle.std.proofs.Common.{ap, ◌∙◌}
 use Rattle.herm_typestate.specs.declared.tree.Tree.{out-roll-Tree}
 use Rattle.herm_typestate.proofs.Marks.{no_marks}
 use Rattle.herm_typestate.proofs.tree.forget.Goals as goal

@@ -1,4 +1,4 @@
-use Rattle.std.proofs.Common.{◌≡◌, true, nat_eq, sym, ap, ◌∙◌, subst, get_or}
+use Rattle.std.proofs.Common.{nat_eq, sym, ap, ◌∙◌, get_or}
 use Rattle.herm_model.specs.Lists.{any_pass}
 use Rattle.herm_typestate.specs.declared.tree.Mark.TheVariants.{Component}
 use Rattle.herm_typestate.proofs.Within.{any-read}

@@ -1,4 +1,4 @@
-use Rattle.std.proofs.Common.{◌≡◌, true, false, nat_eq, sym, ap, ◌∙◌}
+use Rattle.std.proofs.Common.{nat_eq, sym, ap, ◌∙◌}
 use Rattle.herm_model.specs.Lists.{any_pass}
 use Rattle.herm_typestate.specs.declared.tree.Mark.TheVariants.{Component}
 use Rattle.herm_typestate.proofs.tree.tree_marks_below.Goals as goal

@@ -1,4 +1,4 @@
-use Rattle.herm_typestate.specs.Facts.{has_fact, mark_of, facts_of}
+use Rattle.herm_typestate.specs.Facts.{has_fact, mark_of}
 use Rattle.herm_model.specs.Paths.{path_of}
 use Rattle.herm_typestate.proofs.Marks.{no_trees}
 use Rattle.herm_typestate.proofs.state.State.empty.Goals as goal

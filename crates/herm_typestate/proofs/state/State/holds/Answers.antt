@@ -1,7 +1,6 @@
-use Rattle.std.proofs.Common.{◌∷◌, ap, ap₂, sym, ◌∙◌}
+use Rattle.std.proofs.Common.{◌∷◌, ap₂, ◌∙◌}
 use Rattle.herm_typestate.specs.Trees.{has_mark}
-use Rattle.herm_typestate.specs.Facts.{has_fact, mark_of, facts_of}
-use Rattle.herm_model.specs.Paths.{path_of}
+use Rattle.herm_typestate.specs.Facts.{has_fact}
 use Rattle.herm_typestate.proofs.state.State.holds.Goals as goal
 
 pub returns : goal.returns
