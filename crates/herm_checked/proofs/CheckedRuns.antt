@@ -1,5 +1,5 @@
 -- The laws of sound states for the source machine of a checked program.
-use Rattle.std.proofs.Common.{◌≡◌, ℕ, List, Some}
+use Rattle.std.proofs.Common.{◌≡◌, ℕ, List, Some, refl}
 use Rattle.herm_model.specs.Values.{Name}
 use Rattle.herm_system.specs.Sound.{IsSoundWith, IsSoundFor}
 use Rattle.herm_system.specs.Systems.{System, numbered_from_one}
@@ -7,6 +7,7 @@ use Rattle.herm_source.specs.Instance.{source, IsSoundIn}
 use Rattle.herm_source.specs.Modules.{Program, Modules}
 use Rattle.herm_source.specs.States.{State}
 use Rattle.herm_source.specs.laws.SoundProcesses.{IsSoundProcess}
+use Rattle.herm_runs.proofs.Events.{run-stamped}
 use Rattle.herm_source.proofs.reached.RunsReach.{along-finds}
 use Rattle.herm_sound.proofs.KeptSound.{steps-keep-sound}
 use Rattle.herm_sound.proofs.OpeningSound.{opening-is-sound, runs-are-sound, states-along}
@@ -15,7 +16,7 @@ use Rattle.herm_sound.proofs.ActOnce.{closes-open, answers-open}
 use Rattle.herm_sound.proofs.AnsweredOnce.{calls-are-answered-once}
 use Rattle.herm_sound.proofs.ClosedOnce.{ports-close-once}
 use Rattle.herm_sound.proofs.RoundsReachEnd.{events-are-bounded, rounds-suffice}
-use Rattle.herm_checked.specs.laws.CheckedRuns.{IsSoundAndReached, SoundWithReach, CheckedStepsKeepSound, CheckedOpeningIsSound, CheckedRunsAreSound, CheckedStatesAlong, CheckedNoneIsStuck, CheckedActionsAreDoneOnce, CheckedRunsEnd, CheckedReportsDescribe}
+use Rattle.herm_checked.specs.laws.CheckedRuns.{IsSoundAndReached, SoundWithReach, CheckedStepsKeepSound, CheckedOpeningIsSound, CheckedRunsAreSound, CheckedStatesAlong, CheckedNoneIsStuck, CheckedActionsAreDoneOnce, CheckedRunsEnd, CheckedRunsAreDescribed, CheckedReportsDescribe}
 use Rattle.herm_checked.proofs.CallNumbers.{source-numbers-calls}
 use Rattle.herm_checked.proofs.SourceKeeps.{source-keeps-sound}
 use Rattle.herm_checked.proofs.SourceBegins.{source-begins-sound, source-goes-on, source-keeps-limits}
@@ -94,7 +95,26 @@ checked-end exceptions program modules checked =
       rounds-suffice (source modules) (IsSoundProcess program modules) keeps begins (source-keeps-limits modules) (source-goes-on exceptions program modules checked),
     )
 
--- a report of a run of a checked program
+-- the report of a run of a checked program
+pub checked-described : CheckedRunsAreDescribed
+checked-described exceptions program modules checked limits argument names asked events r texts is rising final =
+    record {
+      final = r.system;
+      is_ordered = rising;
+      is_stamped = run-stamped (source modules) limits argument events r is;
+      is_a_run = (events, is);
+      is_final = final;
+      finds_needs = λ s a. (checked-along exceptions program modules checked limits argument r.journal s texts a).1;
+      is_sound = λ s a. (checked-along exceptions program modules checked limits argument r.journal s texts a).0;
+      has_ledger = λ s a. let sound = (checked-along exceptions program modules checked limits argument r.journal s texts a).0 in (sound.1.ledger, sound.1.once);
+      ends = refl;
+      queued = refl;
+      counts = refl;
+      status = refl;
+      text = refl;
+    }
+
+-- a report whose text is the same by all names
 pub checked-reports : CheckedReportsDescribe
 checked-reports exceptions program modules checked limits argument names report texts is =
     record {

@@ -1,6 +1,6 @@
 // Laws of the runs of typed programs and their accepted modules, with a text as argument, whatever the schedule.
 
-ghost use Rattle.herm_checked.specs.laws.CheckedRuns.{CheckedActionsAreDoneOnce, CheckedNoneIsStuck, CheckedOpeningIsSound, CheckedReportsDescribe, CheckedRunsAreSound, CheckedRunsEnd, CheckedStatesAlong, CheckedStepsKeepSound, SoundWithReach};
+ghost use Rattle.herm_checked.specs.laws.CheckedRuns.{CheckedActionsAreDoneOnce, CheckedNoneIsStuck, CheckedOpeningIsSound, CheckedReportsDescribe, CheckedRunsAreDescribed, CheckedRunsAreSound, CheckedRunsEnd, CheckedStatesAlong, CheckedStepsKeepSound, SoundWithReach};
 
 /// A sound state in which each process stands where a control path leads is one in which each process is sound within itself and stands so.
 pub fn sound_states_stand_reached()
@@ -21,9 +21,10 @@ pub fn runs_are_sound()
     ensures along { CheckedStatesAlong }
 {}
 
-/// So what a report says of such a run is what is claimed of it: the field that each state is sound holds, and the field that statements
-/// find what they need.
+/// So each such run to a final state, with its journal in order, has a report that says of it what is claimed, at each status and whatever
+/// is asked for; and a report whose text is the same by all names of exceptions says so of its run.
 pub fn reports_describe_runs()
+    ensures runs { CheckedRunsAreDescribed }
     ensures reports { CheckedReportsDescribe }
 {}
 

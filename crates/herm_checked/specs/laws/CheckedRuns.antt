@@ -4,9 +4,14 @@ use Rattle.herm_model.specs.Typed.{is_text}
 use Rattle.herm_model.specs.Values.{Name}
 use Rattle.herm_journal.specs.PlaceStates.{Limits}
 use Rattle.herm_journal.specs.Entries.{Text, Entry}
-use Rattle.herm_system.specs.Systems.{System, Moved, Event, step, Run, run, start, opening}
+use Rattle.herm_journal.specs.Journals.{IsRising}
+use Rattle.herm_system.specs.Machines.{Machine}
+use Rattle.herm_system.specs.Systems.{System, Moved, Event, step, Run, run, start, opening, IsFinal}
+use Rattle.herm_system.specs.ProcessFates.{fates}
 use Rattle.herm_system.specs.Reports.{IsAlong, Report, IsReportOf}
-use Rattle.herm_system.specs.RunTexts.{plainly}
+use Rattle.herm_system.specs.RunTexts.{queues, Asked, plainly, text_of_run}
+use Rattle.herm_system.specs.Statuses.{status_of}
+use Rattle.herm_system.specs.Summary.{counts}
 use Rattle.herm_system.specs.Sound.{IsSoundFor}
 use Rattle.herm_source.specs.AcceptedRuns.{FindsNeeds, Describes}
 use Rattle.herm_source.specs.Checked.{IsChecked}
@@ -61,8 +66,26 @@ CheckedActionsAreDoneOnce = OfChecked (λ program modules. ClosesOpenPorts (sour
 abbrev pub CheckedRunsEnd : Type 0
 CheckedRunsEnd = OfChecked (λ program modules. EventsAreBounded (source modules) × RoundsSuffice (source modules))
 
--- What a report says of a run of a checked program, in plain form, is what is claimed of the run: in every state along it every statement
--- finds what it needs, and the state is sound. Language reference, "Reports".
+-- The report of a run, with its journal and what its last state tells, where this is asked for. Language reference, "Reports".
+abbrev pub report_of : {P : Type 0} → Machine Name P → (names : List Text) → Asked → Run P → Report
+report_of machine names asked r = record {
+  journal = r.journal;
+  ends = fates machine r.system;
+  queued = queues r.system;
+  counts = counts machine r.system;
+  status = status_of machine r.system;
+  text = text_of_run names asked machine r;
+}
+
+-- Each run of a checked program to a final state, with its journal in order, is described by its report, whatever the schedule, the end, the
+-- names of exceptions and what is asked for: in every state along it every statement finds what it needs, and the state is sound.
+-- Language reference, "Reports".
+abbrev pub CheckedRunsAreDescribed : Type 0
+CheckedRunsAreDescribed = OfChecked (λ program modules. (limits : Limits) (argument : Text) (names : List Text) (asked : Asked) (events : List Event) (r : Run (State Name)) → IsTrue (is_text argument)
+    → run (source modules) events (start (source modules) limits argument) ≡ Some r → IsRising r.journal → IsFinal (source modules) r.system
+    → Describes modules limits argument names asked (report_of (source modules) names asked r))
+
+-- So is each run with a report whose text is the same by all names of exceptions, as it is where none ends process 1.
 abbrev pub CheckedReportsDescribe : Type 0
 CheckedReportsDescribe = OfChecked (λ program modules. (limits : Limits) (argument : Text) (names : List Text) (report : Report) → IsTrue (is_text argument)
     → IsReportOf (source modules) limits argument report → Describes modules limits argument names plainly report)
