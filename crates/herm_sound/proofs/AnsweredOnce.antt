@@ -1,4 +1,4 @@
--- Along a run no call is answered twice.
+-- Along a run no call is answered twice, and each that is open was answered or has its callmessage.
 use Rattle.std.proofs.Common.{◌≡◌, ◌⊎◌, inl, inr, ℕ, zero, suc, ◌+◌, ◌≤◌, ◌<◌, List, [], ◌∷◌, ◌++◌, length, Bool, true, false, cond, Option, Some, None, refl, sym, ap, subst, ◌∙◌, arith, true≢false}
 use Rattle.std.proofs.lemmas.Bool.{eqb-true, eqb-false}
 use Rattle.std.proofs.Math.Bool.{or-false}
@@ -29,7 +29,7 @@ use Rattle.herm_sound.proofs.ActOnce.{held}
 use Rattle.herm_sound.proofs.Changes.{IsChange, ended, local-change}
 use Rattle.herm_sound.proofs.ClosedOnce.{and-none}
 use Rattle.herm_sound.proofs.Counted.{many-append}
-use Rattle.herm_sound.proofs.KeptCalls.{IsPlaced, WasOpen, calls-before}
+use Rattle.herm_sound.proofs.KeptCalls.{IsPlaced, WasOpen, calls-before, opens-move}
 use Rattle.herm_sound.proofs.KeptSound.{callmessages-wait, steps-keep-sound}
 use Rattle.herm_sound.proofs.OpenCalls.{counted, only-one, open-with, open-none}
 use Rattle.herm_sound.proofs.OpeningSound.{opening-is-sound}
@@ -82,9 +82,11 @@ module _ {P : Type 0} (machine : Machine Name P) (Is : P → Type 0) (keeps : Ke
   abbrev callmessages : System P → ℕ → ℕ → ℕ
   callmessages s q k = how_many (is_callmessage_of q k) (unfinalised machine s)
 
-  -- Calls have been answered once at most, and a call that can be answered has not been; numbers that are not used yet have no answers.
+  -- Calls have been answered once at most, and a call that can be answered has not been; each that is open was answered or can be; numbers that
+  -- are not used yet have no answers.
   record AreOnce (r : Run P) : Type 0 where
     once : (q k : ℕ) → answers_so r q k + callmessages r.system q k ≤ 1
+    opened : (q k : ℕ) → one_if (has_open machine r.system q k) ≤ answers_so r q k + callmessages r.system q k
     fresh : (q k : ℕ) (z : P) → numbered_from_one q r.system.processes ≡ Some z → numbers.calls z ≤ k → answers_so r q k ≡ 0
     absent : (q k : ℕ) → numbered_from_one q r.system.processes ≡ None → answers_so r q k ≡ 0
     below : (q : ℕ) (z : P) (call : OpenCall) → numbered_from_one q r.system.processes ≡ Some z → machine.open_call z ≡ Some call → call.number < numbers.calls z
@@ -148,6 +150,16 @@ module _ {P : Type 0} (machine : Machine Name P) (Is : P → Type 0) (keeps : Ke
         by (inr one) =
             let f = opened-fresh q k one.1 in
             omega (arith, more q k, change.counts (is_callmessage_of q k) (callmessages-wait q k), one.0, f.0, f.1)
+
+    opened-kept : (q k : ℕ) → one_if (has_open machine t q k) ≤ how_many (answers_call q k) journal + callmessages t q k
+    opened-kept q k =
+        omega (
+          arith,
+          more q k,
+          change.counts (is_callmessage_of q k) (callmessages-wait q k),
+          opens-move machine Is keeps ports r.system sound t p x y w at a change q k,
+          so.opened q k,
+        )
 
     -- a callmessage that is ended was there
     ends-there : (q k n : ℕ) → how_many (is_callmessage_of q k) (ended w) ≡ suc n → IsIn (a_callmessage q k) (unfinalised machine r.system)
@@ -240,7 +252,7 @@ module _ {P : Type 0} (machine : Machine Name P) (Is : P → Type 0) (keeps : Ke
         by (inl h) (inr (inr new)) = none-not_some (sym new.at ∙ h.1)
 
     change-once : AreOnce (record { system = t; journal = journal })
-    change-once = record { once = once-kept; fresh = fresh-kept; absent = absent-kept; below = below-kept }
+    change-once = record { once = once-kept; opened = opened-kept; fresh = fresh-kept; absent = absent-kept; below = below-kept }
 
   event-once : (e : Event) (r : Run P) (m : Moved P) → step machine e r.system ≡ Some m → IsSoundFor machine Is r.system → AreOnce r → AreOnce (record { system = m.system; journal = with_entry r.journal e m.done })
   event-once (steps p) r m e sound so =
@@ -275,6 +287,7 @@ module _ {P : Type 0} (machine : Machine Name P) (Is : P → Type 0) (keeps : Ke
   first-once : (limits : Limits) (argument : Text) (first : P) → machine.begin machine.main 1 main_port ≡ Some first → IsSoundFor machine Is (opening machine limits argument) → AreOnce (start machine limits argument)
   first-once limits argument first is sound = record {
     once = λ q k. no-calls q k;
+    opened = λ q k. omega (arith, ap one_if (none-open q k (numbered_from_one q (opening machine limits argument).processes) refl));
     fresh = λ q k z is' le. refl;
     absent = λ q k is'. refl;
     below = λ q z call is' opened. none-not_some (sym (closed-first q z is') ∙ opened);
@@ -290,6 +303,10 @@ module _ {P : Type 0} (machine : Machine Name P) (Is : P → Type 0) (keeps : Ke
           let same = only q z (sym (ap (λ o. numbered_from_one q (list_of (λ x. x ∷ []) o)) is) ∙ e) in
           subst (λ z. machine.open_call z ≡ None) same (keeps.processes.begins machine.main 1 1 (opening_name 1) first is).1
 
+      none-open : (q k : ℕ) (o : Option P) → numbered_from_one q (opening machine limits argument).processes ≡ o → has_open machine (opening machine limits argument) q k ≡ false
+      none-open q k None e = open-none machine (opening machine limits argument) q k e
+      none-open q k (Some z) e = open-with machine (opening machine limits argument) q z None k e (closed-first q z e)
+
       no-calls : (q k : ℕ) → 0 + callmessages (opening machine limits argument) q k ≤ 1
       no-calls q k = omega (arith, sound.1.calls.answers q k, at-most-one (has_open machine (opening machine limits argument) q k))
         where
@@ -301,4 +318,4 @@ module _ {P : Type 0} (machine : Machine Name P) (Is : P → Type 0) (keeps : Ke
   calls-are-answered-once begins limits argument events r texts e q k =
       let sound = opening-is-sound machine Is keeps begins limits argument texts in
       let all = once-along events (start machine limits argument) r e sound (first-once limits argument begins.main.0 begins.main.1 sound) in
-      omega (arith, all.once q k)
+      (omega (arith, all.once q k), λ opened. omega (arith, all.once q k, all.opened q k, ap one_if opened))

@@ -22,7 +22,7 @@ use Rattle.herm_runs.proofs.ActionParts.{action-parts, step-parts}
 use Rattle.herm_runs.proofs.Numbered.{step-numbered, numbered-once}
 use Rattle.herm_runs.proofs.Stands.{IsNew}
 use Rattle.herm_runs.proofs.SystemLedger.{event-balance, Balance}
-use Rattle.herm_sound.specs.laws.SoundLaws.{StepsKeepSound}
+use Rattle.herm_sound.specs.laws.SoundLaws.{StepsKeepSound, StepsKeepTypes}
 use Rattle.herm_sound.specs.SoundMachines.{CallMoves, KeepsSound}
 use Rattle.herm_sound.proofs.OpenPorts.{open_at}
 use Rattle.herm_sound.proofs.Changes.{IsChange, new_types, WentTo, AnsweredTo, local-change}
@@ -184,27 +184,31 @@ module _ {P : Type 0} (machine : Machine Name P) (Is : P → Type 0) (keeps : Ke
       numbers = numbers;
     }
 
--- each event keeps a sound state
-pub steps-keep-sound : {P : Type 0} (machine : Machine Name P) (Is : P → Type 0) → KeepsSound machine Is → StepsKeepSound machine Is
-steps-keep-sound {P} machine Is keeps (steps p) s m e sound =
+-- each event keeps a sound state, with the types of its ports
+pub steps-keep-types : {P : Type 0} (machine : Machine Name P) (Is : P → Type 0) → KeepsSound machine Is → StepsKeepTypes machine Is
+steps-keep-types {P} machine Is keeps (steps p) s m e types sound =
     let parts = step-parts machine p s m e in
-    let change = local-change machine Is keeps sound.0 s sound.1 p parts.state parts.left.0 parts.is parts.left.1 in
+    let change = local-change machine Is keeps types s sound p parts.state parts.left.0 parts.is parts.left.1 in
     let u = set_process p parts.left.0 s in
     let same : record { system = u; done = None } ≡ m = parts.moved in
-    subst (λ (m : Moved P). (types : List ℕ) × IsSoundWith machine Is types m.system) same (
+    subst (λ (m : Moved P). (new : List ℕ) × IsSoundWith machine Is (types ++ new) m.system) same (
       _,
-      change-sound machine Is keeps sound.0 s sound.1 u p parts.state parts.left.0 None 0 (make_port None) change
-          (λ w. subst (λ (m : Moved P). Balance machine w m.system) (sym same) (event-balance machine keeps.ledger w (steps p) s m e (sound.1.ledger w)))
-          (subst (λ (m : Moved P). IsNumbered machine m.system) (sym same) (step-numbered machine keeps.numbers (steps p) s m e sound.1.numbers)),
+      change-sound machine Is keeps types s sound u p parts.state parts.left.0 None 0 (make_port None) change
+          (λ w. subst (λ (m : Moved P). Balance machine w m.system) (sym same) (event-balance machine keeps.ledger w (steps p) s m e (sound.ledger w)))
+          (subst (λ (m : Moved P). IsNumbered machine m.system) (sym same) (step-numbered machine keeps.numbers (steps p) s m e sound.numbers)),
     )
-steps-keep-sound {P} machine Is keeps (acts p place) s m e sound =
+steps-keep-types {P} machine Is keeps (acts p place) s m e types sound =
     let parts = action-parts machine p place s m e in
-    let change = action-change machine Is keeps sound.0 s sound.1 p place m parts in
+    let change = action-change machine Is keeps types s sound p place m parts in
     let u = parts.makes.0 in
     let same : record { system = u; done = Some parts.did.0 } ≡ m = parts.moved in
-    subst (λ (m : Moved P). (types : List ℕ) × IsSoundWith machine Is types m.system) same (
+    subst (λ (m : Moved P). (new : List ℕ) × IsSoundWith machine Is (types ++ new) m.system) same (
       _,
-      change-sound machine Is keeps sound.0 s sound.1 u p parts.state parts.left.0 (Some parts.want.0) (number_of place) parts.did.0 change
-          (λ w. subst (λ (m : Moved P). Balance machine w m.system) (sym same) (event-balance machine keeps.ledger w (acts p place) s m e (sound.1.ledger w)))
-          (subst (λ (m : Moved P). IsNumbered machine m.system) (sym same) (step-numbered machine keeps.numbers (acts p place) s m e sound.1.numbers)),
+      change-sound machine Is keeps types s sound u p parts.state parts.left.0 (Some parts.want.0) (number_of place) parts.did.0 change
+          (λ w. subst (λ (m : Moved P). Balance machine w m.system) (sym same) (event-balance machine keeps.ledger w (acts p place) s m e (sound.ledger w)))
+          (subst (λ (m : Moved P). IsNumbered machine m.system) (sym same) (step-numbered machine keeps.numbers (acts p place) s m e sound.numbers)),
     )
+
+pub steps-keep-sound : {P : Type 0} (machine : Machine Name P) (Is : P → Type 0) → KeepsSound machine Is → StepsKeepSound machine Is
+steps-keep-sound machine Is keeps e s m is sound =
+    let kept = steps-keep-types machine Is keeps e s m is sound.0 sound.1 in (sound.0 ++ kept.0, kept.1)

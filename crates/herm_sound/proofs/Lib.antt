@@ -18,3 +18,4 @@ pub mod ClosedOnce
 pub mod BoundedEvents
 pub mod RoundsReachEnd
 pub mod AnsweredOnce
+pub mod Waiting

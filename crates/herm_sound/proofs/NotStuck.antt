@@ -16,6 +16,7 @@ use Rattle.herm_runs.proofs.Stands.{seen-local, seen-acting, stands-as}
 use Rattle.herm_runs.proofs.SuitsStates.{done-suits}
 use Rattle.herm_sound.specs.SoundMachines.{HasFor, KeepsSound, GoesOn}
 use Rattle.herm_sound.specs.laws.SoundLaws.{GoOnFrom, NoneIsStuck}
+use Rattle.herm_sound.proofs.Waiting.{wants-wait}
 use Rattle.herm_sound.proofs.Acted.{Holding, IsAct, port_made, port_refused, process_made, process_refused, placed, came_back, taken, closed, answered, heard, acted, act-answers}
 
 -- some element passes
@@ -103,6 +104,7 @@ module _ {P : Type 0} (machine : Machine Name P) (Is : P → Type 0) (keeps : Ke
           let m = acts-there e w.0 w.1 w.2 w.3 w.4 (among-places w.2 (places_for p w.1) w.5) w.6 in
           (w.2, m.0, m.1);
       places = acts-there;
+      waits = λ x w is wants cannot. wants-wait machine Is keeps types s sound p x is w wants cannot;
     }
 
   pub none-is-stuck : GoesOn machine Is → NoneIsStuck machine Is

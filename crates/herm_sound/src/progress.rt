@@ -6,7 +6,8 @@ ghost use Rattle.herm_sound.specs.SoundMachines.{BeginsSound, GoesOn, KeepsLimit
 ghost use Rattle.herm_sound.specs.laws.SoundLaws.{EventsAreBounded, IsAmong, NoneIsStuck, RoundsSuffice};
 
 /// In a sound state each process that stands local has its local step, and each that stands acting can act at some place, and at each
-/// where something of what it wants can be done.
+/// where something of what it wants can be done; and each that can do nothing of what it wants waits for a message at open ports, or for
+/// the reply to a call whose callmessage is not finalised.
 pub fn no_process_is_stuck<P, J>()
     ensures none { (machine : Machine Name P) → (state : J → P) → KeepsSound machine (IsAmong state) → GoesOn machine (IsAmong state) → NoneIsStuck machine (IsAmong state) }
 {}

@@ -2,14 +2,22 @@
 
 ghost use Rattle.herm_model.specs.Values.{Name};
 ghost use Rattle.herm_system.specs.Machines.{Machine};
+ghost use Rattle.herm_runs.specs.laws.ProcessLaws.{KeepsLedger, KeepsNumbers};
 ghost use Rattle.herm_sound.specs.SoundMachines.{BeginsSound, KeepsSound, NumbersCalls};
-ghost use Rattle.herm_sound.specs.laws.SoundLaws.{AnswersOpenCalls, CallsAreAnsweredOnce, ClosesOpenPorts, EventsKeepStamps, IsAmong, OpeningIsSound, PortsCloseOnce, RunsAreSound, RunsKeepSound, StatesAlongAreSound, StepsKeepSound};
+ghost use Rattle.herm_sound.specs.laws.SoundLaws.{AnswersOpenCalls, CallsAreAnsweredOnce, ClosesOpenPorts, EventsKeepLedger, EventsKeepNumbers, EventsKeepStamps, IsAmong, OpeningIsSound, PortsCloseOnce, RunsAreSound, RunsKeepSound, StatesAlongAreSound, StepsKeepSound, StepsKeepTypes};
 
 /// What an event leaves of a sound state is a sound state, whatever the event: a local step, or an action of any kind at any place
-/// where it can be done. So is what a list of events leaves.
+/// where it can be done; and the types of the ports stay. So is what a list of events leaves.
 pub fn events_keep_sound<P, J>()
     ensures steps { (machine : Machine Name P) → (state : J → P) → KeepsSound machine (IsAmong state) → StepsKeepSound machine (IsAmong state) }
+    ensures types { (machine : Machine Name P) → (state : J → P) → KeepsSound machine (IsAmong state) → StepsKeepTypes machine (IsAmong state) }
     ensures runs { (machine : Machine Name P) → (state : J → P) → KeepsSound machine (IsAmong state) → RunsKeepSound machine (IsAmong state) }
+{}
+
+/// Behind an event of any state whose numbers agree they agree; and behind one of any state with a ledger there is one.
+pub fn events_keep_books<P>()
+    ensures numbers { (machine : Machine Name P) → KeepsNumbers machine → EventsKeepNumbers machine }
+    ensures ledger { (machine : Machine Name P) → KeepsLedger machine → EventsKeepLedger machine }
 {}
 
 /// What an event adds to a journal has the stamp of the two clocks.
@@ -26,7 +34,8 @@ pub fn runs_are_sound<P, J>()
 {}
 
 /// In a sound state a port that is closed was open, and a call that is answered is open and has no answer so far, and behind it one
-/// answer and no callmessage. So along a run no port is closed twice, and no call is answered twice.
+/// answer and no callmessage. So along a run no port is closed twice, and no call is answered twice; and one that is open was
+/// answered, or has its callmessage.
 pub fn actions_are_done_once<P, J>()
     ensures closes { (machine : Machine Name P) → (state : J → P) → KeepsSound machine (IsAmong state) → ClosesOpenPorts machine (IsAmong state) }
     ensures answers { (machine : Machine Name P) → (state : J → P) → KeepsSound machine (IsAmong state) → AnswersOpenCalls machine (IsAmong state) }

@@ -1,19 +1,20 @@
 -- What is claimed of sound states, over any machine.
-use Rattle.std.specs.Prelude.{◌≡◌, ◌+◌, ◌*◌, ◌≤◌, ◌<◌, ◌&&◌, ℕ, suc, max, List, Bool, true, false, nat_eq, length, Some, is_some, IsTrue}
-use Rattle.herm_model.specs.Lists.{any_pass}
+use Rattle.std.specs.Prelude.{◌≡◌, ◌+◌, ◌*◌, ◌≤◌, ◌<◌, ◌&&◌, ◌++◌, ℕ, suc, max, List, Bool, true, false, nat_eq, length, Some, is_some, IsTrue}
+use Rattle.herm_model.specs.Lists.{IsIn, any_pass}
 use Rattle.herm_model.specs.Typed.{is_text}
 use Rattle.herm_model.specs.Values.{Name, Cell}
-use Rattle.herm_journal.specs.Actions.{Action, close, answer}
+use Rattle.herm_journal.specs.Actions.{Action, to_take, to_hear, close, answer}
 use Rattle.herm_journal.specs.PlaceStates.{Limits}
 use Rattle.herm_journal.specs.Entries.{Text, Place, port, reply_cell, same_place, Entry}
 use Rattle.herm_journal.specs.Stamps.{IsStamped}
 use Rattle.herm_journal.specs.Messages.{CellReply, CellWant}
-use Rattle.herm_system.specs.Machines.{Machine, is_local, is_acting, greatest_actions}
-use Rattle.herm_system.specs.Systems.{System, Moved, Event, steps, acts, step, Run, run, run_on, start, opening, numbered_from_one, places_for, done_in, stands, IsFinal}
+use Rattle.herm_system.specs.Machines.{OpenCall, Machine, is_local, is_acting, greatest_actions}
+use Rattle.herm_system.specs.Systems.{System, Moved, Event, steps, acts, step, Run, run, run_on, start, opening, numbered_from_one, places_for, done_in, can, stands, IsFinal}
+use Rattle.herm_system.specs.Ledger.{HasLedger}
 use Rattle.herm_system.specs.Rounds.{rounds}
 use Rattle.herm_system.specs.Kinds.{unfinalised, replies_of, is_callmessage_of, has_open, is_open_port}
 use Rattle.herm_system.specs.Reports.{IsAlong}
-use Rattle.herm_system.specs.Sound.{one_if, IsSoundFor}
+use Rattle.herm_system.specs.Sound.{one_if, IsNumbered, IsSoundWith, IsSoundFor}
 use Rattle.herm_system.specs.Summary.{how_many}
 
 -- A state is one of these. So is said any property of states, by the type of those that have it.
@@ -49,13 +50,28 @@ module _ {P : Type 0} (machine : Machine Name P) where
   abbrev pub EventsKeepStamps : Type 0
   EventsKeepStamps = (e : Event) (r t : Run P) → run_on machine e r ≡ Some t → IsStamped r.journal → IsStamped t.journal
 
+  -- Behind an event numbers agree, and the ledger holds, if they did before. Language reference, "The ledger".
+  abbrev pub EventsKeepNumbers : Type 0
+  EventsKeepNumbers = (e : Event) (s : System P) (m : Moved P) → step machine e s ≡ Some m → IsNumbered machine s → IsNumbered machine m.system
+
+  abbrev pub EventsKeepLedger : Type 0
+  EventsKeepLedger = (e : Event) (s : System P) (m : Moved P) → step machine e s ≡ Some m → HasLedger machine s → HasLedger machine m.system
+
+  -- What a process waits for, where nothing of what it wants can be done now: a message at ports that are all open, or the reply to its open
+  -- call, of which one callmessage is not finalised. Nothing else that is wanted waits. Language reference, "Sound states".
+  abbrev pub WaitsFor : System P → (process : ℕ) → P → CellWant Name → Type 0
+  WaitsFor s p x (to_take ports) = (n : ℕ) → IsIn n ports → is_open_port s n ≡ true
+  WaitsFor s p x to_hear = (call : OpenCall) × (machine.open_call x ≡ Some call) × (how_many (is_callmessage_of p call.number) (unfinalised machine s) ≡ 1)
+  WaitsFor s p x want = ⊥
+
   -- A process that is to make a local step makes it; one that can act can do so at some place, and at each place where something of
-  -- what it wants can be done. Language reference, "Sound states".
+  -- what it wants can be done; and one that can do nothing of what it wants waits for what may come. Language reference, "Sound states".
   pub record GoOnFrom (s : System P) (p : ℕ) : Type 0 where
     pub local_steps : IsTrue (stands is_local machine s p) → (m : Moved P) × (step machine (steps p) s ≡ Some m)
     pub actions : IsTrue (stands is_acting machine s p) → (place : Place) × (m : Moved P) × (step machine (acts p place) s ≡ Some m)
     pub places : IsTrue (stands is_acting machine s p) → (x : P) (want : CellWant Name) (place : Place) → numbered_from_one p s.processes ≡ Some x → machine.wanted x ≡ Some want
         → IsTrue (any_pass (same_place place) (places_for p want)) → IsTrue (is_some (done_in want s place)) → (m : Moved P) × (step machine (acts p place) s ≡ Some m)
+    pub waits : (x : P) (want : CellWant Name) → numbered_from_one p s.processes ≡ Some x → machine.wanted x ≡ Some want → can s p want ≡ false → WaitsFor s p x want
 
   -- Along a run each port that was made was closed once where it is not open, and not yet where it is; and no port was closed twice.
   -- Language reference, "Ports".
@@ -63,10 +79,12 @@ module _ {P : Type 0} (machine : Machine Name P) where
   PortsCloseOnce = (limits : Limits) (argument : Text) (events : List Event) (r : Run P) → IsTrue (is_text argument) → run machine events (start machine limits argument) ≡ Some r → (n : ℕ)
       → (n < length r.system.ports → how_many (closes n) r.journal + one_if (is_open_port r.system n) ≡ 1) × (how_many (closes n) r.journal ≤ 1)
 
-  -- Along a run no call is answered twice. Language reference, "Calls".
+  -- Along a run no call is answered twice; and each that is open was answered once, or has its callmessage and was not.
+  -- Language reference, "Calls".
   abbrev pub CallsAreAnsweredOnce : Type 0
   CallsAreAnsweredOnce = (limits : Limits) (argument : Text) (events : List Event) (r : Run P) → IsTrue (is_text argument) → run machine events (start machine limits argument) ≡ Some r
-      → (caller call : ℕ) → how_many (answers_call caller call) r.journal ≤ 1
+      → (caller call : ℕ) → (how_many (answers_call caller call) r.journal ≤ 1)
+      × (has_open machine r.system caller call ≡ true → how_many (answers_call caller call) r.journal + how_many (is_callmessage_of caller call) (unfinalised machine r.system) ≡ 1)
 
   -- A run has at most so many events as its limits say. Language reference, "Limits of a run".
   abbrev pub EventsAreBounded : Type 0
@@ -80,6 +98,10 @@ module _ {P : Type 0} (machine : Machine Name P) (Is : P → Type 0) where
   -- What an event leaves of a sound state is a sound state. Language reference, "Sound states".
   abbrev pub StepsKeepSound : Type 0
   StepsKeepSound = (e : Event) (s : System P) (m : Moved P) → step machine e s ≡ Some m → IsSoundFor machine Is s → IsSoundFor machine Is m.system
+
+  -- The types of the ports stay, and those of new ports come behind them.
+  abbrev pub StepsKeepTypes : Type 0
+  StepsKeepTypes = (e : Event) (s : System P) (m : Moved P) → step machine e s ≡ Some m → (types : List ℕ) → IsSoundWith machine Is types s → (new : List ℕ) × IsSoundWith machine Is (types ++ new) m.system
 
   -- So is what a list of events leaves.
   abbrev pub RunsKeepSound : Type 0
