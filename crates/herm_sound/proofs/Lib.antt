@@ -19,3 +19,4 @@ pub mod BoundedEvents
 pub mod RoundsReachEnd
 pub mod AnsweredOnce
 pub mod Waiting
+pub mod StepsStaySo

@@ -2,9 +2,10 @@
 
 ghost use Rattle.herm_model.specs.Values.{Name};
 ghost use Rattle.herm_system.specs.Machines.{Machine};
+ghost use Rattle.herm_runs.specs.Throughout.{StaysSo};
 ghost use Rattle.herm_runs.specs.laws.ProcessLaws.{KeepsLedger, KeepsNumbers};
 ghost use Rattle.herm_sound.specs.SoundMachines.{BeginsSound, KeepsSound, NumbersCalls};
-ghost use Rattle.herm_sound.specs.laws.SoundLaws.{AnswersOpenCalls, CallsAreAnsweredOnce, ClosesOpenPorts, EventsKeepLedger, EventsKeepNumbers, EventsKeepStamps, IsAmong, OpeningIsSound, PortsCloseOnce, RunsAreSound, RunsKeepSound, StatesAlongAreSound, StepsKeepSound, StepsKeepTypes};
+ghost use Rattle.herm_sound.specs.laws.SoundLaws.{AnswersOpenCalls, CallsAreAnsweredOnce, ClosesOpenPorts, EventsKeepAll, EventsKeepLedger, EventsKeepNumbers, EventsKeepStamps, IsAmong, OpeningIsSound, PortsCloseOnce, RunsAreSound, RunsKeepSound, StatesAlongAreSound, StepsKeepSound, StepsKeepTypes};
 
 /// What an event leaves of a sound state is a sound state, whatever the event: a local step, or an action of any kind at any place
 /// where it can be done; and the types of the ports stay. So is what a list of events leaves.
@@ -14,10 +15,12 @@ pub fn events_keep_sound<P, J>()
     ensures runs { (machine : Machine Name P) → (state : J → P) → KeepsSound machine (IsAmong state) → RunsKeepSound machine (IsAmong state) }
 {}
 
-/// Behind an event of any state whose numbers agree they agree; and behind one of any state with a ledger there is one.
-pub fn events_keep_books<P>()
+/// Behind an event of any state whose numbers agree they agree; behind one of any state with a ledger there is one; and what is so of each
+/// process and stays so is so of each behind an event.
+pub fn events_keep_books<P, J>()
     ensures numbers { (machine : Machine Name P) → KeepsNumbers machine → EventsKeepNumbers machine }
     ensures ledger { (machine : Machine Name P) → KeepsLedger machine → EventsKeepLedger machine }
+    ensures all { (machine : Machine Name P) → (state : J → P) → StaysSo machine (IsAmong state) → EventsKeepAll machine (IsAmong state) }
 {}
 
 /// What an event adds to a journal has the stamp of the two clocks.

@@ -13,7 +13,7 @@ use Rattle.herm_system.specs.Systems.{System, Moved, Event, steps, acts, step, R
 use Rattle.herm_system.specs.Ledger.{HasLedger}
 use Rattle.herm_system.specs.Rounds.{rounds}
 use Rattle.herm_system.specs.Kinds.{unfinalised, replies_of, is_callmessage_of, has_open, is_open_port}
-use Rattle.herm_system.specs.Reports.{IsAlong}
+use Rattle.herm_system.specs.Reports.{IsAlong, IsSoOfAll}
 use Rattle.herm_system.specs.Sound.{one_if, IsNumbered, IsSoundWith, IsSoundFor}
 use Rattle.herm_system.specs.Summary.{how_many}
 
@@ -56,6 +56,10 @@ module _ {P : Type 0} (machine : Machine Name P) where
 
   abbrev pub EventsKeepLedger : Type 0
   EventsKeepLedger = (e : Event) (s : System P) (m : Moved P) → step machine e s ≡ Some m → HasLedger machine s → HasLedger machine m.system
+
+  -- Behind an event what is so of each process is so, where it is so of each that begins and stays so.
+  abbrev pub EventsKeepAll : (P → Type 0) → Type 0
+  EventsKeepAll Is = (e : Event) (s : System P) (m : Moved P) → step machine e s ≡ Some m → IsSoOfAll Is s → IsSoOfAll Is m.system
 
   -- What a process waits for, where nothing of what it wants can be done now: a message at ports that are all open, or the reply to its open
   -- call, of which one callmessage is not finalised. Nothing else that is wanted waits. Language reference, "Sound states".
