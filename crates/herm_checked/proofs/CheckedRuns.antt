@@ -2,21 +2,24 @@
 use Rattle.std.proofs.Common.{◌≡◌, ℕ, List, Some, refl}
 use Rattle.herm_model.specs.Values.{Name}
 use Rattle.herm_system.specs.Sound.{IsSoundWith, IsSoundFor}
-use Rattle.herm_system.specs.Systems.{System, numbered_from_one}
+use Rattle.herm_system.specs.Systems.{System, numbered_from_one, start}
 use Rattle.herm_source.specs.Instance.{source, IsSoundIn}
 use Rattle.herm_source.specs.Modules.{Program, Modules}
 use Rattle.herm_source.specs.States.{State}
 use Rattle.herm_source.specs.laws.SoundProcesses.{IsSoundProcess}
 use Rattle.herm_runs.proofs.Events.{run-stamped}
-use Rattle.herm_source.proofs.reached.RunsReach.{along-finds}
-use Rattle.herm_sound.proofs.KeptSound.{steps-keep-sound}
+use Rattle.herm_runs.proofs.SuitsRuns.{sound-states-suit, sound-runs-suit}
+use Rattle.herm_source.proofs.instance.SourceLooks.{source-looks-at-held, accepted-share-types}
+use Rattle.herm_source.proofs.reached.RunsReach.{IsAtReached, stays-reached, along-finds}
+use Rattle.herm_sound.proofs.KeptSound.{steps-keep-sound, steps-keep-types}
+use Rattle.herm_sound.proofs.StepsStaySo.{events-keep-all}
 use Rattle.herm_sound.proofs.OpeningSound.{opening-is-sound, runs-are-sound, states-along}
 use Rattle.herm_sound.proofs.NotStuck.{none-is-stuck}
 use Rattle.herm_sound.proofs.ActOnce.{closes-open, answers-open}
 use Rattle.herm_sound.proofs.AnsweredOnce.{calls-are-answered-once}
 use Rattle.herm_sound.proofs.ClosedOnce.{ports-close-once}
 use Rattle.herm_sound.proofs.RoundsReachEnd.{events-are-bounded, rounds-suffice}
-use Rattle.herm_checked.specs.laws.CheckedRuns.{IsSoundAndReached, SoundWithReach, CheckedStepsKeepSound, CheckedOpeningIsSound, CheckedRunsAreSound, CheckedStatesAlong, CheckedNoneIsStuck, CheckedActionsAreDoneOnce, CheckedRunsEnd, CheckedRunsAreDescribed, CheckedReportsDescribe}
+use Rattle.herm_checked.specs.laws.CheckedRuns.{IsSoundAndReached, SoundWithReach, CheckedStepsKeepSound, CheckedStepsKeepTypes, AcceptedStepsReach, CheckedEventsSuit, CheckedRunsSuit, CheckedOpeningIsSound, CheckedRunsAreSound, CheckedStatesAlong, CheckedNoneIsStuck, CheckedActionsAreDoneOnce, CheckedRunsEnd, CheckedRunsAreDescribed, CheckedReportsDescribe}
 use Rattle.herm_checked.proofs.CallNumbers.{source-numbers-calls}
 use Rattle.herm_checked.proofs.SourceKeeps.{source-keeps-sound}
 use Rattle.herm_checked.proofs.SourceBegins.{source-begins-sound, source-goes-on, source-keeps-limits}
@@ -61,6 +64,14 @@ pub checked-steps : CheckedStepsKeepSound
 checked-steps exceptions program modules checked e s m is both =
     to-reached program modules m.system (steps-keep-sound (source modules) (IsSoundProcess program modules) (source-keeps-sound exceptions program modules checked) e s m is (from-reached program modules s both))
 
+pub checked-types : CheckedStepsKeepTypes
+checked-types exceptions program modules checked = steps-keep-types (source modules) (IsSoundProcess program modules) (source-keeps-sound exceptions program modules checked)
+
+pub accepted-reach : AcceptedStepsReach
+accepted-reach program modules accepted formed e s m is reached =
+    let all = events-keep-all (source modules) (IsAtReached program modules accepted formed) (stays-reached program modules accepted formed) e s m is (λ p x at process here. reached p x process at here) in
+    λ p x process at here. all p x at process here
+
 pub checked-opening : CheckedOpeningIsSound
 checked-opening exceptions program modules checked limits argument texts =
     to-reached program modules _ (opening-is-sound (source modules) (IsSoundProcess program modules) (source-keeps-sound exceptions program modules checked) (source-begins-sound exceptions program modules checked) limits argument texts)
@@ -68,6 +79,14 @@ checked-opening exceptions program modules checked limits argument texts =
 pub checked-runs : CheckedRunsAreSound
 checked-runs exceptions program modules checked limits argument events r texts e =
     to-reached program modules r.system (runs-are-sound (source modules) (IsSoundProcess program modules) (source-keeps-sound exceptions program modules checked) (source-begins-sound exceptions program modules checked) limits argument events r texts e)
+
+pub checked-suit : CheckedEventsSuit
+checked-suit exceptions program modules checked = sound-states-suit (source modules) (IsSoundIn modules) (source-looks-at-held modules (accepted-share-types program modules checked.accepted))
+
+pub checked-runs-suit : CheckedRunsSuit
+checked-runs-suit exceptions program modules checked limits argument events texts =
+    sound-runs-suit (source modules) (IsSoundIn modules) (source-looks-at-held modules (accepted-share-types program modules checked.accepted)) events (start (source modules) limits argument)
+    (λ before rest t same is. (checked-runs exceptions program modules checked limits argument before t texts is).0)
 
 pub checked-along : CheckedStatesAlong
 checked-along exceptions program modules checked limits argument journal s texts along =

@@ -13,14 +13,15 @@ use Rattle.herm_system.specs.RunTexts.{queues, Asked, plainly, text_of_run}
 use Rattle.herm_system.specs.Statuses.{status_of}
 use Rattle.herm_system.specs.Summary.{counts}
 use Rattle.herm_system.specs.Sound.{IsSoundFor}
-use Rattle.herm_source.specs.AcceptedRuns.{FindsNeeds, Describes}
+use Rattle.herm_runs.specs.laws.DiaryLaws.{EventSuits, SuitsAlong}
+use Rattle.herm_source.specs.AcceptedRuns.{AreAccepted, FindsNeeds, Describes}
 use Rattle.herm_source.specs.Checked.{IsChecked}
 use Rattle.herm_source.specs.Instance.{IsSound, source}
 use Rattle.herm_source.specs.Modules.{Program, Modules}
 use Rattle.herm_source.specs.States.{State}
-use Rattle.herm_source.specs.laws.NeedsLaws.{StandsReached}
+use Rattle.herm_source.specs.laws.NeedsLaws.{HasWellFormedBodies, StandsReached}
 use Rattle.herm_source.specs.laws.SoundProcesses.{IsSoundProcess}
-use Rattle.herm_sound.specs.laws.SoundLaws.{GoOnFrom, ClosesOpenPorts, AnswersOpenCalls, PortsCloseOnce, CallsAreAnsweredOnce, EventsAreBounded, RoundsSuffice}
+use Rattle.herm_sound.specs.laws.SoundLaws.{StepsKeepTypes, GoOnFrom, ClosesOpenPorts, AnswersOpenCalls, PortsCloseOnce, CallsAreAnsweredOnce, EventsAreBounded, RoundsSuffice}
 
 -- A sound state in which each process stands where a control path leads.
 abbrev pub IsSoundAndReached : Program → Modules → System (State Name) → Type 0
@@ -37,6 +38,24 @@ SoundWithReach = (program : Program) (modules : Modules) (s : System (State Name
 -- What an event leaves of such a state is such a state, whatever the event. Language reference, "Sound states".
 abbrev pub CheckedStepsKeepSound : Type 0
 CheckedStepsKeepSound = OfChecked (λ program modules. (e : Event) (s : System (State Name)) (m : Moved (State Name)) → step (source modules) e s ≡ Some m → IsSoundAndReached program modules s → IsSoundAndReached program modules m.system)
+
+-- The types of the ports stay, and those of new ports come behind them.
+abbrev pub CheckedStepsKeepTypes : Type 0
+CheckedStepsKeepTypes = OfChecked (λ program modules. StepsKeepTypes (source modules) (IsSoundProcess program modules))
+
+-- Behind an event of any state of accepted modules, sound or not, each process stands where a control path leads, if each did before.
+-- Language reference, "Control paths".
+abbrev pub AcceptedStepsReach : Type 0
+AcceptedStepsReach = (program : Program) (modules : Modules) → AreAccepted program modules → HasWellFormedBodies program → (e : Event) (s : System (State Name)) (m : Moved (State Name))
+    → step (source modules) e s ≡ Some m → StandsReached program s → StandsReached program m.system
+
+-- What comes in with an event of a sound state suits its process; so does what comes in along any events from the start.
+-- Language reference, "Diaries".
+abbrev pub CheckedEventsSuit : Type 0
+CheckedEventsSuit = OfChecked (λ program modules. (e : Event) (s : System (State Name)) → IsSound modules s → EventSuits (source modules) e s)
+
+abbrev pub CheckedRunsSuit : Type 0
+CheckedRunsSuit = OfChecked (λ program modules. (limits : Limits) (argument : Text) (events : List Event) → IsTrue (is_text argument) → SuitsAlong (source modules) events (start (source modules) limits argument))
 
 -- The state at the start is one. Language reference, "Opening state".
 abbrev pub CheckedOpeningIsSound : Type 0
