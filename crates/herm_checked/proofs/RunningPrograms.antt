@@ -4,6 +4,9 @@ use Rattle.herm_model.specs.ControlPaths.{Edge, Point, IsReached}
 use Rattle.herm_model.specs.Labels.{Labels, AreExact}
 use Rattle.herm_model.specs.Lists.{IsIn, list_of}
 use Rattle.herm_model.specs.Outcomes.{overflow}
+use Rattle.herm_model.specs.Statements.{Process, IsWellFormedBlock, block, no_blocks, no_statements}
+use Rattle.herm_source.specs.examples.CheckedExamples.{choosing_process}
+use Rattle.herm_source.specs.examples.RunExamples.{limited}
 use Rattle.herm_model.specs.Targets.{Target, node, end_by}
 use Rattle.herm_model.specs.Types.{fields, inport, outport, callmessage, by_inout}
 use Rattle.herm_model.specs.laws.FlowLaws.{IsLedTo, begins, goes_on}
@@ -12,8 +15,8 @@ use Rattle.herm_model.proofs.Options.{some-injective, none-not_some}
 use Rattle.herm_model.proofs.Reached.{reached-IsLedTo}
 use Rattle.herm_source.specs.examples.CallPrograms.{busy, ask_types, kept_parameter, calls_both_ways}
 use Rattle.herm_source.specs.examples.Programs.{two_senders}
-use Rattle.herm_checked.specs.examples.RunningPrograms.{IsReady, ring_types, ring_of_three, past_a_raise, IsFreeAt}
-use Rattle.herm_checked.proofs.ReadyPrograms.{ready-checked}
+use Rattle.herm_checked.specs.examples.RunningPrograms.{IsDescribedBehind, IsStuckBehind, choosing_program, raises_alone, IsReady, ring_types, ring_of_three, past_a_raise, IsFreeAt}
+use Rattle.herm_checked.proofs.ReadyPrograms.{ready-checked, described-behind, stuck-behind}
 
 pub ring-ready : IsReady 7 ring_of_three
 ring-ready = ready-checked 7 ring_types ring_of_three.processes 1 refl (refl, refl, (refl, refl, tt))
@@ -27,6 +30,26 @@ both-ready =
 
 pub kept-ready : IsReady 8 kept_parameter
 kept-ready = ready-checked 8 (ask_types (record { exception = busy; kept = 1 ∷ [] } ∷ [])) kept_parameter.processes 1 refl (refl, refl, (refl, refl, tt))
+
+pub raises-ready : IsReady 7 raises_alone
+raises-ready = ready-checked 7 [] raises_alone.processes 0 refl (refl, refl, tt)
+
+-- its run has one entry, and process 1, which is the only one, has ended
+pub raises-described : IsDescribedBehind raises_alone (limited 1000 4 4) 2 6
+raises-described = described-behind 7 raises_alone raises-ready (limited 1000 4 4) 2 6 refl
+
+-- the modules of a program with a missing arm are accepted, and its run is stuck
+pub missing-stuck : IsStuckBehind (choosing_program (1 ∷ []) (block no_statements no_blocks)) (limited 1000 4 4) 2
+missing-stuck =
+    let program = choosing_program (1 ∷ []) (block no_statements no_blocks) in
+    stuck-behind program (λ p m. formed p m) (refl, refl, tt) (limited 1000 4 4) 2 refl
+  where
+    first : IsWellFormedBlock (choosing_process (1 ∷ []) (block no_statements no_blocks)).body
+    first = (refl, (refl, ((refl, ((λ h. h), tt), (tt, tt)), tt)))
+
+    formed : (p : Process) → IsIn p (choosing_program (1 ∷ []) (block no_statements no_blocks)).processes → IsWellFormedBlock p.body
+    formed p (inl is) = subst (λ (p : Process). IsWellFormedBlock p.body) (sym is) first
+    formed p (inr h) = absurd h
 
 -- the number of a node
 abbrev node_number : Target → Option ℕ

@@ -1,5 +1,5 @@
 -- Programs in the middle of their runs, and a ring of three processes as a term.
-use Rattle.std.specs.Prelude.{◌≡◌, ℕ, List, [], ◌∷◌, ◌++◌, Bool, Some, is_some, length}
+use Rattle.std.specs.Prelude.{◌≡◌, ℕ, List, [], ◌∷◌, ◌++◌, Bool, true, Some, is_some, length}
 use Rattle.herm_model.specs.Expressions.{copy, operation, plus, decimal}
 use Rattle.herm_model.specs.Labels.{Labels, AreExact}
 use Rattle.herm_model.specs.Outcomes.{overflow}
@@ -9,7 +9,11 @@ use Rattle.herm_model.specs.Types.{TypeTable, predefined, cases, fields, inport,
 use Rattle.herm_model.specs.ControlPaths.{Flow, flow_of}
 use Rattle.herm_model.specs.Values.{Name}
 use Rattle.herm_journal.specs.PlaceStates.{Limits}
-use Rattle.herm_system.specs.Systems.{Run, start}
+use Rattle.herm_journal.specs.Entries.{Text}
+use Rattle.herm_system.specs.RunTexts.{Asked}
+use Rattle.herm_system.specs.Statuses.{status_of}
+use Rattle.herm_system.specs.Systems.{Run, start, can_step}
+use Rattle.herm_source.specs.AcceptedRuns.{AreAccepted, Describes}
 use Rattle.herm_source.specs.Checked.{IsChecked}
 use Rattle.herm_source.specs.Instance.{source}
 use Rattle.herm_source.specs.Modules.{Program}
@@ -18,17 +22,28 @@ use Rattle.herm_source.specs.examples.CheckedExamples.{choosing_process}
 use Rattle.herm_source.specs.examples.CountExamples.{behind_rounds}
 use Rattle.herm_source.specs.examples.Programs.{variable, part_in, a_number, alone, process_of, receives_start, says}
 use Rattle.herm_source.specs.examples.RunExamples.{limited, ready_program}
-use Rattle.herm_checked.specs.laws.CheckedRuns.{IsSoundAndReached}
+use Rattle.herm_checked.specs.laws.CheckedRuns.{IsSoundAndReached, report_of}
+use Rattle.herm_sound.specs.laws.SoundLaws.{GoOnFrom}
 
--- The program made ready is checked; and its run, with an empty argument, has so many entries behind so many rounds, and its state
--- there is sound.
+-- The program made ready is checked; and its run, with an empty argument, has so many entries behind so many rounds, its state there is
+-- sound, and some process of it can step.
 abbrev pub IsReady : (exceptions : ℕ) → Program → Type 0
 IsReady exceptions program = IsChecked exceptions program (ready_program program)
 
 abbrev pub IsSoundBehind : Program → Limits → (rounds entries : ℕ) → Type 0
 IsSoundBehind program limits n entries =
     (r : Run (State Name)) × (behind_rounds n (source (ready_program program)) (start (source (ready_program program)) limits []) ≡ Some r) × (length r.journal ≡ entries)
-    × IsSoundAndReached program (ready_program program) r.system
+    × IsSoundAndReached program (ready_program program) r.system × ((p : ℕ) × (can_step (source (ready_program program)) r.system p ≡ true))
+
+-- The run, with an empty argument, is at its end behind so many rounds, with this status, and its report describes it.
+abbrev pub IsDescribedBehind : Program → Limits → (rounds status : ℕ) → Type 0
+IsDescribedBehind program limits n status =
+    (r : Run (State Name)) × (behind_rounds n (source (ready_program program)) (start (source (ready_program program)) limits []) ≡ Some r) × (status_of (source (ready_program program)) r.system ≡ status)
+    × ((names : List Text) (asked : Asked) → Describes (ready_program program) limits [] names asked (report_of (source (ready_program program)) names asked r))
+
+-- process main(start: main_start) { raise Overflow; }
+abbrev pub raises_alone : Program
+raises_alone = alone [] (process_of (7 ∷ []) (simple (Raise overflow) ∷ []))
 
 -- type li = inport of integer;  type lo = outport of li;  type boot = record { mine: li, next: lo };
 -- type boot_in = inport of boot;  type boot_out = outport of boot_in;
@@ -73,6 +88,12 @@ choosing_program arms blocks = alone (cases (1 ∷ 2 ∷ []) ∷ []) (choosing_p
 
 abbrev pub makes_rounds : ℕ → Program → Bool
 makes_rounds n program = is_some (behind_rounds n (source (ready_program program)) (start (source (ready_program program)) (limited 1000 4 4) []))
+
+-- The modules are accepted, and behind so many rounds of its run process 1 is stuck.
+abbrev pub IsStuckBehind : Program → Limits → (rounds : ℕ) → Type 0
+IsStuckBehind program limits n =
+    AreAccepted program (ready_program program)
+    × ((r : Run (State Name)) × (behind_rounds n (source (ready_program program)) (start (source (ready_program program)) limits []) ≡ Some r) × (GoOnFrom (source (ready_program program)) r.system 1 → ⊥))
 
 -- a process p(start: main_start) { var n: integer; raise Overflow; n := 1; }, whose second statement no control path reaches
 abbrev pub past_a_raise : Flow
