@@ -1,4 +1,6 @@
 //! What the top call answers.
+ghost use Rattle.std.specs.Prelude.{◌≡◌};
+
 use herm_world::{Entry, Place, Report, Stamp};
 
 /// How a call of the program ended.
@@ -10,6 +12,15 @@ pub struct Outcome {
     pub report: Option<Report>,
     /// Why a run on several workers was given up, where one was.
     pub aside: Option<Aside>,
+}
+
+impl Outcome {
+    /// The exit status alone.
+    pub fn into_status(self) -> u8
+        ensures status { result ≡ self.status }
+    {
+        self.status
+    }
 }
 
 /// Why a run on several workers was given up.

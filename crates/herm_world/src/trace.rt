@@ -1,44 +1,12 @@
 //! The texts of values.
-ghost use Rattle.std.specs.Prelude.{◌≡◌, ◌++◌, [], ◌∷◌, ◌↔◌, IfOk, OnOk, OnErr, IsTrue, length, ℕ, List};
+ghost use Rattle.std.specs.Prelude.{◌≡◌, ◌++◌, [], ◌∷◌, ◌↔◌, OnOk, OnErr, IsTrue, length, ℕ, List};
 
+use herm_base::Word;
 use std::alloc::{AllocError, Global};
 use std::marker::Model;
 
-/// The text of a value, seen as the list of its bytes.
-#[derive(Debug, Drop)]
-pub struct Trace {
-    text: Vec<u8>,
-}
-
-impl Model for Trace {
-    ghost Value = { List ℕ };
-
-    ghost view = { λ t. t.text.items };
-}
-
-impl Trace {
-    /// The trace with these bytes.
-    pub fn of(alloc: Global, bytes: &[u8]) -> Result<Trace, AllocError>
-        ensures { IfOk result (λ t. t ≡ bytes.now) }
-    {
-        let text = Vec::from_slice(alloc, bytes)?;
-        Ok(Trace { text })
-    }
-
-    /// The trace with the bytes of a `Vec`. It takes no memory.
-    pub fn from_vec(text: Vec<u8>) -> Trace
-        ensures { result ≡ text.items }
-    {
-        Trace { text }
-    }
-
-    /// The bytes of the text. It takes no memory.
-    pub fn bytes(&self) -> &[u8]
-        ensures { result.now ≡ self.now }
-    {
-        self.text.as_slice()
-    }
-}
+/// The text of a value.
+pub type Trace = Word;
 
 /// The texts of several values, seen as the list of them.
 #[derive(Debug, Drop)]

@@ -35,7 +35,7 @@ fn call<F: Shelf, S: Sink, G: Gate + Sync>(
         (S.faults sink.old) (S.faults sink.new) (S.written sink.old) (S.written sink.new) (exit_status result) }
 {
     let outcome = hermes(alloc, words, shelf, sink, gate);
-    ExitCode::from(outcome.status)
+    ExitCode::from(outcome.into_status())
 }
 
 /// Calls the program with these words over the system's files and a writer. Words that took too much memory end it with status 5.
