@@ -22,7 +22,7 @@ use Rattle.herm_runs.specs.Counting.{kinds_made, kinds_ended}
 use Rattle.herm_runs.proofs.ActionParts.{action-parts, step-parts}
 use Rattle.herm_runs.proofs.Stands.{IsNew}
 use Rattle.herm_sound.specs.SoundMachines.{CallMoves, KeepsSound, BeginsSound, NumbersCalls}
-use Rattle.herm_sound.specs.laws.SoundLaws.{is_answer_to, answers_call, CallsAreAnsweredOnce}
+use Rattle.herm_sound.specs.laws.SoundLaws.{is_answer_to, answers_call, is_hear_of, hears_call, replies_to, CallsAreAnsweredOnce}
 use Rattle.herm_sound.proofs.Acted.{Holding, IsAct, port_made, port_refused, process_made, process_refused, placed, came_back, taken, closed, answered, heard, acted}
 use Rattle.herm_sound.proofs.ActionChanges.{action-change}
 use Rattle.herm_sound.proofs.ActOnce.{held}
@@ -31,6 +31,7 @@ use Rattle.herm_sound.proofs.ClosedOnce.{and-none}
 use Rattle.herm_sound.proofs.Counted.{many-append}
 use Rattle.herm_sound.proofs.KeptCalls.{IsPlaced, WasOpen, calls-before, opens-move}
 use Rattle.herm_sound.proofs.KeptSound.{callmessages-wait, steps-keep-sound}
+use Rattle.herm_sound.proofs.ReplyCells.{heard_of}
 use Rattle.herm_sound.proofs.OpenCalls.{counted, only-one, open-with, open-none}
 use Rattle.herm_sound.proofs.OpeningSound.{opening-is-sound}
 
@@ -63,13 +64,40 @@ act-answering p q k w place h a (came_back i m qs j) = refl
 act-answering p q k w place h a (taken ports i among b j m qs l) = refl
 act-answering p q k w place h a (closed i b qs j) = refl
 
+-- an entry is of hearing as its action is, and its place and process are those that heard
+recorded-hear : (k : ℕ) (a : CellAction Name) → is_hear_of k (recorded a) ≡ is_hear_of k a
+recorded-hear k (make_port made) = refl
+recorded-hear k (make_process code made) = refl
+recorded-hear k (put i m) = refl
+recorded-hear k (take i m) = refl
+recorded-hear k (close count left) = refl
+recorded-hear k (answer i r) = refl
+recorded-hear k (hear i r) = refl
+
+act-hearing : (p q k : ℕ) (w : CellWant Name) (place : Place) (h : Holding) (a : CellAction Name) → IsAct p w place h a → one_if (same_place place (reply_cell q) && is_hear_of k a) ≡ heard_of p a q k
+act-hearing p q k w place h a (answered caller call r rs) = and-none (nat_eq caller q)
+act-hearing p q k w place h a (heard i r rs) = refl
+act-hearing p q k w place h a (port_made b i e) = refl
+act-hearing p q k w place h a (port_refused b e) = refl
+act-hearing p q k w place h a (process_made code b made e) = refl
+act-hearing p q k w place h a (process_refused code b e) = refl
+act-hearing p q k w place h a (placed i m qs j) = refl
+act-hearing p q k w place h a (came_back i m qs j) = refl
+act-hearing p q k w place h a (taken ports i among b j m qs l) = refl
+act-hearing p q k w place h a (closed i b qs j) = refl
+
+-- one entry more counts as it passes
+one-more : (test : Entry → Bool) (journal : List Entry) (e : Entry) → how_many test (journal ++ e ∷ []) ≡ how_many test journal + one_if (test e)
+one-more test journal e = omega (arith, many-append test journal (e ∷ []), one-long (test e) e)
+
 one-entry : (journal : List Entry) (q k p : ℕ) (place : Place) (a : CellAction Name) → how_many (answers_call q k) (journal ++ entry_behind journal p place (recorded a) ∷ []) ≡ how_many (answers_call q k) journal + answering q k place a
 one-entry journal q k p place a =
-    omega (arith, many-append (answers_call q k) journal (entry_behind journal p place (recorded a) ∷ []), by (same_place place (reply_cell q) && is_answer_to k (recorded a)) refl)
-  where
-    by : (b : Bool) → (same_place place (reply_cell q) && is_answer_to k (recorded a)) ≡ b → length (cond b (entry_behind journal p place (recorded a) ∷ []) []) ≡ answering q k place a
-    by true e = ap one_if (sym e ∙ ap (λ c. same_place place (reply_cell q) && c) (recorded-answer k a))
-    by false e = ap one_if (sym e ∙ ap (λ c. same_place place (reply_cell q) && c) (recorded-answer k a))
+    omega (arith, one-more (answers_call q k) journal (entry_behind journal p place (recorded a)), ap (λ c. one_if (same_place place (reply_cell q) && c)) (recorded-answer k a))
+
+one-heard : (journal : List Entry) (q k p : ℕ) (place : Place) (a : CellAction Name)
+    → how_many (hears_call q k) (journal ++ entry_behind journal p place (recorded a) ∷ []) ≡ how_many (hears_call q k) journal + one_if (same_place place (reply_cell q) && is_hear_of k a)
+one-heard journal q k p place a =
+    omega (arith, one-more (hears_call q k) journal (entry_behind journal p place (recorded a)), ap (λ c. one_if (same_place place (reply_cell q) && c)) (recorded-hear k a))
 
 zero-or_more : (n : ℕ) → (n ≡ 0) ⊎ ((m : ℕ) × (n ≡ suc m))
 zero-or_more zero = inl refl
@@ -87,6 +115,7 @@ module _ {P : Type 0} (machine : Machine Name P) (Is : P → Type 0) (keeps : Ke
   record AreOnce (r : Run P) : Type 0 where
     once : (q k : ℕ) → answers_so r q k + callmessages r.system q k ≤ 1
     opened : (q k : ℕ) → one_if (has_open machine r.system q k) ≤ answers_so r q k + callmessages r.system q k
+    heard : (q k : ℕ) → how_many (hears_call q k) r.journal + replies_to r.system q k ≡ answers_so r q k
     fresh : (q k : ℕ) (z : P) → numbered_from_one q r.system.processes ≡ Some z → numbers.calls z ≤ k → answers_so r q k ≡ 0
     absent : (q k : ℕ) → numbered_from_one q r.system.processes ≡ None → answers_so r q k ≡ 0
     below : (q : ℕ) (z : P) (call : OpenCall) → numbered_from_one q r.system.processes ≡ Some z → machine.open_call z ≡ Some call → call.number < numbers.calls z
@@ -108,7 +137,8 @@ module _ {P : Type 0} (machine : Machine Name P) (Is : P → Type 0) (keeps : Ke
   module _ (ports : List ℕ) (r : Run P) (sound : IsSoundWith machine Is ports r.system) (so : AreOnce r) (t : System P) (p : ℕ) (x y : P) (w : Option (CellWant Name)) (at : ℕ) (a : CellAction Name)
       (change : IsChange machine Is keeps ports r.system t p x y w at a) (rises : numbers.calls x ≤ numbers.calls y)
       (opens : (k : ℕ) (m : Cell Name) (call : OpenCall) → a ≡ put (Some k) m → machine.open_call y ≡ Some call → (numbers.calls x ≤ call.number) × (call.number < numbers.calls y))
-      (journal : List Entry) (more : (q k : ℕ) → how_many (answers_call q k) journal ≡ how_many (answers_call q k) r.journal + how_many (is_callmessage_of q k) (ended w)) where
+      (journal : List Entry) (more : (q k : ℕ) → how_many (answers_call q k) journal ≡ how_many (answers_call q k) r.journal + how_many (is_callmessage_of q k) (ended w))
+      (more_heard : (q k : ℕ) → how_many (hears_call q k) journal ≡ how_many (hears_call q k) r.journal + heard_of p a q k) where
     -- the callmessage of a call that was opened
     abbrev Opened : ℕ → ℕ → Type 0
     Opened q k = (p ≡ q) × (machine.open_call x ≡ None) × ((call : OpenCall) × (machine.open_call y ≡ Some call) × (call.number ≡ k) × IsPlaced a)
@@ -160,6 +190,9 @@ module _ {P : Type 0} (machine : Machine Name P) (Is : P → Type 0) (keeps : Ke
           opens-move machine Is keeps ports r.system sound t p x y w at a change q k,
           so.opened q k,
         )
+
+    heard-kept : (q k : ℕ) → how_many (hears_call q k) journal + replies_to t q k ≡ how_many (answers_call q k) journal
+    heard-kept q k = omega (arith, more q k, more_heard q k, change.replies q k, so.heard q k)
 
     -- a callmessage that is ended was there
     ends-there : (q k n : ℕ) → how_many (is_callmessage_of q k) (ended w) ≡ suc n → IsIn (a_callmessage q k) (unfinalised machine r.system)
@@ -252,7 +285,7 @@ module _ {P : Type 0} (machine : Machine Name P) (Is : P → Type 0) (keeps : Ke
         by (inl h) (inr (inr new)) = none-not_some (sym new.at ∙ h.1)
 
     change-once : AreOnce (record { system = t; journal = journal })
-    change-once = record { once = once-kept; opened = opened-kept; fresh = fresh-kept; absent = absent-kept; below = below-kept }
+    change-once = record { once = once-kept; opened = opened-kept; heard = heard-kept; fresh = fresh-kept; absent = absent-kept; below = below-kept }
 
   event-once : (e : Event) (r : Run P) (m : Moved P) → step machine e r.system ≡ Some m → IsSoundFor machine Is r.system → AreOnce r → AreOnce (record { system = m.system; journal = with_entry r.journal e m.done })
   event-once (steps p) r m e sound so =
@@ -260,7 +293,7 @@ module _ {P : Type 0} (machine : Machine Name P) (Is : P → Type 0) (keeps : Ke
       let change = local-change machine Is keeps sound.0 r.system sound.1 p parts.state parts.left.0 parts.is parts.left.1 in
       subst (λ (m : Moved P). AreOnce (record { system = m.system; journal = with_entry r.journal (steps p) m.done })) parts.moved
       (change-once sound.0 r sound.1 so (set_process p parts.left.0 r.system) p parts.state parts.left.0 None 0 (make_port None) change (numbers.local_steps parts.state parts.left.0 parts.left.1)
-      (λ k m call does opened. none-not_some (ap placed_of does)) r.journal (λ q k. omega arith))
+      (λ k m call does opened. none-not_some (ap placed_of does)) r.journal (λ q k. omega arith) (λ q k. omega arith))
     where
       placed_of : CellAction Name → Option ℕ
       placed_of (put k m) = Some 0
@@ -275,7 +308,8 @@ module _ {P : Type 0} (machine : Machine Name P) (Is : P → Type 0) (keeps : Ke
       (change-once sound.0 r sound.1 so parts.makes.0 p parts.state parts.left.0 (Some parts.want.0) (number_of place) a change (numbers.answers parts.state parts.left.0 (number_of place) a parts.left.1)
       (λ k m call does opened. numbers.opens parts.state parts.left.0 (number_of place) k m call (ap (machine.answered parts.state (number_of place)) (sym does) ∙ parts.left.1) opened)
       (r.journal ++ entry_behind r.journal p place (recorded a) ∷ [])
-      (λ q k. omega (arith, one-entry r.journal q k p place a, act-answering p q k parts.want.0 place parts.at.0 a act)))
+      (λ q k. omega (arith, one-entry r.journal q k p place a, act-answering p q k parts.want.0 place parts.at.0 a act))
+      (λ q k. omega (arith, one-heard r.journal q k p place a, act-hearing p q k parts.want.0 place parts.at.0 a act)))
 
   once-along : (events : List Event) (r t : Run P) → run machine events r ≡ Some t → IsSoundFor machine Is r.system → AreOnce r → AreOnce t
   once-along [] r t e sound so = subst AreOnce (some-injective e) so
@@ -288,6 +322,7 @@ module _ {P : Type 0} (machine : Machine Name P) (Is : P → Type 0) (keeps : Ke
   first-once limits argument first is sound = record {
     once = λ q k. no-calls q k;
     opened = λ q k. omega (arith, ap one_if (none-open q k (numbered_from_one q (opening machine limits argument).processes) refl));
+    heard = λ q k. omega (arith, sound.1.calls.answers q k, ap one_if (none-open q k (numbered_from_one q (opening machine limits argument).processes) refl));
     fresh = λ q k z is' le. refl;
     absent = λ q k is'. refl;
     below = λ q z call is' opened. none-not_some (sym (closed-first q z is') ∙ opened);
@@ -318,4 +353,4 @@ module _ {P : Type 0} (machine : Machine Name P) (Is : P → Type 0) (keeps : Ke
   calls-are-answered-once begins limits argument events r texts e q k =
       let sound = opening-is-sound machine Is keeps begins limits argument texts in
       let all = once-along events (start machine limits argument) r e sound (first-once limits argument begins.main.0 begins.main.1 sound) in
-      (omega (arith, all.once q k), λ opened. omega (arith, all.once q k, all.opened q k, ap one_if opened))
+      (omega (arith, all.once q k), λ opened. omega (arith, all.once q k, all.opened q k, ap one_if opened), all.heard q k)

@@ -38,7 +38,7 @@ pub fn runs_are_sound<P, J>()
 
 /// In a sound state a port that is closed was open, and a call that is answered is open and has no answer so far, and behind it one
 /// answer and no callmessage. So along a run no port is closed twice, and no call is answered twice; and one that is open was
-/// answered, or has its callmessage.
+/// answered, or has its callmessage; and each answer was heard once, or waits.
 pub fn actions_are_done_once<P, J>()
     ensures closes { (machine : Machine Name P) → (state : J → P) → KeepsSound machine (IsAmong state) → ClosesOpenPorts machine (IsAmong state) }
     ensures answers { (machine : Machine Name P) → (state : J → P) → KeepsSound machine (IsAmong state) → AnswersOpenCalls machine (IsAmong state) }

@@ -3,7 +3,7 @@ use Rattle.std.specs.Prelude.{◌≡◌, ◌+◌, ◌*◌, ◌≤◌, ◌<◌, �
 use Rattle.herm_model.specs.Lists.{IsIn, any_pass}
 use Rattle.herm_model.specs.Typed.{is_text}
 use Rattle.herm_model.specs.Values.{Name, Cell}
-use Rattle.herm_journal.specs.Actions.{Action, to_take, to_hear, close, answer}
+use Rattle.herm_journal.specs.Actions.{Action, to_take, to_hear, close, answer, hear}
 use Rattle.herm_journal.specs.PlaceStates.{Limits}
 use Rattle.herm_journal.specs.Entries.{Text, Place, port, reply_cell, same_place, Entry}
 use Rattle.herm_journal.specs.Stamps.{IsStamped}
@@ -36,6 +36,14 @@ is_answer_to k a = false
 
 abbrev pub answers_call : (caller call : ℕ) → Entry → Bool
 answers_call q k e = same_place e.place (reply_cell q) && is_answer_to k e.action
+
+-- the entry is of hearing the reply to this call of this process
+abbrev pub is_hear_of : {M R : Type 0} → ℕ → Action M R → Bool
+is_hear_of k (hear call r) = nat_eq call k
+is_hear_of k a = false
+
+abbrev pub hears_call : (caller call : ℕ) → Entry → Bool
+hears_call q k e = same_place e.place (reply_cell q) && is_hear_of k e.action
 
 -- no more events than this can be: processes, at least one, and of each its steps and its actions
 abbrev pub most_events : Limits → ℕ
@@ -83,12 +91,13 @@ module _ {P : Type 0} (machine : Machine Name P) where
   PortsCloseOnce = (limits : Limits) (argument : Text) (events : List Event) (r : Run P) → IsTrue (is_text argument) → run machine events (start machine limits argument) ≡ Some r → (n : ℕ)
       → (n < length r.system.ports → how_many (closes n) r.journal + one_if (is_open_port r.system n) ≡ 1) × (how_many (closes n) r.journal ≤ 1)
 
-  -- Along a run no call is answered twice; and each that is open was answered once, or has its callmessage and was not.
-  -- Language reference, "Calls".
+  -- Along a run no call is answered twice; each that is open was answered once, or has its callmessage and was not; and each answer was heard
+  -- once, or is the one reply that waits. Language reference, "Calls".
   abbrev pub CallsAreAnsweredOnce : Type 0
   CallsAreAnsweredOnce = (limits : Limits) (argument : Text) (events : List Event) (r : Run P) → IsTrue (is_text argument) → run machine events (start machine limits argument) ≡ Some r
       → (caller call : ℕ) → (how_many (answers_call caller call) r.journal ≤ 1)
       × (has_open machine r.system caller call ≡ true → how_many (answers_call caller call) r.journal + how_many (is_callmessage_of caller call) (unfinalised machine r.system) ≡ 1)
+      × (how_many (hears_call caller call) r.journal + replies_to r.system caller call ≡ how_many (answers_call caller call) r.journal)
 
   -- A run has at most so many events as its limits say. Language reference, "Limits of a run".
   abbrev pub EventsAreBounded : Type 0
