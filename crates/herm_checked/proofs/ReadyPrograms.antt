@@ -1,7 +1,9 @@
 -- Programs that are made ready by rounds of labels are checked, and their runs are through sound states.
-use Rattle.std.proofs.Common.{◌≡◌, ℕ, zero, suc, List, [], ◌∷◌, ◌++◌, map, length, Bool, true, false, Some, None, is_some, option_map, Option, inl, inr, refl, sym, ap, ◌∙◌, arith, true≢false}
-use Rattle.std.specs.Prelude.{IsTrue, ⊤, ◌||◌}
-use Rattle.herm_model.specs.Lists.{IsIn, any_pass, list_of}
+use Rattle.std.proofs.Common.{◌≡◌, ◌⊎◌, ◌≤◌, ℕ, zero, suc, List, [], ◌∷◌, ◌++◌, map, length, Bool, true, false, Some, is_some, option_map, Option, inl, inr, refl, sym, ap, ◌∙◌, true≢false}
+use Rattle.std.proofs.lemmas.Bool.{eqb-true, ltb-true}
+use Rattle.std.specs.Prelude.{IsTrue, ⊤, ◌&&◌, nat_eq, nat_lt}
+use Rattle.herm_model.proofs.Lists.{or-either, and-both}
+use Rattle.herm_model.specs.Lists.{IsIn}
 use Rattle.herm_model.specs.ControlPaths.{flow_of}
 use Rattle.herm_model.specs.Statements.{Process, IsWellFormedBlock}
 use Rattle.herm_model.specs.Types.{TypeTable, predefined}
@@ -13,14 +15,15 @@ use Rattle.herm_model.proofs.ExampleRefusals.{computed}
 use Rattle.herm_model.proofs.Labels.{confirms, labels_found}
 use Rattle.herm_model.proofs.Options.{map-some}
 use Rattle.herm_journal.specs.PlaceStates.{Limits}
-use Rattle.herm_system.specs.Machines.{Machine, is_local, is_acting}
+use Rattle.herm_system.specs.Machines.{Machine, is_local}
 use Rattle.herm_system.specs.Rounds.{one_round}
-use Rattle.herm_system.specs.Systems.{System, Run, start, step, steps, can, can_step, standing, stands, numbered_from_one, IsFinal}
+use Rattle.herm_system.specs.Rounds as Rounds
+use Rattle.herm_system.specs.Systems.{Run, start, step, steps, can_step, stands}
 use Rattle.herm_system.specs.Statuses.{status_of}
 use Rattle.herm_journal.specs.Entries.{Entry}
-use Rattle.herm_journal.specs.Journals.{IsRising}
-use Rattle.herm_runs.proofs.Events.{IsRunBetween, both-runs, turns-run}
-use Rattle.herm_runs.proofs.RoundsEnd.{elim-some}
+use Rattle.herm_journal.specs.Journals.{IsBefore, IsRisingFrom, IsRising, is_before}
+use Rattle.herm_runs.proofs.Events.{IsRunBetween, both-runs, turns-run, rounds-run}
+use Rattle.herm_runs.proofs.RoundsEnd.{elim-some, rounds-final}
 use Rattle.herm_source.specs.AcceptedRuns.{AreCodesOf}
 use Rattle.herm_source.specs.Checked.{IsChecked}
 use Rattle.herm_source.specs.Instance.{source}
@@ -29,7 +32,9 @@ use Rattle.herm_source.specs.Modules.{Program}
 use Rattle.herm_source.specs.States.{State}
 use Rattle.herm_source.specs.examples.CountExamples.{behind_rounds}
 use Rattle.herm_source.specs.examples.RunExamples.{ready_program}
-use Rattle.herm_checked.specs.examples.RunningPrograms.{IsSoundBehind, IsDescribedBehind, IsStuckBehind}
+use Rattle.herm_checked.specs.examples.RunningPrograms.{IsSoundBehind, IsDescribedWithin, IsStuckBehind}
+use Rattle.herm_source.proofs.instance.SourceLaws.{source-keeps-numbers}
+use Rattle.herm_checked.proofs.SourceBegins.{source-begins-sound}
 use Rattle.herm_checked.proofs.CheckedRuns.{checked-runs, checked-described}
 use Rattle.herm_checked.proofs.ReadyLabels.{settled, rounds-exact}
 
@@ -77,39 +82,50 @@ sound-behind exceptions program checked limits n entries p e =
     let events = behind-run (source (ready_program program)) n (start (source (ready_program program)) limits []) r.0 r.1 in
     (r.0, r.1, ap (λ x. x.0) r.2, checked-runs exceptions program (ready_program program) checked limits [] events.0 r.0 refl events.1, (p, ap (λ x. x.1) r.2))
 
--- where one process is there and can't step, none can
-one-final : {P : Type 0} (machine : Machine Name P) (s : System P) → length s.processes ≡ 1 → can_step machine s 1 ≡ false → IsFinal machine s
-one-final machine s one cannot zero = refl
-one-final machine s one cannot (suc zero) = cannot
-one-final {P} machine s one cannot (suc (suc p)) =
-    ap (λ o. any_pass is_local (list_of (λ x. x ∷ []) (option_map (standing machine s.book.limits.steps (can s (suc (suc p)))) o)) || any_pass is_acting (list_of (λ x. x ∷ []) (option_map (standing machine s.book.limits.steps (can s (suc (suc p)))) o)))
-    (past s.processes one)
+before-is : (e f : Entry) → is_before e f ≡ true → IsBefore e f
+before-is e f is = by (or-either (nat_lt e.stamp f.stamp) (nat_eq e.stamp f.stamp && nat_lt e.process f.process) is)
   where
-    past : (xs : List P) → length xs ≡ 1 → numbered_from_one (suc (suc p)) xs ≡ None
-    past [] e = refl
-    past (x ∷ []) e = refl
-    past (x ∷ y ∷ xs) e = let no_more : ⊥ = omega (arith, e) in absurd no_more
+    by : (nat_lt e.stamp f.stamp ≡ true) ⊎ ((nat_eq e.stamp f.stamp && nat_lt e.process f.process) ≡ true) → IsBefore e f
+    by (inl h) = inl (ltb-true e.stamp f.stamp h)
+    by (inr h) = let both = and-both (nat_eq e.stamp f.stamp) (nat_lt e.process f.process) h in inr (eqb-true e.stamp f.stamp both.0, ltb-true e.process f.process both.1)
 
--- a journal of one entry is in order
-one-rising : (journal : List Entry) → length journal ≡ 1 → IsRising journal
-one-rising [] e = tt
-one-rising (x ∷ []) e = tt
-one-rising (x ∷ y ∷ xs) e = let no_more : ⊥ = omega (arith, e) in absurd no_more
+-- whether each entry comes before the next one
+abbrev rises_from : Entry → List Entry → Bool
+rises_from e [] = true
+rises_from e (f ∷ fs) = is_before e f && rises_from f fs
 
--- how many processes and entries a run has, its status, and whether process 1 can step
-abbrev pub end_of : Program → Run (State Name) → (ℕ × ℕ) × (ℕ × Bool)
-end_of program r = ((length r.system.processes, length r.journal), (status_of (source (ready_program program)) r.system, can_step (source (ready_program program)) r.system 1))
+abbrev pub rises : List Entry → Bool
+rises [] = true
+rises (e ∷ es) = rises_from e es
 
-pub described-behind : (exceptions : ℕ) (program : Program) → IsChecked exceptions program (ready_program program) → (limits : Limits) (n status : ℕ)
-    → option_map (end_of program) (rounds_of program limits n) ≡ Some ((1, 1), (status, false)) → IsDescribedBehind program limits n status
-described-behind exceptions program checked limits n status e =
-    let r = map-some (end_of program) (rounds_of program limits n) ((1, 1), (status, false)) e in
-    let events = behind-run (source (ready_program program)) n (start (source (ready_program program)) limits []) r.0 r.1 in (
+rises-from : (e : Entry) (es : List Entry) → rises_from e es ≡ true → IsRisingFrom e es
+rises-from e [] h = tt
+rises-from e (f ∷ fs) h = let both = and-both (is_before e f) (rises_from f fs) h in (before-is e f both.0, rises-from f fs both.1)
+
+rising : (es : List Entry) → rises es ≡ true → IsRising es
+rising [] h = tt
+rising (e ∷ es) h = rises-from e es h
+
+abbrev pub run_within : Program → Limits → (most : ℕ) → Option (Run (State Name))
+run_within program limits most = Rounds.rounds most (source (ready_program program)) (start (source (ready_program program)) limits [])
+
+-- whether a run's journal rises, how many entries it has, and its status
+abbrev pub end_of : Program → Run (State Name) → Bool × ℕ × ℕ
+end_of program r = (rises r.journal, length r.journal, status_of (source (ready_program program)) r.system)
+
+pub described-within : (exceptions : ℕ) (program : Program) → IsChecked exceptions program (ready_program program) → (limits : Limits) (most entries status : ℕ) → 1 ≤ limits.processes
+    → option_map (end_of program) (run_within program limits most) ≡ Some (true, entries, status) → IsDescribedWithin program limits most entries status
+described-within exceptions program checked limits most entries status some e =
+    let machine = source (ready_program program) in
+    let r = map-some (end_of program) (run_within program limits most) (true, entries, status) e in
+    let events = rounds-run most machine (start machine limits []) r.0 r.1 in
+    let begins = source-begins-sound exceptions program (ready_program program) checked in (
       r.0,
       r.1,
-      ap (λ x. x.1.0) r.2,
-      λ names asked. checked-described exceptions program (ready_program program) checked limits [] names asked events.0 r.0 refl events.1 (one-rising r.0.journal (ap (λ x. x.0.1) r.2))
-          (one-final (source (ready_program program)) r.0.system (ap (λ x. x.0.0) r.2) (ap (λ x. x.1.1) r.2)),
+      ap (λ x. x.1) r.2,
+      ap (λ x. x.2) r.2,
+      λ names asked. checked-described exceptions program (ready_program program) checked limits [] names asked events.0 r.0 refl events.1 (rising r.0.journal (ap (λ x. x.0) r.2))
+          (rounds-final machine (source-keeps-numbers (ready_program program)) most limits [] begins.main.0 r.0 begins.main.1 some r.1),
     )
 
 -- whether process 1 is to make a local step, and whether there is one

@@ -1,5 +1,5 @@
 -- The four programs are ready, and labels past a raise are free.
-use Rattle.std.proofs.Common.{◌≡◌, ◌⊎◌, inl, inr, ℕ, zero, suc, [], ◌∷◌, Bool, true, false, Option, Some, None, slice_get, refl, sym, ap, subst, ◌∙◌, true≢false}
+use Rattle.std.proofs.Common.{◌≡◌, ◌⊎◌, inl, inr, ℕ, zero, suc, [], ◌∷◌, Bool, true, false, Option, Some, None, slice_get, refl, sym, ap, subst, ◌∙◌, arith, true≢false}
 use Rattle.herm_model.specs.ControlPaths.{Edge, Point, IsReached}
 use Rattle.herm_model.specs.Labels.{Labels, AreExact}
 use Rattle.herm_model.specs.Lists.{IsIn, list_of}
@@ -15,8 +15,8 @@ use Rattle.herm_model.proofs.Options.{some-injective, none-not_some}
 use Rattle.herm_model.proofs.Reached.{reached-IsLedTo}
 use Rattle.herm_source.specs.examples.CallPrograms.{busy, ask_types, kept_parameter, calls_both_ways}
 use Rattle.herm_source.specs.examples.Programs.{two_senders}
-use Rattle.herm_checked.specs.examples.RunningPrograms.{IsDescribedBehind, IsStuckBehind, choosing_program, raises_alone, IsReady, ring_types, ring_of_three, past_a_raise, IsFreeAt}
-use Rattle.herm_checked.proofs.ReadyPrograms.{ready-checked, described-behind, stuck-behind}
+use Rattle.herm_checked.specs.examples.RunningPrograms.{IsDescribedWithin, IsStuckBehind, choosing_program, raises_alone, IsReady, ring_types, ring_of_three, past_a_raise, IsFreeAt}
+use Rattle.herm_checked.proofs.ReadyPrograms.{ready-checked, described-within, stuck-behind}
 
 pub ring-ready : IsReady 7 ring_of_three
 ring-ready = ready-checked 7 ring_types ring_of_three.processes 1 refl (refl, refl, (refl, refl, tt))
@@ -34,9 +34,11 @@ kept-ready = ready-checked 8 (ask_types (record { exception = busy; kept = 1 ∷
 pub raises-ready : IsReady 7 raises_alone
 raises-ready = ready-checked 7 [] raises_alone.processes 0 refl (refl, refl, tt)
 
--- its run has one entry, and process 1, which is the only one, has ended
-pub raises-described : IsDescribedBehind raises_alone (limited 1000 4 4) 2 6
-raises-described = described-behind 7 raises_alone raises-ready (limited 1000 4 4) 2 6 refl
+pub raises-described : IsDescribedWithin raises_alone (limited 1000 4 4) 4 1 6
+raises-described = described-within 7 raises_alone raises-ready (limited 1000 4 4) 4 1 6 (omega arith) refl
+
+pub kept-described : IsDescribedWithin kept_parameter (limited 1000 4 4) 40 9 0
+kept-described = described-within 8 kept_parameter kept-ready (limited 1000 4 4) 40 9 0 (omega arith) refl
 
 -- the modules of a program with a missing arm are accepted, and its run is stuck
 pub missing-stuck : IsStuckBehind (choosing_program (1 ∷ []) (block no_statements no_blocks)) (limited 1000 4 4) 2

@@ -2,7 +2,7 @@
 
 ghost use Rattle.std.specs.Prelude.{◌≡◌, [], ◌∷◌, true, false};
 ghost use Rattle.herm_model.specs.Statements.{block, no_blocks, no_statements};
-ghost use Rattle.herm_checked.specs.examples.RunningPrograms.{choosing_program, IsDescribedBehind, IsFreeAt, IsReady, IsSoundBehind, IsStuckBehind, makes_rounds, past_a_raise, raises_alone, ring_of_three};
+ghost use Rattle.herm_checked.specs.examples.RunningPrograms.{choosing_program, IsDescribedWithin, IsFreeAt, IsReady, IsSoundBehind, IsStuckBehind, makes_rounds, past_a_raise, raises_alone, ring_of_three};
 ghost use Rattle.herm_source.specs.examples.CallPrograms.{calls_both_ways, kept_parameter};
 ghost use Rattle.herm_source.specs.examples.Programs.{two_senders};
 ghost use Rattle.herm_source.specs.examples.RunExamples.{limited};
@@ -17,10 +17,11 @@ pub fn programs_are_ready()
     ensures raises { IsReady 7 raises_alone }
 {}
 
-/// A run whose process 1 ends by an exception has status 6, and is described by its report, for any names of exceptions and whatever is
-/// asked for.
+/// A run by rounds whose process 1 ends by an exception has status 6, and is described by its report, for any names of exceptions and whatever
+/// is asked for; so is the run of two processes in which an exception is answered.
 pub fn runs_by_exception_are_described()
-    ensures raises { IsDescribedBehind raises_alone (limited 1000 4 4) 2 6 }
+    ensures raises { IsDescribedWithin raises_alone (limited 1000 4 4) 4 1 6 }
+    ensures kept { IsDescribedWithin kept_parameter (limited 1000 4 4) 40 9 0 }
 {}
 
 /// In the middle of the run of each, where some process can step, the state is sound.

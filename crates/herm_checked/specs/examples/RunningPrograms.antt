@@ -10,6 +10,7 @@ use Rattle.herm_model.specs.ControlPaths.{Flow, flow_of}
 use Rattle.herm_model.specs.Values.{Name}
 use Rattle.herm_journal.specs.PlaceStates.{Limits}
 use Rattle.herm_journal.specs.Entries.{Text}
+use Rattle.herm_system.specs.Rounds.{rounds}
 use Rattle.herm_system.specs.RunTexts.{Asked}
 use Rattle.herm_system.specs.Statuses.{status_of}
 use Rattle.herm_system.specs.Systems.{Run, start, can_step}
@@ -35,10 +36,11 @@ IsSoundBehind program limits n entries =
     (r : Run (State Name)) × (behind_rounds n (source (ready_program program)) (start (source (ready_program program)) limits []) ≡ Some r) × (length r.journal ≡ entries)
     × IsSoundAndReached program (ready_program program) r.system × ((p : ℕ) × (can_step (source (ready_program program)) r.system p ≡ true))
 
--- The run, with an empty argument, is at its end behind so many rounds, with this status, and its report describes it.
-abbrev pub IsDescribedBehind : Program → Limits → (rounds status : ℕ) → Type 0
-IsDescribedBehind program limits n status =
-    (r : Run (State Name)) × (behind_rounds n (source (ready_program program)) (start (source (ready_program program)) limits []) ≡ Some r) × (status_of (source (ready_program program)) r.system ≡ status)
+-- The run by rounds, with an empty argument, ends within so many, with this status and so many entries, and its report describes it.
+abbrev pub IsDescribedWithin : Program → Limits → (most entries status : ℕ) → Type 0
+IsDescribedWithin program limits most entries status =
+    (r : Run (State Name)) × (rounds most (source (ready_program program)) (start (source (ready_program program)) limits []) ≡ Some r) × (length r.journal ≡ entries)
+    × (status_of (source (ready_program program)) r.system ≡ status)
     × ((names : List Text) (asked : Asked) → Describes (ready_program program) limits [] names asked (report_of (source (ready_program program)) names asked r))
 
 -- process main(start: main_start) { raise Overflow; }
