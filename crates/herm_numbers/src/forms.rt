@@ -1,4 +1,5 @@
-//! Statements without blocks, by number.
+//! Statements without blocks, by number. Each form is a function that is not inlined: what chooses among them would else set up the
+//! variables of all of them at each statement.
 ghost use Rattle.std.specs.Prelude.{◌≡◌, [], map, IfOk};
 ghost use Rattle.herm_syntax.specs.View.{name_view, path_form_view, atom_view, expr_view};
 ghost use Rattle.herm_syntax.specs.Trees as trees;
@@ -85,6 +86,7 @@ fn process_number(scope: &Scope, name: &Name) -> u32
     scope.processes.number(name.text.bytes())
 }
 
+#[inline(never)]
 pub fn assign(alloc: Global, scope: &Scope, x: &PathForm, e: &Expr) -> Result<TypedForm, AllocError>
     requires known { IsKnown scope.now }
     ensures meaning { IfOk result (λ f. typed_form_view f ≡ statement_number (scope_view scope.now) (trees.Assign (path_form_view x.now) (expr_view e.now))) }
@@ -96,6 +98,7 @@ pub fn assign(alloc: Global, scope: &Scope, x: &PathForm, e: &Expr) -> Result<Ty
     Ok(TypedForm::Assign(x, e))
 }
 
+#[inline(never)]
 pub fn unwrap(
     alloc: Global,
     scope: &Scope,
@@ -114,6 +117,7 @@ pub fn unwrap(
 }
 
 #[tactic(auto, using(crate::proofs::Beside::atoms_beside))]
+#[inline(never)]
 pub fn call(
     alloc: Global,
     scope: &Scope,
@@ -130,6 +134,7 @@ pub fn call(
     Ok(TypedForm::Call(o, arguments))
 }
 
+#[inline(never)]
 pub fn return_by(
     alloc: Global,
     scope: &Scope,
@@ -145,6 +150,7 @@ pub fn return_by(
     Ok(TypedForm::ReturnBy(m, exception_number(scope, name)))
 }
 
+#[inline(never)]
 pub fn create(
     alloc: Global,
     scope: &Scope,
@@ -160,6 +166,7 @@ pub fn create(
     Ok(TypedForm::Create(o, process_number(scope, name)))
 }
 
+#[inline(never)]
 pub fn raise(scope: &Scope, name: &Name) -> TypedForm
     requires known { IsKnown scope.now }
     ensures meaning { typed_form_view result ≡ statement_number (scope_view scope.now) (trees.Raise (name_view name.now)) }
@@ -169,6 +176,7 @@ pub fn raise(scope: &Scope, name: &Name) -> TypedForm
     TypedForm::Raise(exception_number(scope, name))
 }
 
+#[inline(never)]
 pub fn unite(
     alloc: Global,
     scope: &Scope,
@@ -185,6 +193,7 @@ pub fn unite(
     Ok(TypedForm::Unite(v, number, y))
 }
 
+#[inline(never)]
 pub fn dissolve(
     alloc: Global,
     scope: &Scope,
@@ -201,6 +210,7 @@ pub fn dissolve(
     Ok(TypedForm::Dissolve(v, number, y))
 }
 
+#[inline(never)]
 pub fn reveal(alloc: Global, scope: &Scope, c: &PathForm) -> Result<TypedForm, AllocError>
     requires known { IsKnown scope.now }
     ensures meaning { IfOk result (λ f. typed_form_view f ≡ statement_number (scope_view scope.now) (trees.Reveal (path_form_view c.now))) }
@@ -211,6 +221,7 @@ pub fn reveal(alloc: Global, scope: &Scope, c: &PathForm) -> Result<TypedForm, A
     Ok(TypedForm::Reveal(v, number))
 }
 
+#[inline(never)]
 pub fn move_to(
     alloc: Global,
     scope: &Scope,
@@ -226,6 +237,7 @@ pub fn move_to(
     Ok(TypedForm::Move(p, q))
 }
 
+#[inline(never)]
 pub fn wrap(
     alloc: Global,
     scope: &Scope,
@@ -241,6 +253,7 @@ pub fn wrap(
     Ok(TypedForm::Wrap(p, q))
 }
 
+#[inline(never)]
 pub fn insert(
     alloc: Global,
     scope: &Scope,
@@ -256,6 +269,7 @@ pub fn insert(
     Ok(TypedForm::Insert(p, q))
 }
 
+#[inline(never)]
 pub fn connect(
     alloc: Global,
     scope: &Scope,
@@ -271,6 +285,7 @@ pub fn connect(
     Ok(TypedForm::Connect(p, q))
 }
 
+#[inline(never)]
 pub fn send(
     alloc: Global,
     scope: &Scope,
@@ -286,6 +301,7 @@ pub fn send(
     Ok(TypedForm::Send(p, q))
 }
 
+#[inline(never)]
 pub fn receive(
     alloc: Global,
     scope: &Scope,
@@ -301,6 +317,7 @@ pub fn receive(
     Ok(TypedForm::Receive(p, q))
 }
 
+#[inline(never)]
 pub fn make(alloc: Global, scope: &Scope, p: &PathForm) -> Result<TypedForm, AllocError>
     requires known { IsKnown scope.now }
     ensures meaning { IfOk result (λ f. typed_form_view f ≡ statement_number (scope_view scope.now) (trees.New (path_form_view p.now))) }
@@ -311,6 +328,7 @@ pub fn make(alloc: Global, scope: &Scope, p: &PathForm) -> Result<TypedForm, All
     Ok(TypedForm::New(p))
 }
 
+#[inline(never)]
 pub fn discard(alloc: Global, scope: &Scope, p: &PathForm) -> Result<TypedForm, AllocError>
     requires known { IsKnown scope.now }
     ensures meaning { IfOk result (λ f. typed_form_view f ≡ statement_number (scope_view scope.now) (trees.Discard (path_form_view p.now))) }
@@ -321,6 +339,7 @@ pub fn discard(alloc: Global, scope: &Scope, p: &PathForm) -> Result<TypedForm, 
     Ok(TypedForm::Discard(p))
 }
 
+#[inline(never)]
 pub fn give_back(alloc: Global, scope: &Scope, p: &PathForm) -> Result<TypedForm, AllocError>
     requires known { IsKnown scope.now }
     ensures meaning { IfOk result (λ f. typed_form_view f ≡ statement_number (scope_view scope.now) (trees.Return (path_form_view p.now))) }
@@ -332,6 +351,7 @@ pub fn give_back(alloc: Global, scope: &Scope, p: &PathForm) -> Result<TypedForm
 }
 
 #[tactic(auto, using(crate::proofs::Beside::atoms_beside))]
+#[inline(never)]
 pub fn remove(
     alloc: Global,
     scope: &Scope,
@@ -350,6 +370,7 @@ pub fn remove(
 }
 
 #[tactic(auto, using(crate::proofs::Beside::atoms_beside))]
+#[inline(never)]
 pub fn get(
     alloc: Global,
     scope: &Scope,

@@ -132,6 +132,7 @@ fn otherwise(
 }
 
 #[cycle(statements)]
+#[inline(never)]
 fn case_form(
     alloc: Global,
     scope: &Scope,
@@ -154,6 +155,7 @@ fn case_form(
 
 #[cycle(statements)]
 #[tactic(auto, using(herm_numbers::proofs::Beside::select_beside))]
+#[inline(never)]
 fn select_form(
     alloc: Global,
     scope: &Scope,
@@ -173,6 +175,7 @@ fn select_form(
 }
 
 #[cycle(statements)]
+#[inline(never)]
 fn for_form(
     alloc: Global,
     scope: &Scope,
@@ -195,6 +198,7 @@ fn for_form(
 }
 
 #[cycle(statements)]
+#[inline(never)]
 fn while_form(
     alloc: Global,
     scope: &Scope,
@@ -216,6 +220,7 @@ fn while_form(
 
 #[cycle(statements)]
 #[tactic(auto, using(crate::proofs::Sizes::two_sizes))]
+#[inline(never)]
 fn if_form(
     alloc: Global,
     scope: &Scope,
@@ -240,6 +245,7 @@ fn if_form(
 
 #[cycle(statements)]
 #[tactic(auto, using(crate::proofs::Sizes::try_sizes))]
+#[inline(never)]
 fn try_form(
     alloc: Global,
     scope: &Scope,
