@@ -1,0 +1,13 @@
+pub mod Joined
+pub mod Paths
+pub mod Leaving
+pub mod Counts
+pub mod Carried
+pub mod Beginning
+pub mod Starting
+pub mod Exact
+pub mod Reported
+pub mod Places
+pub mod Begun
+pub mod Searched
+pub mod Following

@@ -1,0 +1,44 @@
+-- A point that begins to be left.
+use Rattle.std.proofs.Common.{◌≡◌, ◌≢◌, ◌⊎◌, inl, inr, ℕ, ◌<◌, List, [], length, Bool, false, Some, slice_get, slice_set, sym, ◌∙◌, ap, subst, length-set}
+use Rattle.herm_model.specs.Lists.{map_or}
+use Rattle.herm_model.specs.Paths.{Fact}
+use Rattle.herm_model.specs.Targets.{Target}
+use Rattle.herm_model.specs.ControlPaths.{Flow, held_after_edge, held_at_start}
+use Rattle.herm_typestate.specs.Facts.{has_fact}
+use Rattle.herm_check.specs.declared.label.Label.{Label}
+use Rattle.herm_check.specs.Labelled.{is_reached, holds_at, Goes, AreLabels, IsLeft}
+use Rattle.herm_check.proofs.Joined.{same_or_not, set-here, set-elsewhere}
+
+module _ (flow : Flow) (ls : List Label) (i : ℕ) (l new : Label) (old : slice_get ls i ≡ Some l) (within : i < length ls) (reached : new.reached ≡ l.reached) (facts : (f : Fact) → has_fact new.state f ≡ has_fact l.state f) where
+  same-reached : (j : ℕ) → is_reached (slice_set ls i new) j ≡ is_reached ls j
+  same-reached j = by (same_or_not i j)
+    where
+      by : (i ≡ j) ⊎ (i ≢ j) → is_reached (slice_set ls i new) j ≡ is_reached ls j
+      by (inl e) = subst (λ k. is_reached (slice_set ls i new) k ≡ is_reached ls k) e (ap (map_or false (λ k. k.reached)) (set-here ls i new within) ∙ (reached ∙ sym (ap (map_or false (λ k. k.reached)) old)))
+      by (inr d) = ap (map_or false (λ k. k.reached)) (set-elsewhere ls i j new d)
+
+  same-holds : (j : ℕ) (f : Fact) → holds_at (slice_set ls i new) j f ≡ holds_at ls j f
+  same-holds j f = by (same_or_not i j)
+    where
+      by : (i ≡ j) ⊎ (i ≢ j) → holds_at (slice_set ls i new) j f ≡ holds_at ls j f
+      by (inl e) = subst (λ k. holds_at (slice_set ls i new) k f ≡ holds_at ls k f) e (ap (map_or false (λ k. has_fact k.state f)) (set-here ls i new within) ∙ (facts f ∙ sym (ap (map_or false (λ k. has_fact k.state f)) old)))
+      by (inr d) = ap (map_or false (λ k. has_fact k.state f)) (set-elsewhere ls i j new d)
+
+  same-goes : (x : Target) (test : Fact → Bool) → Goes ls x test → Goes (slice_set ls i new) x test
+  same-goes x test g j to inside = let both = g j to (subst (λ n. j < n) (length-set ls i new) inside) in (same-reached j ∙ both.0, λ f h. both.1 f (sym (same-holds j f) ∙ h))
+
+  pub starts : (before : Fact → Bool) → ((f : Fact) → before f ≡ has_fact l.state f) → AreLabels flow ls → IsLeft flow i before [] (slice_set ls i new)
+  starts before is h = record {
+    are_true = record {
+      many = length-set ls i new ∙ h.are_true.many;
+      reached = λ j k. h.are_true.reached j (sym (same-reached j) ∙ k);
+      lacking = λ j f k m. h.are_true.lacking j f (sym (same-reached j) ∙ k) (sym (same-holds j f) ∙ m);
+      known = λ j f k. h.are_true.known j f (sym (same-holds j f) ∙ k);
+      begins = same-goes flow.entry held_at_start h.are_true.begins;
+    };
+    settled = λ j d p at k n e m to there inside.
+        let both = same-goes e.target (λ f. held_after_edge e f (holds_at ls j f)) (h.settled j p at (sym (same-reached j) ∙ k) (sym (ap (map_or false (λ k. k.pending)) (set-elsewhere ls i j new d)) ∙ n) e m) to there inside in
+        (both.0, λ f g. ap (held_after_edge e f) (same-holds j f) ∙ both.1 f g);
+    same = λ n f. ap (map_or false (λ k. has_fact k.state f)) (set-here ls i new within) ∙ (facts f ∙ sym (is f));
+    carried = λ e m. absurd m;
+  }

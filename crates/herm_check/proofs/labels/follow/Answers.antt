@@ -1,0 +1,31 @@
+use Rattle.std.proofs.Common.{◌≡◌, ◌<◌, ℕ, length, ap, subst, refl}
+use Rattle.std.proofs.lemmas.Option.{slice_get_read}
+use Rattle.herm_model.specs.Targets.{Target, node, end, end_by}
+use Rattle.herm_model.specs.laws.FlowLaws.{IsThere}
+use Rattle.herm_check.specs.View.{target_view}
+use Rattle.herm_check.specs.Followed.{ends, joins}
+use Rattle.herm_check.proofs.labels.follow.Goals as goal
+
+end-no_node : (t : Target) (k : ℕ) → t ≡ end → t ≡ node k → ⊥
+end-no_node t k e f = cc
+
+end_by-no_node : (t : Target) (x k : ℕ) → t ≡ end_by x → t ≡ node k → ⊥
+end_by-no_node t x k e f = cc
+
+pub returns-in_ok-after-in-Point : goal.returns-in_ok-after-in-Point
+returns-in_ok-after-in-Point c =
+    let within : c.in-Point.t < length c.args.labels.now.items = subst (λ x. IsThere (length c.args.labels.now.items) (target_view x)) c.in-Point.is c.requires in
+    joins c.args.labels.now.items c.in-Point.t c.index_mut-label.result.now c.join.new.label _ (ap target_view c.in-Point.is) (λ f. c.in_ok-after-in-Point.ensures f) (record {
+      old = slice_get_read c.args.labels.now.items (length c.args.labels.now.items) c.in-Point.t c.index_mut-label.result.now refl within c.index_mut-label.ensures.value;
+      within = within;
+      reached = c.join.ensures.reached;
+      facts = λ f. c.join.ensures.facts f;
+      still = c.join.ensures.still;
+      less = λ all. c.join.ensures.less all;
+    })
+
+pub returns-in-End : goal.returns-in-End
+returns-in-End c = ends c.args.labels.now.items (λ k e. end-no_node _ k (ap target_view c.in-End.is) e)
+
+pub returns-in-EndBy : goal.returns-in-EndBy
+returns-in-EndBy c = ends c.args.labels.now.items (λ k e. end_by-no_node _ _ k (ap target_view c.in-EndBy.is) e)

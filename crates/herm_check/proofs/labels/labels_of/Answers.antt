@@ -1,0 +1,25 @@
+use Rattle.std.proofs.Common.{◌≡◌, ◌↔◌, ℕ, zero, suc, ◌<◌, List, [], ◌∷◌, length, map, true, false, slice_get, refl, sym, ◌∙◌, ap, subst}
+use Rattle.herm_model.specs.Lists.{map_or}
+use Rattle.herm_model.specs.Paths.{Fact}
+use Rattle.herm_model.specs.ControlPaths.{Holds}
+use Rattle.herm_model.proofs.Lists.{length-map}
+use Rattle.herm_typestate.specs.Facts.{has_fact}
+use Rattle.herm_check.specs.declared.label.Label.{Label}
+use Rattle.herm_check.specs.View.{flow_view, point_view}
+use Rattle.herm_check.specs.Labelled.{holds_at}
+use Rattle.herm_check.proofs.Exact.{exactly, first-there}
+use Rattle.herm_check.proofs.labels.labels_of.Goals as goal
+
+-- the facts of the labels' states are those of the labels
+seen : (ls : List Label) (i : ℕ) (f : Fact) → map_or false (λ s. has_fact s f) (slice_get (map (λ (l : Label). l.state) ls) i) ≡ holds_at ls i f
+seen [] i f = refl
+seen (l ∷ ls) zero f = refl
+seen (l ∷ ls) (suc i) f = seen ls i f
+
+pub returns-clause-exact : goal.returns-clause-exact
+returns-clause-exact c i f r =
+    let points = c.args.flow.now.points.items in
+    let ls = c.in_ok-settled.settled.items in
+    let same = ap (λ states. map_or false (λ s. has_fact s f) (slice_get states i)) c.in_ok-at.ensures ∙ seen ls i f in
+    subst (λ b. (b ≡ true) ↔ Holds (flow_view c.args.flow.now) f i) (sym same)
+    (exactly (flow_view c.args.flow.now) ls c.in_ok-settled.ensures c.requires.there (λ j e. subst (λ n. j < n) (sym (length-map point_view points)) (first-there (length points) j e)) i f r)

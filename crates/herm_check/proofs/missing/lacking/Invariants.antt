@@ -1,0 +1,10 @@
+use Rattle.std.proofs.Common.{map, flat_map, take}
+use Rattle.herm_model.specs.Lists.{numbered}
+use Rattle.herm_model.specs.Refusals.{demands_at}
+use Rattle.herm_check.specs.View.{point_view, flow_view}
+use Rattle.herm_check.specs.Shortest.{AreReported}
+use Rattle.herm_check.specs.Missing.{refusal_view}
+use Rattle.herm_check.proofs.missing.lacking.Given as goal
+
+abbrev pub invariant-loop-i : goal.invariant-loop-i
+invariant-loop-i l = AreReported (flow_view l.flow) (flat_map demands_at (numbered 0 (map point_view (take l.i l.flow.points.items)))) (map refusal_view l.out.items)

@@ -1,0 +1,8 @@
+use Rattle.std.proofs.Common.{map, take}
+use Rattle.herm_types.specs.View.{fact_view}
+use Rattle.herm_check.specs.View.{edge_view, flow_view}
+use Rattle.herm_check.proofs.Following.{IsFollowing}
+use Rattle.herm_check.proofs.search.leave.Given as goal
+
+abbrev pub invariant-loop-edge : goal.invariant-loop-edge
+invariant-loop-edge l = IsFollowing (flow_view l.flow) (fact_view l.fact) l.initial.search.visits.items l.search.visits.items l.search.seen.items l.visit (map edge_view (take l.edge-index l.edge-items))

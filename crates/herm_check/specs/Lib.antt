@@ -1,0 +1,9 @@
+-- Flows as the model's, and labels of points.
+pub mod View
+pub mod Weights
+pub mod Labelled
+pub mod Followed
+pub mod Shortest
+pub mod Searched
+pub mod Missing
+pub mod Faults

@@ -1,0 +1,51 @@
+//! The typestate check of a flow.
+ghost use Rattle.std.specs.Prelude.{◌≡◌, ◌<◌, ℕ, length, IfOk, IfErr};
+ghost use Rattle.herm_model.specs.Targets.{node};
+ghost use Rattle.herm_model.specs.ControlPaths.{IsReached};
+ghost use Rattle.herm_model.specs.Labels.{AreExact};
+ghost use Rattle.herm_model.specs.laws.FlowLaws.{EdgesDiffer};
+ghost use Rattle.herm_check.specs.View.{labels_view, flow_view};
+ghost use Rattle.herm_check.specs.Labelled.{LeadThere};
+ghost use Rattle.herm_check.specs.Faults.{IsFault, HasNoFault};
+
+use crate::flow::Flow;
+use crate::labels::labels_of;
+use crate::missing::{MissingFact, lacking};
+use herm_typestate::Labels;
+use std::alloc::{AllocError, Global};
+
+/// Why a flow is not accepted: the facts that are missing, or want of memory.
+#[derive(Drop)]
+pub enum CheckFault {
+    Missing(Vec<MissingFact>),
+    Memory,
+}
+
+impl From<AllocError> for CheckFault {
+    ghost use Rattle.herm_check.specs.declared.checking.CheckFault.TheVariants.{Memory};
+    ghost use Rattle.std.specs.Prelude.{◌≡◌};
+
+    ghost from_gives = { λ _ fault. fault ≡ Memory };
+
+    fn from(_: AllocError) -> CheckFault {
+        CheckFault::Memory
+    }
+}
+
+/// Exactly the facts that hold at each point, where each fact that is needed holds; else the facts that are missing, each with a shortest path.
+pub fn check(alloc: Global, flow: &Flow, vars: usize) -> Result<Labels, CheckFault>
+    requires differ { EdgesDiffer (flow_view flow.now) }
+    requires there { LeadThere (flow_view flow.now) }
+    requires reached { (i : ℕ) → i < length flow.now.points.items → IsReached (flow_view flow.now) (node i) }
+    ensures exact { IfOk result (λ labels. AreExact (flow_view flow.now) (labels_view labels)) }
+    ensures accepted { IfOk result (λ labels. HasNoFault (flow_view flow.now)) }
+    ensures missing { IfErr result (λ fault. IsFault (flow_view flow.now) fault) }
+{
+    let labels = labels_of(alloc, flow, vars)?;
+    let missing = lacking(alloc, flow, &labels)?;
+    let count = missing.len();
+    if count == 0 {
+        return Ok(labels);
+    }
+    Err(CheckFault::Missing(missing))
+}

@@ -1,0 +1,93 @@
+//! Whether one fact is held behind an edge.
+ghost use Rattle.std.specs.Prelude.{◌≡◌, map};
+ghost use Rattle.herm_model.specs.Lists.{any_pass};
+ghost use Rattle.herm_model.specs.Paths as model;
+ghost use Rattle.herm_model.specs.ControlPaths.{held_after_edge};
+ghost use Rattle.herm_types.specs.View.{path_view, fact_view};
+ghost use Rattle.herm_check.specs.View.{edge_view};
+
+use crate::flow::Edge;
+use herm_types::{Fact, Path};
+
+fn same_path(a: &Path, b: &Path) -> bool
+    ensures { result ≡ model.same_path (path_view a.now) (path_view b.now) }
+{
+    a.var == b.var && a.parts.as_slice() == b.parts.as_slice()
+}
+
+fn same_fact(a: &Fact, b: &Fact) -> bool
+    ensures { result ≡ model.same_fact (fact_view a.now) (fact_view b.now) }
+{
+    match a {
+        Fact::Init(p) => match b {
+            Fact::Init(q) => same_path(p, q),
+            Fact::Case(_, _) => false,
+        },
+        Fact::Case(p, c) => match b {
+            Fact::Init(_) => false,
+            Fact::Case(q, d) => same_path(p, q) && *c == *d,
+        },
+    }
+}
+
+/// Whether the second row begins with the first.
+fn begins(first: &[u32], all: &[u32]) -> bool
+    ensures { result ≡ model.is_at_or_below first.now all.now }
+{
+    let count = first.len();
+    if all.len() < count {
+        return false;
+    }
+    first == &all[..count]
+}
+
+fn is_at_or_below(top: &Path, path: &Path) -> bool
+    ensures { result ≡ model.is_at_or_below (path_view top.now) (path_view path.now) }
+{
+    top.var == path.var && begins(top.parts.as_slice(), path.parts.as_slice())
+}
+
+fn path_of(fact: &Fact) -> &Path
+    ensures { path_view result.now ≡ model.path_of (fact_view fact.now) }
+{
+    match fact {
+        Fact::Init(path) => path,
+        Fact::Case(path, _) => path,
+    }
+}
+
+fn is_made(makes: &[Fact], fact: &Fact) -> bool
+    ensures { result ≡ any_pass (model.same_fact (fact_view fact.now)) (map fact_view makes.now) }
+{
+    for made in makes {
+        if same_fact(fact, made) {
+            return true;
+        }
+    }
+    false
+}
+
+fn is_killed(kills: &[Path], path: &Path) -> bool
+    ensures { result ≡ any_pass (λ p. model.is_at_or_below p (path_view path.now)) (map path_view kills.now) }
+{
+    for killed in kills {
+        if is_at_or_below(killed, path) {
+            return true;
+        }
+    }
+    false
+}
+
+/// Whether the fact is held behind the edge, where it is held before it or not.
+pub fn is_held_behind(edge: &Edge, fact: &Fact, held: bool) -> bool
+    ensures { result ≡ held_after_edge (edge_view edge.now) (fact_view fact.now) held }
+{
+    if is_made(edge.makes.as_slice(), fact) {
+        return true;
+    }
+    let killed = is_killed(edge.kills.as_slice(), path_of(fact));
+    if killed {
+        return false;
+    }
+    held
+}
