@@ -11,3 +11,4 @@ pub mod Places
 pub mod Begun
 pub mod Searched
 pub mod Following
+pub mod Deciding

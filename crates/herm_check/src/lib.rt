@@ -15,3 +15,8 @@ pub use flow::{Edge, Flow, Point, Target};
 pub use labels::labels_of;
 pub use missing::MissingFact;
 pub use search::Hop;
+
+#[cfg(test)]
+mod ready;
+#[cfg(test)]
+mod tests;

@@ -1,0 +1,141 @@
+//! Whether a flow is one that may be checked.
+ghost use Rattle.std.specs.Prelude.{◌≡◌, ◌<◌, ℕ, true, map, length};
+ghost use Rattle.herm_model.specs.Lists.{IsIn, any_pass};
+ghost use Rattle.herm_model.specs.Statements.{Differ};
+ghost use Rattle.herm_model.specs.Outcomes as outcomes;
+ghost use Rattle.herm_model.specs.ControlPaths as paths;
+ghost use Rattle.herm_model.specs.laws.FlowLaws.{EdgesDiffer, IsThere};
+ghost use Rattle.herm_typed.specs.View.{outcome_view};
+ghost use Rattle.herm_check.specs.declared.flow.Edge.{Edge as EdgeOf};
+ghost use Rattle.herm_check.specs.View.{target_view, edge_view, flow_view};
+ghost use Rattle.herm_check.specs.Labelled.{LeadThere, is_reached};
+
+use crate::checking::{CheckFault, check};
+use crate::flow::{Edge, Flow, Target};
+use crate::label::Label;
+use crate::labels::settled;
+use crate::missing::MissingFact;
+use herm_typed::Outcome;
+use std::alloc::Global;
+
+fn same_outcome(a: Outcome, b: Outcome) -> bool
+    ensures { result ≡ outcomes.same_outcome (outcome_view a) (outcome_view b) }
+{
+    match a {
+        Outcome::Ok => matches!(b, Outcome::Ok),
+        Outcome::True => matches!(b, Outcome::True),
+        Outcome::False => matches!(b, Outcome::False),
+        Outcome::Turn => matches!(b, Outcome::Turn),
+        Outcome::Done => matches!(b, Outcome::Done),
+        Outcome::Component(c) => match b {
+            Outcome::Component(d) => c == d,
+            _ => false,
+        },
+        Outcome::Arm(c) => match b {
+            Outcome::Arm(d) => c == d,
+            _ => false,
+        },
+        Outcome::Raised(c) => match b {
+            Outcome::Raised(d) => c.0 == d.0,
+            _ => false,
+        },
+    }
+}
+
+fn is_among(edges: &[Edge], outcome: Outcome) -> bool
+    ensures { result ≡ any_pass (outcomes.same_outcome (outcome_view outcome)) (map (λ (e : EdgeOf). outcome_view e.outcome) edges.now) }
+{
+    for edge in edges {
+        if same_outcome(outcome, edge.outcome) {
+            return true;
+        }
+    }
+    false
+}
+
+fn differ(edges: &[Edge]) -> bool
+    ensures { result ≡ true → Differ (map (λ (e : paths.Edge). e.outcome) (map edge_view edges.now)) }
+{
+    for i in 0..edges.len() {
+        if is_among(&edges[i + 1..], edges[i].outcome) {
+            return false;
+        }
+    }
+    true
+}
+
+fn is_there(target: Target, count: usize) -> bool
+    ensures { result ≡ true → IsThere count (target_view target) }
+{
+    match target {
+        Target::Point(i) => (i as usize) < count,
+        Target::End => true,
+        Target::EndBy(_) => true,
+    }
+}
+
+fn lead_there(edges: &[Edge], count: usize) -> bool
+    ensures { result ≡ true → (e : paths.Edge) → IsIn e (map edge_view edges.now) → IsThere count e.target }
+{
+    for edge in edges {
+        if !is_there(edge.to, count) {
+            return false;
+        }
+    }
+    true
+}
+
+fn all_differ(flow: &Flow) -> bool
+    ensures { result ≡ true → EdgesDiffer (flow_view flow.now) }
+{
+    for point in &flow.points {
+        if !differ(point.edges.as_slice()) {
+            return false;
+        }
+    }
+    true
+}
+
+fn all_lead_there(flow: &Flow) -> bool
+    ensures { result ≡ true → LeadThere (flow_view flow.now) }
+{
+    let count = flow.points.len();
+    for point in &flow.points {
+        if !lead_there(point.edges.as_slice(), count) {
+            return false;
+        }
+    }
+    true
+}
+
+fn are_reached(labels: &[Label]) -> bool
+    ensures { result ≡ true → (i : ℕ) → i < length labels.now → is_reached labels.now i ≡ true }
+{
+    for i in 0..labels.len() {
+        if !labels[i].reached {
+            return false;
+        }
+    }
+    true
+}
+
+/// What the check says is missing, where it may be asked and memory was there.
+pub fn missing_in(alloc: Global, flow: &Flow, vars: usize) -> Option<Vec<MissingFact>> {
+    if !all_differ(flow) || !all_lead_there(flow) {
+        return None;
+    }
+    let Ok(labels) = settled(alloc, flow, vars) else {
+        return None;
+    };
+    if !are_reached(labels.as_slice()) {
+        return None;
+    }
+    match check(alloc, flow, vars) {
+        Ok(labels) => {
+            drop(labels);
+            Some(Vec::new(alloc))
+        }
+        Err(CheckFault::Missing(missing)) => Some(missing),
+        Err(CheckFault::Memory) => None,
+    }
+}
