@@ -89,6 +89,14 @@ fn enters_component(types: &TypeTable, t: Option<TypeNo>, parts: &[u32]) -> bool
     false
 }
 
+/// Whether a path passes through a component.
+pub fn passes_component(frame: &Frame, p: &Path) -> bool
+    ensures passes { result ≡ passes_component (table_of frame.now) (variables_of frame.now) (path_view p.now) }
+{
+    let first = variable_type(frame.of, p.var.0);
+    enters_component(frame.types, first, p.parts.as_slice())
+}
+
 fn enters_out(types: &TypeTable, t: Option<TypeNo>, parts: &[u32]) -> bool
     ensures enters { result ≡ enters_out types.now.shapes false (kind t) parts.now }
 {
@@ -116,6 +124,5 @@ pub fn is_seen(frame: &Frame, p: &Path) -> bool
 pub fn is_own(frame: &Frame, p: &Path) -> bool
     ensures own { result ≡ is_own (table_of frame.now) (variables_of frame.now) (path_view p.now) }
 {
-    let first = variable_type(frame.of, p.var.0);
-    is_seen(frame, p) && !enters_component(frame.types, first, p.parts.as_slice())
+    is_seen(frame, p) && !passes_component(frame, p)
 }

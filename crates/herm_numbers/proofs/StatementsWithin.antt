@@ -7,7 +7,8 @@ use Rattle.herm_typed.specs.declared.expressions.TypedExpr.{TypedExpr}
 use Rattle.herm_typed.specs.declared.statements.TypedStmt.{TypedStmt}
 use Rattle.herm_typed.specs.declared.statements.TypedForm.{TypedForm, Case, Select, For, If, While, Try}
 use Rattle.herm_typed.specs.declared.statements.TypedForm.TheBlock as forms
-use Rattle.herm_numbers.specs.Within.{statements_within, statements_in, statements_in_arms, statements_in_port_arms, statements_otherwise, statements_in_handlers, all_statements, items_of}
+use Rattle.herm_typed.specs.Within.{statements_within, statements_in, statements_in_arms, statements_in_port_arms, statements_otherwise, statements_in_handlers, all_statements}
+use Rattle.herm_numbers.specs.Within.{items_of}
 
 rows_within : {m : _} (others : forms.Row_of-TypedStmt m) → statements_in others ≡ all_statements (forms.items-the_row-TypedStmt m others)
 rows_within forms.end_of-TypedStmt = refl

@@ -4,7 +4,8 @@ ghost use Rattle.herm_syntax.specs.View.{literal_view, atom_view};
 ghost use Rattle.herm_naming.specs.Numbers.{literal_number, atom_number, type_number, part_number};
 ghost use Rattle.herm_typed.specs.View.{typed_literal_view, typed_atom_view};
 ghost use Rattle.herm_numbers.specs.View.{scope_view, kind, IsSized};
-ghost use Rattle.herm_numbers.specs.Beside.{atom_types, types_among};
+ghost use Rattle.herm_typed.specs.Beside.{atom_types};
+ghost use Rattle.herm_numbers.specs.Beside.{types_among};
 
 use crate::paths::{part, path};
 use crate::scope::Scope;

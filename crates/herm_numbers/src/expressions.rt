@@ -5,7 +5,8 @@ ghost use Rattle.herm_syntax.specs.View.{expr_view, conj_view, comp_view, sum_vi
 ghost use Rattle.herm_naming.specs.Numbers.{expression_number, primary_number, operator_of};
 ghost use Rattle.herm_typed.specs.View.{typed_sum_op_view, typed_prod_op_view, typed_expr_view, typed_conj_view, typed_comp_view, typed_sum_view, typed_prod_view, typed_primary_view, typed_unary_view};
 ghost use Rattle.herm_numbers.specs.View.{scope_view, IsSized, unary_number, behind_product, behind_sum, behind_and, behind_or, product_number, sum_number, and_number, or_number};
-ghost use Rattle.herm_numbers.specs.Beside.{primary_types, unary_types, prod_types, sum_types, comp_types, conj_types, expr_types, types_read};
+ghost use Rattle.herm_typed.specs.Beside.{primary_types, unary_types, prod_types, sum_types, comp_types, conj_types, expr_types};
+ghost use Rattle.herm_numbers.specs.Beside.{types_read};
 
 use crate::atoms::literal;
 use crate::paths::path;

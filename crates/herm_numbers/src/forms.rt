@@ -7,8 +7,9 @@ ghost use Rattle.herm_naming.specs.Numbers.{path_number, type_seen, part_number,
 ghost use Rattle.herm_naming.specs.Meaning.{statement_number, process_number};
 ghost use Rattle.herm_typed.specs.View.{typed_path_view, typed_form_view};
 ghost use Rattle.herm_numbers.specs.View.{scope_view, number_of, IsKnown};
-ghost use Rattle.herm_numbers.specs.Within.{statements_within};
-ghost use Rattle.herm_numbers.specs.Beside.{seen_at, types_beside, types_seen};
+ghost use Rattle.herm_typed.specs.Within.{statements_within};
+ghost use Rattle.herm_typed.specs.Beside.{types_beside};
+ghost use Rattle.herm_numbers.specs.Beside.{seen_at, types_seen};
 
 use crate::atoms::{atoms, type_number};
 use crate::expressions::expression;

@@ -14,7 +14,8 @@ use Rattle.herm_typed.specs.declared.expressions.TypedPath.{TypedPath}
 use Rattle.herm_typed.specs.declared.expressions.TypedExpr.{TypedExpr}
 use Rattle.herm_typed.specs.declared.statements.TypedStmt.{TypedStmt}
 use Rattle.herm_typed.specs.declared.statements.TypedForm.{Case, Select, For, If, While, Try}
-use Rattle.herm_numbers.specs.Within.{statements_within, all_statements, written_within, all_written, items_of}
+use Rattle.herm_typed.specs.Within.{statements_within, all_statements}
+use Rattle.herm_numbers.specs.Within.{written_within, all_written, items_of}
 use Rattle.herm_numbers.proofs.StatementsWithin.{for_within, while_within, if_within, case_within, select_within, try_within}
 use Rattle.herm_numbers.proofs.WrittenWithin.{for_written, while_written, if_written, case_written, select_written, try_written}
 use Rattle.herm_resolve.specs.Entries.{Entry, typed_entry, written_entry, typed_entries, written_entries}

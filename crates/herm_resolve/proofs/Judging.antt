@@ -28,7 +28,8 @@ use Rattle.herm_types.specs.Table as kept
 use Rattle.herm_numbers.specs.Counts.{IsCounted}
 use Rattle.herm_numbers.specs.View.{IsSized}
 use Rattle.herm_resolve.specs.Judged.{IsReady, IsKnownOf, AreJudged, AddsRefusals, scope_within, process_within, codes_within, is_main_among}
-use Rattle.herm_resolve.specs.Kept.{of_processes, names_of, names_written, numbers_of, numbers_written, KnowsTypes, KnowTypes}
+use Rattle.herm_typed.specs.Beside.{KnowsTypes, KnowTypes}
+use Rattle.herm_resolve.specs.Kept.{of_processes, names_of, names_written, numbers_of, numbers_written}
 use Rattle.herm_resolve.proofs.Refusing.{empty}
 use Rattle.herm_resolve.specs.Refused.{places_of, places_from, nowhere, AreRefusalsOf}
 

@@ -22,10 +22,12 @@ use Rattle.herm_naming.proofs.KeptRules.{IsFaultless}
 use Rattle.herm_typed.specs.View.{typed_form_view}
 use Rattle.herm_typed.specs.declared.statements.TypedStmt.{TypedStmt}
 use Rattle.herm_numbers.specs.View.{number_of}
-use Rattle.herm_numbers.specs.Within.{all_statements, written_within, written_in, written_in_arms, written_in_port_arms, written_otherwise, all_written}
-use Rattle.herm_numbers.specs.Beside.{paths_written, own_paths, seen_at, types_beside, types_seen}
+use Rattle.herm_typed.specs.Within.{all_statements}
+use Rattle.herm_numbers.specs.Within.{written_within, written_in, written_in_arms, written_in_port_arms, written_otherwise, all_written}
+use Rattle.herm_typed.specs.Beside.{paths_written, own_paths, types_beside}
+use Rattle.herm_numbers.specs.Beside.{seen_at, types_seen}
 use Rattle.herm_resolve.specs.Entries.{Entry, typed_entry, written_entry}
-use Rattle.herm_resolve.specs.Kept.{HasTypes}
+use Rattle.herm_typed.specs.Beside.{HasTypes}
 
 -- a path of a form is named by it
 written-named : (f : model.Form) (p : Path) → IsIn p (paths_written f) → IsIn p (paths_named f)

@@ -5,7 +5,7 @@ use Rattle.herm_model.specs.Types.{TypeTable}
 use Rattle.herm_typed.specs.Outcomes.{KnowsOutcomes}
 use Rattle.herm_typed.specs.declared.statements.TypedForm.{TypedForm}
 use Rattle.herm_typed.specs.declared.statements.TypedForm.TheBlock as forms
-use Rattle.herm_resolve.specs.Kept.{HasTypes}
+use Rattle.herm_typed.specs.Beside.{HasTypes}
 
 first-same : {X : Type 0} (a b : X) (xs ys : List X) → a ∷ xs ≡ b ∷ ys → a ≡ b
 first-same a b xs ys e = cc e

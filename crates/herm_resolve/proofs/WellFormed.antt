@@ -28,9 +28,10 @@ use Rattle.herm_naming.proofs.Apart.{part-within, names-differ}
 use Rattle.herm_naming.proofs.KeptRules.{IsFaultless, faultless}
 use Rattle.herm_numbers.specs.declared.known.Known.{Known}
 use Rattle.herm_typed.specs.declared.statements.TypedStmt.{TypedStmt}
-use Rattle.herm_numbers.specs.Within.{all_statements, all_written}
+use Rattle.herm_typed.specs.Within.{all_statements}
+use Rattle.herm_numbers.specs.Within.{all_written}
 use Rattle.herm_resolve.specs.Entries.{typed_entry, written_entry}
-use Rattle.herm_resolve.specs.Kept.{HasTypes}
+use Rattle.herm_typed.specs.Beside.{HasTypes}
 use Rattle.herm_resolve.proofs.KnownTypes.{types_known}
 use Rattle.herm_resolve.specs.Judged.{scope_within, process_within, codes_within}
 

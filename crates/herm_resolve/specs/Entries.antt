@@ -9,8 +9,10 @@ use Rattle.herm_naming.specs.Numbers.{Scope}
 use Rattle.herm_naming.specs.Meaning.{statement_number}
 use Rattle.herm_typed.specs.View.{typed_form_view}
 use Rattle.herm_typed.specs.declared.statements.TypedStmt.{TypedStmt}
-use Rattle.herm_numbers.specs.Within.{statements_within, written_within}
-use Rattle.herm_numbers.specs.Beside.{types_beside, types_seen}
+use Rattle.herm_typed.specs.Within.{statements_within}
+use Rattle.herm_numbers.specs.Within.{written_within}
+use Rattle.herm_typed.specs.Beside.{types_beside}
+use Rattle.herm_numbers.specs.Beside.{types_seen}
 
 -- its number, its place, what it means, and the types of its paths
 abbrev pub Entry : Type 0

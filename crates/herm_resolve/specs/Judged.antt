@@ -22,7 +22,8 @@ use Rattle.herm_numbers.specs.Faults.{Place, name_fault_view, codes_found, spans
 use Rattle.herm_numbers.specs.declared.fault.Judged.{Judged}
 use Rattle.herm_numbers.specs.declared.fault.NameFault.{NameFault}
 use Rattle.herm_numbers.specs.declared.known.Known.{Known}
-use Rattle.herm_resolve.specs.Kept.{of_processes, names_of, names_written, numbers_of, numbers_written, KnowTypes}
+use Rattle.herm_typed.specs.Beside.{KnowTypes}
+use Rattle.herm_resolve.specs.Kept.{of_processes, names_of, names_written, numbers_of, numbers_written}
 use Rattle.herm_resolve.specs.Refused.{places_from}
 
 -- what is known of a program, over a table that keeps the rules of definitions

@@ -1,20 +1,15 @@
--- What the processes of a program keep of the text beside their meaning: names, the number and the place of each statement, and the type of each path.
-use Rattle.std.specs.Prelude.{ℕ, List, [], ◌∷◌, map, Some, ◌≡◌}
+-- What the processes of a program keep of the text beside their meaning: names, and the number and the place of each statement.
+use Rattle.std.specs.Prelude.{List, [], ◌∷◌, map}
 use Rattle.herm_base.specs.declared.numbers.StmtNo.{StmtNo}
 use Rattle.herm_base.specs.declared.word.Name.{Name}
 use Rattle.herm_base.specs.declared.word.Span.{Span}
-use Rattle.herm_model.specs.Lists.{IsIn}
-use Rattle.herm_model.specs.Types.{TypeTable, type_at}
 use Rattle.herm_syntax.specs.declared.definitions.Field.{Field}
 use Rattle.herm_syntax.specs.declared.modules.Module.{Module}
 use Rattle.herm_syntax.specs.declared.modules.Module.TheVariants.{Definitions, Process}
 use Rattle.herm_syntax.specs.declared.statements.Stmt.{Stmt}
-use Rattle.herm_typed.specs.View.{typed_form_view}
-use Rattle.herm_typed.specs.declared.statements.TypedForm.{TypedForm}
 use Rattle.herm_typed.specs.declared.statements.TypedProcess.{TypedProcess}
-use Rattle.herm_typed.specs.declared.statements.TypedStmt.{TypedStmt}
-use Rattle.herm_numbers.specs.Within.{all_statements, all_written}
-use Rattle.herm_numbers.specs.Beside.{types_beside, own_paths}
+use Rattle.herm_typed.specs.Within.{all_statements}
+use Rattle.herm_numbers.specs.Within.{all_written}
 
 -- what each process of modules has, in order
 abbrev pub of_processes : {X : Type 0} → (Name → Field → List Field → List Stmt → X) → List Module → List X
@@ -35,15 +30,3 @@ numbers_of p = map (λ t. (t.no, t.span)) (all_statements p.body.items)
 
 abbrev pub numbers_written : Name → Field → List Field → List Stmt → List (StmtNo × Span)
 numbers_written name port vars body = map (λ x. (x.no, x.span)) (all_written body)
-
--- The types beside the paths of a statement, in order, are those of the values at its paths.
-abbrev pub HasTypes : TypeTable → List ℕ → TypedForm → Type 0
-HasTypes table variables form = map (type_at table variables) (own_paths (typed_form_view form)) ≡ map Some (types_beside form)
-
--- so it is at each statement of a process
-abbrev pub KnowsTypes : TypeTable → TypedProcess → Type 0
-KnowsTypes table p = (t : TypedStmt) → IsIn t (all_statements p.body.items) → HasTypes table (map (λ v. v.of.0) p.vars.items) t.form
-
--- and at each of each process
-abbrev pub KnowTypes : TypeTable → List TypedProcess → Type 0
-KnowTypes table ps = (p : TypedProcess) → IsIn p ps → KnowsTypes table p

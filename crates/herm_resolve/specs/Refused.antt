@@ -14,7 +14,8 @@ use Rattle.herm_typed.specs.View.{typed_process_view}
 use Rattle.herm_numbers.specs.Faults.{Place, body_spans, name_fault_view}
 use Rattle.herm_numbers.specs.declared.fault.ResolveFault.{ResolveFault}
 use Rattle.herm_numbers.specs.declared.fault.ResolveFault.TheVariants.{Refused, Memory}
-use Rattle.herm_resolve.specs.Kept.{of_processes, names_of, names_written, numbers_of, numbers_written, KnowTypes}
+use Rattle.herm_typed.specs.Beside.{KnowTypes}
+use Rattle.herm_resolve.specs.Kept.{of_processes, names_of, names_written, numbers_of, numbers_written}
 use Rattle.herm_resolve.specs.declared.program.Program.{Program}
 
 -- the places of a process of the module with this number

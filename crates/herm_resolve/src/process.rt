@@ -10,7 +10,8 @@ ghost use Rattle.herm_numbers.specs.Counts.{IsCounted};
 ghost use Rattle.herm_numbers.specs.Faults.{found_code_view, name_fault_view, spans_found, body_spans};
 ghost use Rattle.herm_resolve.specs.Judged.{IsReady, process_within, codes_within, found_codes, found_places, AddsRefusals};
 ghost use Rattle.herm_resolve.specs.Refused.{places_of};
-ghost use Rattle.herm_resolve.specs.Kept.{names_of, names_written, numbers_of, numbers_written, KnowsTypes};
+ghost use Rattle.herm_typed.specs.Beside.{KnowsTypes};
+ghost use Rattle.herm_resolve.specs.Kept.{names_of, names_written, numbers_of, numbers_written};
 
 use crate::reach::unreached;
 use crate::statements::block;

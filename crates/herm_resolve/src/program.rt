@@ -10,7 +10,8 @@ ghost use Rattle.herm_typed.specs.View.{typed_process_view};
 ghost use Rattle.herm_numbers.specs.Faults.{name_fault_view};
 ghost use Rattle.herm_numbers.specs.View.{IsSized};
 ghost use Rattle.herm_resolve.specs.Judged.{IsReady, IsKnownOf, AreJudged, is_main_among};
-ghost use Rattle.herm_resolve.specs.Kept.{of_processes, names_of, names_written, numbers_of, numbers_written, KnowTypes};
+ghost use Rattle.herm_typed.specs.Beside.{KnowTypes};
+ghost use Rattle.herm_resolve.specs.Kept.{of_processes, names_of, names_written, numbers_of, numbers_written};
 ghost use Rattle.herm_resolve.specs.Refused.{places_from, nowhere, AreRefusalsOf, IfRefused, HasRefusals, IsProgramOf};
 
 use crate::process::process;

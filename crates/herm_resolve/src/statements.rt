@@ -10,8 +10,10 @@ ghost use Rattle.herm_typed.specs.View.{typed_path_view, typed_form_view};
 ghost use Rattle.herm_numbers.specs.View.{scope_view, number_of, IsKnown};
 ghost use Rattle.herm_numbers.specs.Faults.{found_code_view, codes_found, spans_found, spans_within, body_spans};
 ghost use Rattle.herm_numbers.specs.Statements.{meant, written, arm_view, port_arm_view, else_view, arms_meant, arms_written, handlers_meant, port_arms_meant, port_arms_written, else_meant, else_written, codes_of, body_codes, arms_codes, port_arms_codes, else_codes, all_spans, all_port_spans, else_spans};
-ghost use Rattle.herm_numbers.specs.Within.{statements_within, written_within, items_of};
-ghost use Rattle.herm_numbers.specs.Beside.{types_beside, types_seen, port_arm_types, port_arm_seen};
+ghost use Rattle.herm_typed.specs.Within.{statements_within};
+ghost use Rattle.herm_numbers.specs.Within.{written_within, items_of};
+ghost use Rattle.herm_typed.specs.Beside.{types_beside, port_arm_types};
+ghost use Rattle.herm_numbers.specs.Beside.{types_seen, port_arm_seen};
 ghost use Rattle.herm_resolve.specs.Entries.{typed_entry, written_entry, typed_entries, written_entries};
 
 use herm_base::{ExcNo, Name};

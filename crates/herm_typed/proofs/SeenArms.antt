@@ -35,13 +35,6 @@ select_rows (forms.more_of-TypedForm-Select-0-4 port target shape body rest) k =
 pub select_normal : (arms : Vec (TypedPath × TypedPath × Vec TypedStmt Global) Global) → map arm (range 0 (length arms.items)) ≡ normal_of (Select arms)
 select_normal arms = sym (select_rows (select_arms (Select arms)).1 0 ∙ ap (λ list. map arm (range 0 (length list))) (forms.items_hidden-the_row-TypedForm-Select-0-4-2 arms))
 
-count_rows : {m : _} (arms : forms.Row_of-TypedForm-Select-0-4 m) → length (typed_arms_view arms) ≡ length (forms.items-the_row-TypedForm-Select-0-4 m arms)
-count_rows forms.end_of-TypedForm-Select-0-4 = refl
-count_rows (forms.more_of-TypedForm-Select-0-4 port target shape body rest) = ap suc (count_rows rest)
-
-pub select_count : (arms : Vec (TypedPath × TypedPath × Vec TypedStmt Global) Global) → length (typed_arms_view (select_arms (Select arms)).1) ≡ length arms.items
-select_count arms = count_rows (select_arms (Select arms)).1 ∙ ap length (forms.items_hidden-the_row-TypedForm-Select-0-4-2 arms)
-
 -- the normal outcomes and then the exceptions are all outcomes
 pub all_outcomes : (table : TypeTable) (variables : List ℕ) (form : TypedForm) → normal_of form ++ map raised (exceptions_of table variables form) ≡ outcomes_of table variables form
 all_outcomes table variables form = by (form_of_statement (typed_form_view form))

@@ -3,3 +3,5 @@ pub mod View
 pub mod Raising
 pub mod Outcomes
 pub mod Blocks
+pub mod Within
+pub mod Beside

@@ -1,5 +1,5 @@
 -- The outcomes of a statement, in the order of the statement table. Language reference, "Outcomes".
-use Rattle.std.specs.Prelude.{ℕ, ◌<◌, ◌≤◌, ◌^◌, List, ◌∷◌, ◌++◌, map, length, take, drop, Some, slice_get, option_and_then, ⊤, ◌≡◌}
+use Rattle.std.specs.Prelude.{ℕ, ◌≤◌, List, ◌∷◌, ◌++◌, map, length, take, drop, Some, slice_get, option_and_then, ⊤, ◌≡◌}
 use Rattle.herm_model.specs.Lists.{list_of}
 use Rattle.herm_model.specs.Types.{Raised, TypeTable, type_at}
 use Rattle.herm_model.specs.Calls.{led_to, message_type, raises_of}
@@ -8,7 +8,7 @@ use Rattle.herm_base.specs.declared.numbers.ExcNo.{ExcNo}
 use Rattle.herm_typed.specs.declared.expressions.TypedPath.{TypedPath}
 use Rattle.herm_typed.specs.declared.statements.TypedForm.{TypedForm}
 use Rattle.herm_typed.specs.declared.statements.TypedForm.TheBlock as forms
-use Rattle.herm_typed.specs.View.{typed_path_view, typed_arms_view, typed_form_view, form_of_statement}
+use Rattle.herm_typed.specs.View.{typed_path_view, typed_form_view, form_of_statement}
 
 -- The type beside a path is that of the value at the path.
 abbrev pub IsOf : TypeTable → List ℕ → TypedPath → Type 0
@@ -37,8 +37,3 @@ IsPlaceFor numbers e place = (place ≤ length numbers) × (model.with_number e.
 -- the exceptions that the callmessages of an outport type declare
 abbrev pub raises_from : TypeTable → ℕ → List Raised
 raises_from table t = list_of raises_of (option_and_then (slice_get table) (option_and_then message_type (option_and_then (slice_get table) (option_and_then led_to (slice_get table t)))))
-
--- the arms of a `select` are fewer than there are numbers
-abbrev pub HasFewArms : TypedForm → Type 0
-HasFewArms (forms.Select' shape arms) = length (typed_arms_view arms) < 2 ^ 32
-HasFewArms _ = ⊤

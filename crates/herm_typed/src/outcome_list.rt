@@ -1,12 +1,12 @@
 //! The outcomes of statements.
-ghost use Rattle.std.specs.Prelude.{ℕ, ◌≡◌, ◌<◌, ◌^◌, ◌∷◌, [], ◌++◌, List, length, map, slice_get, option_map, option_and_then, IfOk, MatchOption};
+ghost use Rattle.std.specs.Prelude.{ℕ, ◌≡◌, ◌∷◌, [], ◌++◌, List, length, map, slice_get, option_map, option_and_then, IfOk, MatchOption};
 ghost use Rattle.herm_model.specs.Lists.{range};
 ghost use Rattle.herm_model.specs.Calls.{led_to, message_type, raises_of};
 ghost use Rattle.herm_model.specs.Outcomes.{component, arm, disconnected, with_number, rising, raised, raised_by, raised_by_new};
 ghost use Rattle.herm_types.specs.View.{shape_view, raise_decl_view};
 ghost use Rattle.herm_typed.specs.declared.statements.TypedStmt.{out-TypedStmt};
 ghost use Rattle.herm_typed.specs.View.{typed_expr_view, outcome_view};
-ghost use Rattle.herm_typed.specs.Outcomes.{IsPlaceFor, raises_from, HasFewArms, KnowsOutcomes, normal_of, exceptions_of, outcomes_of};
+ghost use Rattle.herm_typed.specs.Outcomes.{IsPlaceFor, raises_from, KnowsOutcomes, normal_of, exceptions_of, outcomes_of};
 
 use crate::expressions::TypedExpr;
 use crate::raises::expression_raises;
@@ -108,11 +108,13 @@ fn components<T>(alloc: Global, arms: &[(u32, T)]) -> Result<Vec<Outcome>, Alloc
     Ok(found)
 }
 
-/// The outcomes of so many arms of a `select`.
+/// The outcomes of so many arms of a `select`; no memory suffices for more arms than there are numbers.
 fn select_arms(alloc: Global, count: usize) -> Result<Vec<Outcome>, AllocError>
-    requires { count < 2 ^ 32 }
     ensures { IfOk result (λ v. map outcome_view v.items ≡ map arm (range 0 count)) }
 {
+    if count > u32::MAX as usize {
+        return Err(AllocError);
+    }
     let mut found = Vec::new(alloc);
     for i in 0..count {
         found.push(Outcome::Arm(i as u32))?;
@@ -176,7 +178,6 @@ fn two(alloc: Global, a: Outcome, b: Outcome) -> Result<Vec<Outcome>, AllocError
 
 /// The normal outcomes of a form, in order.
 fn normal(alloc: Global, form: &TypedForm) -> Result<Vec<Outcome>, AllocError>
-    requires { HasFewArms form.now }
     ensures { IfOk result (λ v. map outcome_view v.items ≡ normal_of form.now) }
 {
     match form {
@@ -311,7 +312,6 @@ fn add_raised(found: &mut Vec<Outcome>, numbers: &[ExcNo]) -> Result<(), AllocEr
 pub fn outcomes(alloc: Global, types: &TypeTable, s: &TypedStmt) -> Result<Vec<Outcome>, AllocError>
     ghost variables: { List ℕ }
     requires known { KnowsOutcomes types.now.shapes variables (out-TypedStmt s.now).form }
-    requires few { HasFewArms (out-TypedStmt s.now).form }
     ensures { IfOk result (λ v. map outcome_view v.items ≡ outcomes_of types.now.shapes variables (out-TypedStmt s.now).form) }
 {
     let mut found = normal(alloc, &s.form)?;

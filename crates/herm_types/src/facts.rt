@@ -1,14 +1,14 @@
 //! The facts of full values and of messages.
-ghost use Rattle.std.specs.Prelude.{◌≡◌, ◌<◌, ◌∷◌, IfOk, map, length};
+ghost use Rattle.std.specs.Prelude.{◌≡◌, ◌<◌, ◌∷◌, ◌++◌, [], false, IfOk, OnOk, map, length};
 ghost use Rattle.herm_model.specs.Paths as model;
 ghost use Rattle.herm_model.specs.Types.{all_parts, part_paths};
-ghost use Rattle.herm_model.specs.Facts.{full_facts, declared_facts};
+ghost use Rattle.herm_model.specs.Facts.{facts_from, full_facts, declared_facts};
 ghost use Rattle.herm_types.specs.View.{path_view, fact_view};
 ghost use Rattle.herm_types.specs.Chosen.{lists};
-ghost use Rattle.herm_types.specs.Messages.{IsInport};
+ghost use Rattle.herm_types.specs.Messages.{IsInport, number_of};
 
 use crate::fact::{Fact, Path};
-use crate::messages::{all_said, listed, without_repeats};
+use crate::messages::{all_said, listed, push_facts_to, without_repeats};
 use crate::paths::{Choice, paths_from};
 use crate::shape::Shape;
 use crate::table::TypeTable;
@@ -27,6 +27,28 @@ fn inits(alloc: Global, var: VarNo, paths: Vec<Vec<u32>>) -> Result<Vec<Fact>, A
 }
 
 impl TypeTable {
+    /// Appends the facts by which there is a value at a path, each behind those that it needs: `init` of each path down to
+    /// the first variant, then the component at each variant on the way. The variable's type is given, where there is one.
+    pub fn push_facts_to(
+        &self,
+        alloc: Global,
+        of: Option<TypeNo>,
+        p: &Path,
+        out: &mut Vec<Fact>,
+    ) -> Result<(), AllocError>
+        ensures { OnOk result (map fact_view out.new.items ≡ map fact_view out.old.items ++ facts_from self.now.shapes (p.now.var.0 ∷ []) (number_of of) false p.now.parts.items) }
+    {
+        push_facts_to(
+            alloc,
+            self.shapes.as_slice(),
+            of,
+            p.var,
+            p.parts.as_slice(),
+            out,
+        )?;
+        Ok(())
+    }
+
     /// The paths of a type: its root and the paths of its fields, components or parameters, parents first.
     pub fn record_paths(&self, alloc: Global, t: TypeNo) -> Result<Vec<Vec<u32>>, AllocError>
         requires { t.0 < length self.now.shapes }

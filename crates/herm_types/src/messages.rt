@@ -110,7 +110,7 @@ fn push_case(
 }
 
 /// Appends the facts by which there is a value at a path, whose variable has this type.
-fn push_facts_to(
+pub fn push_facts_to(
     alloc: Global,
     shapes: &[Shape],
     of: Option<TypeNo>,

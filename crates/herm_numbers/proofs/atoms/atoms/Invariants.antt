@@ -3,7 +3,8 @@ use Rattle.herm_syntax.specs.View.{atom_view}
 use Rattle.herm_naming.specs.Numbers.{atom_number}
 use Rattle.herm_typed.specs.View.{typed_atom_view}
 use Rattle.herm_numbers.specs.View.{scope_view}
-use Rattle.herm_numbers.specs.Beside.{atom_types, types_among}
+use Rattle.herm_typed.specs.Beside.{atom_types}
+use Rattle.herm_numbers.specs.Beside.{types_among}
 use Rattle.herm_numbers.proofs.atoms.atoms.Given as goal
 
 abbrev pub invariant-list : goal.invariant-list

@@ -1,7 +1,8 @@
 use Rattle.std.proofs.Common.{◌≡◌, map, take}
 use Rattle.herm_numbers.specs.View.{scope_view, behind_product, behind_sum, behind_and, behind_or, product_number, sum_number, and_number, or_number}
 use Rattle.herm_typed.specs.View.{typed_unary_view, typed_prod_view, typed_comp_view, typed_conj_view}
-use Rattle.herm_numbers.specs.Beside.{unary_types, prod_types, comp_types, conj_types, types_read}
+use Rattle.herm_typed.specs.Beside.{unary_types, prod_types, comp_types, conj_types}
+use Rattle.herm_numbers.specs.Beside.{types_read}
 use Rattle.herm_numbers.proofs.expressions.+numbering.Given as goal
 
 abbrev pub invariant-product_operands-products : goal.invariant-product_operands-products

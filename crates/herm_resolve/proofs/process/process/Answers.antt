@@ -11,7 +11,8 @@ use Rattle.herm_resolve.specs.Refused.{places_of}
 use Rattle.herm_resolve.proofs.Refusing.{adds_same, adds_none, found_length}
 use Rattle.herm_resolve.proofs.Within.{scope_same, body_same, found_count, codes_same, places_same, span_count, view_same}
 use Rattle.herm_resolve.proofs.WellFormed.{blocks_formed}
-use Rattle.herm_numbers.specs.Within.{all_statements, all_written}
+use Rattle.herm_typed.specs.Within.{all_statements}
+use Rattle.herm_numbers.specs.Within.{all_written}
 use Rattle.herm_resolve.specs.Entries.{Entry, typed_entry, written_entry}
 use Rattle.herm_resolve.proofs.Entries.{map-twice, body_entries}
 use Rattle.herm_resolve.proofs.WellFormed.{kept_types}

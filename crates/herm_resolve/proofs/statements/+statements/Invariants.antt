@@ -4,7 +4,8 @@ use Rattle.herm_typed.specs.View.{typed_path_view}
 use Rattle.herm_numbers.specs.View.{scope_view}
 use Rattle.herm_numbers.specs.Faults.{codes_found, spans_found, spans_within, body_spans}
 use Rattle.herm_numbers.specs.Statements.{meant, written, arms_meant, arms_written, handlers_meant, port_arms_meant, port_arms_written, body_codes, arms_codes, port_arms_codes, all_spans, all_port_spans, else_spans}
-use Rattle.herm_numbers.specs.Beside.{port_arm_types, port_arm_seen}
+use Rattle.herm_typed.specs.Beside.{port_arm_types}
+use Rattle.herm_numbers.specs.Beside.{port_arm_seen}
 use Rattle.herm_resolve.specs.Entries.{typed_entries, written_entries}
 use Rattle.herm_resolve.proofs.statements.+statements.Given as goal
 

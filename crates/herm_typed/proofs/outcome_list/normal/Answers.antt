@@ -1,18 +1,10 @@
-use Rattle.std.proofs.Common.{◌≡◌, length, map, sym, ap, subst, ◌∙◌, arith, IfOk}
+use Rattle.std.proofs.Common.{◌≡◌, length, map, sym, ap, subst, ◌∙◌, IfOk}
 use Rattle.herm_model.specs.Lists.{range}
 use Rattle.herm_model.specs.Outcomes.{component, arm}
-use Rattle.herm_typed.specs.declared.statements.TypedForm.{Select}
 use Rattle.herm_typed.specs.View.{outcome_view}
-use Rattle.herm_typed.specs.Outcomes.{HasFewArms, normal_of}
-use Rattle.herm_typed.proofs.SeenArms.{case_normal, select_normal, select_count}
+use Rattle.herm_typed.specs.Outcomes.{normal_of}
+use Rattle.herm_typed.proofs.SeenArms.{case_normal, select_normal}
 use Rattle.herm_typed.proofs.outcome_list.normal.Goals as goal
-
-pub select_arms-requires : goal.select_arms-requires
-select_arms-requires c =
-    let few : HasFewArms (Select c.in-Select.arms) = subst HasFewArms c.in-Select.is c.requires in
-    let e = select_count c.in-Select.arms in
-    let f = ap length c.as_slice-arms.ensures.value in
-    omega (arith, few, e, f)
 
 pub returns-in-Case : goal.returns-in-Case
 returns-in-Case c =
