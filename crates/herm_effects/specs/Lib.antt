@@ -1,0 +1,3 @@
+-- What a statement needs, makes and takes away.
+pub mod Rows
+pub mod Pushed
