@@ -46,6 +46,7 @@ module _ (flow : Flow) (ls : List Label) (new : Label) (entry : flow.entry ≡ f
     are_true = record {
       many = length-set ls 0 new ∙ many;
       reached = λ i h. subst (λ n. IsReached flow (node n)) (only-first i h) (subst (IsReached flow) entry-is ([], held_at_start (init (0 ∷ [])), refl));
+      bare = λ i f h. bare i f h (same_or_not 0 i);
       lacking = λ i f h k. subst (Lacks flow f) (only-first i h) (start-lacks f (sym (first-holds f) ∙ subst (λ n. holds_at (slice_set ls 0 new) n f ≡ false) (sym (only-first i h)) k));
       known = λ i f h. inl (same_fact-is f (init (0 ∷ [])) (holding-first i f h));
       begins = λ i to within. (subst (λ n. is_reached (slice_set ls 0 new) n ≡ true) (node-same 0 i (sym entry-is ∙ to)) (ap (map_or false (λ l. l.reached)) here ∙ reached), λ f h. holding-first i f h);
@@ -53,6 +54,10 @@ module _ (flow : Flow) (ls : List Label) (new : Label) (entry : flow.entry ≡ f
     settled = λ i p at h n e m. absurd (true≢false (sym (ap (map_or false (λ l. l.pending)) here ∙ pending) ∙ subst (λ k. is_pending (slice_set ls 0 new) k ≡ false) (sym (only-first i h)) n));
   }
     where
+      bare : (i : ℕ) (f : Fact) → is_reached (slice_set ls 0 new) i ≡ false → (0 ≡ i) ⊎ (0 ≢ i) → holds_at (slice_set ls 0 new) i f ≡ false
+      bare i f h (inl e) = absurd (true≢false (sym (ap (map_or false (λ l. l.reached)) here ∙ reached) ∙ subst (λ n. is_reached (slice_set ls 0 new) n ≡ false) (sym e) h))
+      bare i f h (inr d) = ap (map_or false (λ l. has_fact l.state f)) (set-elsewhere ls 0 i new d) ∙ empty i f
+
       node-same : (m n : ℕ) → node m ≡ node n → m ≡ n
       node-same m n e = cc
 

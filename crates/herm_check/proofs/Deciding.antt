@@ -1,13 +1,13 @@
 -- Tests of each element of a list.
-use Rattle.std.proofs.Common.{◌≡◌, ◌⊎◌, inl, inr, ℕ, zero, suc, ◌+◌, ◌<◌, ◌≤◌, List, [], ◌∷◌, ◌++◌, map, take, drop, get_or, length, Bool, true, false, ◌||◌, refl, sym, ◌∙◌, ap, subst, arith, true≢false}
+use Rattle.std.proofs.Common.{◌≡◌, ◌⊎◌, inl, inr, ℕ, zero, suc, ◌+◌, ◌<◌, ◌≤◌, List, [], ◌∷◌, ◌++◌, map, take, drop, get_or, length, Bool, true, false, ◌||◌, sym, ◌∙◌, ap, subst, arith, true≢false}
 use Rattle.std.proofs.lemmas.List.{map_more, take_all}
 use Rattle.herm_model.specs.Lists.{IsIn, any_pass}
 use Rattle.herm_model.specs.Outcomes.{Outcome, same_outcome}
 use Rattle.herm_model.specs.ControlPaths as paths
 use Rattle.herm_model.proofs.Reached.{same_outcome_self}
 use Rattle.herm_typed.specs.View.{outcome_view}
-use Rattle.herm_check.specs.declared.flow.Edge.{Edge}
-use Rattle.herm_check.specs.View.{edge_view}
+use Rattle.herm_flow.specs.declared.flow.Edge.{Edge}
+use Rattle.herm_flow.specs.View.{edge_view}
 
 before-or-last : {X : Type 0} (xs : List X) (x y : X) → IsIn y (xs ++ x ∷ []) → IsIn y xs ⊎ (y ≡ x)
 before-or-last [] x y (inl e) = inr e

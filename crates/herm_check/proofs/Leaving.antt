@@ -14,7 +14,7 @@ use Rattle.herm_check.specs.Labelled.{is_reached, is_pending, holds_at, all_fact
 use Rattle.herm_check.proofs.Paths.{edge-reached, edge-lacks}
 use Rattle.herm_check.specs.Followed.{IsJoined, IsFollowed, ends, joins}
 use Rattle.herm_check.specs.Weights.{weight}
-use Rattle.herm_check.proofs.Joined.{set-weight, same_or_not, pending-here, holds-here, reached-before, pending-before, holds-before, reached-elsewhere, pending-elsewhere, holds-elsewhere, joined-after, goes-kept, goes-new}
+use Rattle.herm_check.proofs.Joined.{set-weight, same_or_not, reached-here, pending-here, holds-here, reached-before, pending-before, holds-before, reached-elsewhere, pending-elsewhere, holds-elsewhere, joined-after, goes-kept, goes-new}
 
 passes-IsIn : (f : Fact) (fs : List Fact) → any_pass (same_fact f) fs ≡ true → IsIn f fs
 passes-IsIn f [] h = absurd (true≢false (sym h))
@@ -64,6 +64,7 @@ module _ (flow : Flow) (differ : EdgesDiffer flow) (i : ℕ) (p : Point) (e : Ed
   kept-true h = record {
     many = length-set ls t new ∙ h.many;
     reached = λ j k. reached j k (same_or_not t j);
+    bare = λ j f k. bare j f k (same_or_not t j);
     lacking = λ j f k m. lacking j f k m (same_or_not t j);
     known = λ j f k. known_at j f k (same_or_not t j);
     begins = goes-kept ls t l new after joined flow.entry held_at_start h.begins;
@@ -72,6 +73,10 @@ module _ (flow : Flow) (differ : EdgesDiffer flow) (i : ℕ) (p : Point) (e : Ed
       reached : (j : ℕ) → is_reached (slice_set ls t new) j ≡ true → (t ≡ j) ⊎ (t ≢ j) → IsReached flow (node j)
       reached j k (inl q) = subst (λ n. IsReached flow (node n)) q (subst (IsReached flow) to (edge-reached flow differ i p e is member leaves))
       reached j k (inr d) = h.reached j (sym (reached-elsewhere ls t l new after joined j d) ∙ k)
+
+      bare : (j : ℕ) (f : Fact) → is_reached (slice_set ls t new) j ≡ false → (t ≡ j) ⊎ (t ≢ j) → holds_at (slice_set ls t new) j f ≡ false
+      bare j f k (inl q) = absurd (true≢false (sym (reached-here ls t l new after joined) ∙ subst (λ n. is_reached (slice_set ls t new) n ≡ false) (sym q) k))
+      bare j f k (inr d) = holds-elsewhere ls t l new after joined j f d ∙ h.bare j f (sym (reached-elsewhere ls t l new after joined j d) ∙ k)
 
       lacking : (j : ℕ) (f : Fact) → is_reached (slice_set ls t new) j ≡ true → holds_at (slice_set ls t new) j f ≡ false → (t ≡ j) ⊎ (t ≢ j) → Lacks flow f j
       lacking j f k m (inl q) = subst (Lacks flow f) q (new-lacks h f (sym (holds-here ls t l new after joined f) ∙ subst (λ n. holds_at (slice_set ls t new) n f ≡ false) (sym q) m))

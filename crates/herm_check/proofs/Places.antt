@@ -6,9 +6,9 @@ use Rattle.herm_model.specs.Targets.{node}
 use Rattle.herm_model.specs.laws.FlowLaws.{first_of}
 use Rattle.herm_model.proofs.Lists.{in-map, slice_get-map}
 use Rattle.herm_model.proofs.FactTests.{got-IsIn}
-use Rattle.herm_check.specs.declared.flow.Edge.{Edge}
-use Rattle.herm_check.specs.declared.flow.Point.{Point}
-use Rattle.herm_check.specs.View.{edge_view, point_view}
+use Rattle.herm_flow.specs.declared.flow.Edge.{Edge}
+use Rattle.herm_flow.specs.declared.flow.Point.{Point}
+use Rattle.herm_flow.specs.View.{edge_view, point_view}
 
 pub edge-in : (p : Point) (items : List Edge) (k : ℕ) (e : Edge) → items ≡ p.edges.items → k < length items → e ≡ get_or items k e → IsIn (edge_view e) (point_view p).edges
 edge-in p items k e same within is = subst (λ es. IsIn (edge_view e) (map edge_view es)) same (in-map edge_view e items (got-IsIn items k e (slice_get_read items (length items) k e refl within is)))

@@ -32,6 +32,7 @@ module _ (flow : Flow) (ls : List Label) (i : ℕ) (l new : Label) (old : slice_
     are_true = record {
       many = length-set ls i new ∙ h.are_true.many;
       reached = λ j k. h.are_true.reached j (sym (same-reached j) ∙ k);
+      bare = λ j f k. same-holds j f ∙ h.are_true.bare j f (sym (same-reached j) ∙ k);
       lacking = λ j f k m. h.are_true.lacking j f (sym (same-reached j) ∙ k) (sym (same-holds j f) ∙ m);
       known = λ j f k. h.are_true.known j f (sym (same-holds j f) ∙ k);
       begins = same-goes flow.entry held_at_start h.are_true.begins;

@@ -34,10 +34,12 @@ Carries ls e before = Goes ls e.target (λ f. held_after_edge e f (before f))
 abbrev pub IsSettled : Flow → List Label → ℕ → Type 0
 IsSettled flow ls i = (p : Point) → slice_get flow.points i ≡ Some p → is_reached ls i ≡ true → is_pending ls i ≡ false → (e : Edge) → IsIn e p.edges → Carries ls e (holds_at ls i)
 
--- Labels tell the truth where they say that a point is reached, or that a fact is not held on some path.
+-- Labels tell the truth where they say that a point is reached, or that a fact is not held on some path. A point that is not
+-- reached has no facts.
 pub record AreTrue (flow : Flow) (ls : List Label) : Type 0 where
   pub many : length ls ≡ length flow.points
   pub reached : (i : ℕ) → is_reached ls i ≡ true → IsReached flow (node i)
+  pub bare : (i : ℕ) (f : Fact) → is_reached ls i ≡ false → holds_at ls i f ≡ false
   pub lacking : (i : ℕ) (f : Fact) → is_reached ls i ≡ true → holds_at ls i f ≡ false → Lacks flow f i
   pub known : (i : ℕ) (f : Fact) → holds_at ls i f ≡ true → IsIn f (all_facts flow)
   pub begins : Goes ls flow.entry held_at_start

@@ -4,9 +4,9 @@ ghost use Rattle.herm_model.specs.Lists.{any_pass};
 ghost use Rattle.herm_model.specs.Paths as model;
 ghost use Rattle.herm_model.specs.ControlPaths.{held_after_edge};
 ghost use Rattle.herm_types.specs.View.{path_view, fact_view};
-ghost use Rattle.herm_check.specs.View.{edge_view};
+ghost use Rattle.herm_flow.specs.View.{edge_view};
 
-use crate::flow::Edge;
+use herm_flow::Edge;
 use herm_types::{Fact, Path};
 
 fn same_path(a: &Path, b: &Path) -> bool

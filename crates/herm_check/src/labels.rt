@@ -7,16 +7,17 @@ ghost use Rattle.herm_model.specs.ControlPaths.{IsReached, Lacks};
 ghost use Rattle.herm_model.specs.laws.FlowLaws.{EdgesDiffer, IsThere};
 ghost use Rattle.herm_model.specs.Labels.{AreExact};
 ghost use Rattle.herm_check.specs.declared.label.Label.{Label as LabelOf};
-ghost use Rattle.herm_check.specs.View.{labels_view, edge_view, flow_view};
+ghost use Rattle.herm_flow.specs.View.{edge_view, flow_view};
+ghost use Rattle.herm_check.specs.View.{labels_view};
 ghost use Rattle.herm_check.specs.Weights.{weight};
 ghost use Rattle.herm_check.specs.Labelled.{is_reached, is_pending, holds_at, all_facts, AreLabels, AreDone, IsLeft, LeadThere};
 ghost use Rattle.herm_check.specs.Followed.{IsFollowed};
 ghost use Rattle.herm_typestate.specs.Facts.{has_fact};
 
-use crate::behind::behind;
-use crate::flow::{Edge, Flow, Target};
+use crate::behind_edge::behind;
 use crate::label::{Label, join};
 use herm_base::VarNo;
+use herm_flow::{Edge, Flow, Target};
 use herm_types::{Fact, Path};
 use herm_typestate::{Labels, State};
 use std::alloc::{AllocError, Global};
@@ -186,6 +187,7 @@ pub fn labels_of(alloc: Global, flow: &Flow, vars: usize) -> Result<Labels, Allo
     requires there { LeadThere (flow_view flow.now) }
     ensures many { IfOk result (λ labels. length labels.at.items ≡ length flow.now.points.items) }
     ensures exact { IfOk result (λ labels. AreExact (flow_view flow.now) (labels_view labels)) }
+    ensures unreached { IfOk result (λ labels. (i : ℕ) (f : FactOf) → (IsReached (flow_view flow.now) (node i) → ⊥) → labels_view labels i f ≡ false) }
 {
     let settled = settled(alloc, flow, vars)?;
     let at = states(alloc, settled)?;

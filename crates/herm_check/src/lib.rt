@@ -1,17 +1,16 @@
 //! Which facts are held at each point of a flow, and which needed ones are not.
 #![tactic(auto)]
 
-mod behind;
+mod behind_edge;
 mod checking;
-mod flow;
 mod held;
 mod label;
 mod labels;
 mod missing;
 mod search;
 
+pub use behind_edge::behind;
 pub use checking::{CheckFault, check};
-pub use flow::{Edge, Flow, Point, Target};
 pub use labels::labels_of;
 pub use missing::MissingFact;
 pub use search::Hop;

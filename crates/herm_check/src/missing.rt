@@ -8,14 +8,15 @@ ghost use Rattle.herm_model.specs.Labels.{AreExact};
 ghost use Rattle.herm_model.specs.laws.FlowLaws.{EdgesDiffer};
 ghost use Rattle.herm_types.specs.View.{path_view, fact_view};
 ghost use Rattle.herm_typestate.specs.Facts.{has_fact};
-ghost use Rattle.herm_check.specs.View.{labels_view, point_view, flow_view};
+ghost use Rattle.herm_flow.specs.View.{point_view, flow_view};
+ghost use Rattle.herm_check.specs.View.{labels_view};
 ghost use Rattle.herm_check.specs.Labelled.{LeadThere};
 ghost use Rattle.herm_check.specs.Shortest.{AreReported};
 ghost use Rattle.herm_check.specs.Missing.{refusal_view, demand};
 
-use crate::flow::{Flow, Point};
 use crate::search::{Hop, shortest_path};
 use herm_base::StmtNo;
+use herm_flow::{Flow, Point};
 use herm_types::{Fact, Path};
 use herm_typestate::{Labels, State};
 use std::alloc::{AllocError, Global};

@@ -6,15 +6,15 @@ ghost use Rattle.herm_model.specs.Outcomes as outcomes;
 ghost use Rattle.herm_model.specs.ControlPaths as paths;
 ghost use Rattle.herm_model.specs.laws.FlowLaws.{EdgesDiffer, IsThere};
 ghost use Rattle.herm_typed.specs.View.{outcome_view};
-ghost use Rattle.herm_check.specs.declared.flow.Edge.{Edge as EdgeOf};
-ghost use Rattle.herm_check.specs.View.{target_view, edge_view, flow_view};
+ghost use Rattle.herm_flow.specs.declared.flow.Edge.{Edge as EdgeOf};
+ghost use Rattle.herm_flow.specs.View.{target_view, edge_view, flow_view};
 ghost use Rattle.herm_check.specs.Labelled.{LeadThere, is_reached};
 
 use crate::checking::{CheckFault, check};
-use crate::flow::{Edge, Flow, Target};
 use crate::label::Label;
 use crate::labels::settled;
 use crate::missing::MissingFact;
+use herm_flow::{Edge, Flow, Target};
 use herm_typed::Outcome;
 use std::alloc::Global;
 

@@ -4,14 +4,15 @@ ghost use Rattle.herm_model.specs.Targets.{node};
 ghost use Rattle.herm_model.specs.ControlPaths.{Holds, held_at_start};
 ghost use Rattle.herm_model.specs.laws.FlowLaws.{EdgesDiffer};
 ghost use Rattle.herm_types.specs.View.{fact_view};
-ghost use Rattle.herm_check.specs.View.{edge_view, flow_view, hop_view};
+ghost use Rattle.herm_flow.specs.View.{edge_view, flow_view};
+ghost use Rattle.herm_check.specs.View.{hop_view};
 ghost use Rattle.herm_check.specs.Labelled.{LeadThere};
 ghost use Rattle.herm_check.specs.Shortest.{IsShortest};
 ghost use Rattle.herm_check.specs.Searched.{slot_of, LeadBack, IsTrail, IsVisited, IsFollowedFrom, IsSearch, AreLeft, IsNear, IsKept, IsNearest};
 
-use crate::flow::{Edge, Flow, Target};
 use crate::held::is_held_behind;
 use herm_base::StmtNo;
+use herm_flow::{Edge, Flow, Target};
 use herm_typed::Outcome;
 use herm_types::Fact;
 use std::alloc::{AllocError, Global};

@@ -4,6 +4,7 @@
 use super::ready::missing_in;
 use super::*;
 use herm_base::{ExcNo, StmtNo, VarNo};
+use herm_flow::{Edge, Flow, Point, Target};
 use herm_typed::Outcome;
 use herm_types::{Fact, Path};
 use std::alloc::{AllocError, Global};

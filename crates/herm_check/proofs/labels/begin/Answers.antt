@@ -5,7 +5,7 @@ use Rattle.herm_model.specs.Paths.{init, same_fact}
 use Rattle.herm_model.specs.laws.FlowLaws.{first_of}
 use Rattle.herm_model.proofs.Lists.{length-map}
 use Rattle.herm_typestate.specs.Facts.{has_fact}
-use Rattle.herm_check.specs.View.{point_view, flow_view}
+use Rattle.herm_flow.specs.View.{point_view, flow_view}
 use Rattle.herm_check.proofs.Beginning.{begun}
 use Rattle.herm_check.proofs.labels.begin.Goals as goal
 

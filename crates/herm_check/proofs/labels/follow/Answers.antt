@@ -2,7 +2,7 @@ use Rattle.std.proofs.Common.{◌≡◌, ◌<◌, ℕ, length, ap, subst, refl}
 use Rattle.std.proofs.lemmas.Option.{slice_get_read}
 use Rattle.herm_model.specs.Targets.{Target, node, end, end_by}
 use Rattle.herm_model.specs.laws.FlowLaws.{IsThere}
-use Rattle.herm_check.specs.View.{target_view}
+use Rattle.herm_flow.specs.View.{target_view}
 use Rattle.herm_check.specs.Followed.{ends, joins}
 use Rattle.herm_check.proofs.labels.follow.Goals as goal
 

@@ -3,7 +3,7 @@ use Rattle.std.proofs.lemmas.List.{map_more, take_all}
 use Rattle.herm_model.specs.laws.FlowLaws.{IsThere}
 use Rattle.herm_model.proofs.FactTests.{got-IsIn}
 use Rattle.herm_typestate.specs.Facts.{has_fact}
-use Rattle.herm_check.specs.View.{edge_view, point_view, flow_view}
+use Rattle.herm_flow.specs.View.{edge_view, point_view, flow_view}
 use Rattle.herm_check.specs.Labelled.{all_facts, IsLeft}
 use Rattle.herm_check.proofs.Leaving.{left-followed, followed-weight, all-left}
 use Rattle.herm_check.proofs.Places.{edge-in, point-at}

@@ -1,6 +1,6 @@
 use Rattle.std.proofs.Common.{◌≤◌, map, take}
 use Rattle.herm_typestate.specs.Facts.{has_fact}
-use Rattle.herm_check.specs.View.{edge_view, flow_view}
+use Rattle.herm_flow.specs.View.{edge_view, flow_view}
 use Rattle.herm_check.specs.Weights.{weight}
 use Rattle.herm_check.specs.Labelled.{all_facts, IsLeft}
 use Rattle.herm_check.proofs.labels.follow_all.Given as goal

@@ -3,7 +3,7 @@ use Rattle.std.proofs.lemmas.Option.{slice_get_read}
 use Rattle.herm_model.specs.Lists.{map_or}
 use Rattle.herm_typestate.specs.Facts.{has_fact}
 use Rattle.herm_check.specs.declared.label.Label.{Label}
-use Rattle.herm_check.specs.View.{flow_view}
+use Rattle.herm_flow.specs.View.{flow_view}
 use Rattle.herm_check.specs.Labelled.{all_facts}
 use Rattle.herm_check.proofs.Joined.{set-lighter}
 use Rattle.herm_check.proofs.Counts.{weight-left}

@@ -1,4 +1,4 @@
-use Rattle.herm_check.specs.View.{flow_view}
+use Rattle.herm_flow.specs.View.{flow_view}
 use Rattle.herm_check.specs.Weights.{weight}
 use Rattle.herm_check.specs.Labelled.{all_facts, AreLabels}
 use Rattle.herm_check.proofs.labels.settled.Given as goal

@@ -7,7 +7,7 @@ use Rattle.herm_model.specs.Refusals.{demands_at}
 use Rattle.herm_model.proofs.Lists.{length-map}
 use Rattle.herm_typestate.specs.declared.state.State.{State}
 use Rattle.herm_typestate.specs.Facts.{has_fact}
-use Rattle.herm_check.specs.View.{point_view, flow_view}
+use Rattle.herm_flow.specs.View.{point_view, flow_view}
 use Rattle.herm_check.specs.Shortest.{AreReported, none}
 use Rattle.herm_check.specs.Missing.{refusal_view}
 use Rattle.herm_check.proofs.Reported.{demands-more}

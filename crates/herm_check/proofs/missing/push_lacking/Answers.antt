@@ -1,7 +1,8 @@
 use Rattle.std.proofs.Common.{◌++◌, ◌∷◌, [], map, IfSome, sym, ◌∙◌, ap, subst}
 use Rattle.herm_types.specs.View.{fact_view}
 use Rattle.herm_check.specs.declared.missing.MissingFact.{MissingFact}
-use Rattle.herm_check.specs.View.{flow_view, hop_view}
+use Rattle.herm_flow.specs.View.{flow_view}
+use Rattle.herm_check.specs.View.{hop_view}
 use Rattle.herm_check.specs.Shortest.{IsShortest, AreReported}
 use Rattle.herm_check.specs.Missing.{refusal_view, demand}
 use Rattle.herm_check.proofs.Reported.{map-last, reported-held, reported-missing}

@@ -1,7 +1,7 @@
 use Rattle.std.proofs.Common.{◌++◌, ◌∷◌, [], map, take, sym, ◌∙◌, ap, subst, append_assoc, append-nil}
 use Rattle.std.proofs.lemmas.List.{map_more, take_all}
 use Rattle.herm_types.specs.View.{fact_view}
-use Rattle.herm_check.specs.View.{flow_view}
+use Rattle.herm_flow.specs.View.{flow_view}
 use Rattle.herm_check.specs.Shortest.{AreReported}
 use Rattle.herm_check.specs.Missing.{refusal_view, demand}
 use Rattle.herm_check.proofs.Reported.{map-last}

@@ -1,7 +1,7 @@
 use Rattle.std.proofs.Common.{◌++◌, List, map, take}
 use Rattle.herm_model.specs.Refusals.{Demand}
 use Rattle.herm_types.specs.View.{fact_view}
-use Rattle.herm_check.specs.View.{flow_view}
+use Rattle.herm_flow.specs.View.{flow_view}
 use Rattle.herm_check.specs.Shortest.{AreReported}
 use Rattle.herm_check.specs.Missing.{refusal_view, demand}
 use Rattle.herm_check.proofs.missing.push_point.Given as goal

@@ -1,7 +1,7 @@
 use Rattle.std.proofs.Common.{map, subst}
 use Rattle.herm_model.specs.Statements.{Differ}
 use Rattle.herm_model.specs.ControlPaths.{Edge, Point}
-use Rattle.herm_check.specs.View.{edge_view, point_view}
+use Rattle.herm_flow.specs.View.{edge_view, point_view}
 use Rattle.herm_check.proofs.Deciding.{all-more}
 use Rattle.herm_check.proofs.ready.all_differ.Goals as goal
 

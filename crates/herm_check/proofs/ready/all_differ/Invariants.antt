@@ -2,7 +2,7 @@ use Rattle.std.proofs.Common.{map, take}
 use Rattle.herm_model.specs.Lists.{IsIn}
 use Rattle.herm_model.specs.Statements.{Differ}
 use Rattle.herm_model.specs.ControlPaths.{Edge, Point}
-use Rattle.herm_check.specs.View.{point_view}
+use Rattle.herm_flow.specs.View.{point_view}
 use Rattle.herm_check.proofs.ready.all_differ.Given as goal
 
 abbrev pub invariant-loop-point : goal.invariant-loop-point

@@ -1,9 +1,9 @@
-use Rattle.std.proofs.Common.{◌≡◌, map, length, sym, ◌∙◌, ap, subst, arith}
+use Rattle.std.proofs.Common.{◌≡◌, map, length, sym, subst, arith}
 use Rattle.herm_model.specs.Lists.{IsIn}
 use Rattle.herm_model.specs.ControlPaths.{Edge, Point}
 use Rattle.herm_model.specs.laws.FlowLaws.{IsThere}
 use Rattle.herm_model.proofs.Lists.{length-map}
-use Rattle.herm_check.specs.View.{edge_view, point_view}
+use Rattle.herm_flow.specs.View.{edge_view, point_view}
 use Rattle.herm_check.proofs.Deciding.{all-more, all-done}
 use Rattle.herm_check.proofs.ready.all_lead_there.Goals as goal
 

@@ -1,12 +1,12 @@
-use Rattle.std.proofs.Common.{◌≡◌, ◌+◌, ◌-◌, ◌≤◌, false, get_or, length, map, drop, take, sym, ◌∙◌, subst, arith}
+use Rattle.std.proofs.Common.{◌≡◌, ◌+◌, ◌-◌, false, get_or, length, map, drop, sym, ◌∙◌, subst, arith}
 use Rattle.std.proofs.lemmas.List.{take_all, length-drop}
 use Rattle.herm_model.specs.Lists.{any_pass}
 use Rattle.herm_model.specs.Outcomes.{same_outcome}
 use Rattle.herm_model.specs.Statements.{Differ}
 use Rattle.herm_model.specs.ControlPaths as paths
 use Rattle.herm_typed.specs.View.{outcome_view}
-use Rattle.herm_check.specs.declared.flow.Edge.{Edge}
-use Rattle.herm_check.specs.View.{edge_view}
+use Rattle.herm_flow.specs.declared.flow.Edge.{Edge}
+use Rattle.herm_flow.specs.View.{edge_view}
 use Rattle.herm_check.proofs.Deciding.{drop-step, apart}
 use Rattle.herm_check.proofs.ready.differ.Goals as goal
 

@@ -1,6 +1,6 @@
 use Rattle.herm_model.specs.ControlPaths.{Edge}
 use Rattle.herm_model.specs.laws.FlowLaws.{IsThere}
-use Rattle.herm_check.specs.View.{edge_view}
+use Rattle.herm_flow.specs.View.{edge_view}
 use Rattle.herm_check.proofs.Deciding.{all-more, all-done}
 use Rattle.herm_check.proofs.ready.lead_there.Goals as goal
 

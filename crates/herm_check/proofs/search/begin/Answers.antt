@@ -1,7 +1,7 @@
 use Rattle.std.proofs.Common.{◌≡◌, ◌*◌, length, replicate, false, None, refl, subst, arith}
 use Rattle.herm_model.proofs.Lists.{length-map}
 use Rattle.herm_types.specs.View.{fact_view}
-use Rattle.herm_check.specs.View.{flow_view, point_view}
+use Rattle.herm_flow.specs.View.{flow_view, point_view}
 use Rattle.herm_check.specs.Searched.{IsVisited, IsSearch}
 use Rattle.herm_check.specs.declared.search.Visit.{Visit}
 use Rattle.herm_check.proofs.Following.{first-visit}

@@ -1,7 +1,7 @@
 use Rattle.std.proofs.Common.{◌<◌, length, refl, sym, ◌∙◌, arith}
 use Rattle.std.proofs.lemmas.Option.{slice_get_read, slice_get_within}
 use Rattle.herm_types.specs.View.{fact_view}
-use Rattle.herm_check.specs.View.{flow_view}
+use Rattle.herm_flow.specs.View.{flow_view}
 use Rattle.herm_check.proofs.Places.{first-node}
 use Rattle.herm_check.proofs.Searched.{least-found, all-hold}
 use Rattle.herm_check.proofs.Following.{near-left, lost-at, not-lost, missed-more}

@@ -1,6 +1,6 @@
 use Rattle.std.proofs.Common.{◌≡◌, ◌*◌, ◌-◌, ◌<◌, ◌≤◌, ℕ, false, Some, length, slice_get}
 use Rattle.herm_types.specs.View.{fact_view}
-use Rattle.herm_check.specs.View.{flow_view}
+use Rattle.herm_flow.specs.View.{flow_view}
 use Rattle.herm_check.specs.declared.search.Visit.{Visit}
 use Rattle.herm_check.specs.Searched.{IsSearch, IsNear, AreLeft}
 use Rattle.herm_check.proofs.search.find.Given as goal

@@ -1,6 +1,6 @@
 use Rattle.std.proofs.Common.{◌≡◌, ℕ, ap, refl}
 use Rattle.herm_model.specs.Targets.{Target, node, end, end_by}
-use Rattle.herm_check.specs.View.{target_view}
+use Rattle.herm_flow.specs.View.{target_view}
 use Rattle.herm_check.specs.Searched.{ends, leads}
 use Rattle.herm_check.proofs.search.follow.Goals as goal
 

@@ -5,9 +5,9 @@ use Rattle.herm_model.specs.laws.FlowLaws.{IsThere}
 use Rattle.herm_model.proofs.Lists.{length-map}
 use Rattle.herm_model.proofs.FactTests.{got-IsIn}
 use Rattle.herm_types.specs.View.{fact_view}
-use Rattle.herm_check.specs.declared.flow.Point.{Point}
+use Rattle.herm_flow.specs.declared.flow.Point.{Point}
 use Rattle.herm_check.specs.declared.search.Visit.{Visit}
-use Rattle.herm_check.specs.View.{edge_view, point_view, flow_view}
+use Rattle.herm_flow.specs.View.{edge_view, point_view, flow_view}
 use Rattle.herm_check.proofs.Places.{edge-in, point-at}
 use Rattle.herm_check.proofs.Searched.{one-at, depth-within}
 use Rattle.herm_check.proofs.Following.{IsFollowing, followed, follows, left-more}

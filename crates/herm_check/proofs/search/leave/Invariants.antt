@@ -1,6 +1,6 @@
 use Rattle.std.proofs.Common.{map, take}
 use Rattle.herm_types.specs.View.{fact_view}
-use Rattle.herm_check.specs.View.{edge_view, flow_view}
+use Rattle.herm_flow.specs.View.{edge_view, flow_view}
 use Rattle.herm_check.proofs.Following.{IsFollowing}
 use Rattle.herm_check.proofs.search.leave.Given as goal
 

@@ -1,6 +1,7 @@
 use Rattle.std.proofs.Common.{map, length, IfSome, subst}
 use Rattle.herm_types.specs.View.{fact_view}
-use Rattle.herm_check.specs.View.{flow_view, hop_view}
+use Rattle.herm_flow.specs.View.{flow_view}
+use Rattle.herm_check.specs.View.{hop_view}
 use Rattle.herm_check.specs.Searched.{IsTrail, IsNearest}
 use Rattle.herm_check.proofs.Places.{first-node}
 use Rattle.herm_check.proofs.Searched.{nearest-shortest}

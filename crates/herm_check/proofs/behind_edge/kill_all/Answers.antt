@@ -4,7 +4,7 @@ use Rattle.herm_model.specs.Paths.{Path, path_of, is_at_or_below}
 use Rattle.herm_types.specs.View.{path_view}
 use Rattle.herm_typestate.specs.Facts.{has_fact}
 use Rattle.herm_check.proofs.Carried.{any-more, killed-more}
-use Rattle.herm_check.proofs.behind.kill_all.Goals as goal
+use Rattle.herm_check.proofs.behind_edge.kill_all.Goals as goal
 
 pub loop-path-preserved : goal.loop-path-preserved
 loop-path-preserved c f =

@@ -4,7 +4,7 @@ use Rattle.herm_model.specs.Paths.{same_fact}
 use Rattle.herm_types.specs.View.{fact_view}
 use Rattle.herm_typestate.specs.Facts.{has_fact}
 use Rattle.herm_check.proofs.Carried.{any-more, made-more}
-use Rattle.herm_check.proofs.behind.make_all.Goals as goal
+use Rattle.herm_check.proofs.behind_edge.make_all.Goals as goal
 
 pub loop-fact-preserved : goal.loop-fact-preserved
 loop-fact-preserved c f =

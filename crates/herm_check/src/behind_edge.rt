@@ -6,9 +6,9 @@ ghost use Rattle.herm_model.specs.Paths.{path_of, same_fact, is_at_or_below};
 ghost use Rattle.herm_model.specs.ControlPaths.{held_after_edge};
 ghost use Rattle.herm_types.specs.View.{path_view, fact_view};
 ghost use Rattle.herm_typestate.specs.Facts.{has_fact};
-ghost use Rattle.herm_check.specs.View.{edge_view};
+ghost use Rattle.herm_flow.specs.View.{edge_view};
 
-use crate::flow::Edge;
+use herm_flow::Edge;
 use herm_types::{Fact, Path};
 use herm_typestate::State;
 use std::alloc::{AllocError, Global};

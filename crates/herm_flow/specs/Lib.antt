@@ -1,0 +1,8 @@
+-- Flows as the model's.
+pub mod View
+pub mod Parts
+pub mod Starts
+pub mod Edges
+pub mod Around
+pub mod Known
+pub mod Ready

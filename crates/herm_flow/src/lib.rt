@@ -1,0 +1,13 @@
+//! The flow of a process: its statements as points, and where each outcome leads.
+#![tactic(auto)]
+
+mod counts;
+mod edges;
+mod flow;
+mod parts;
+mod process;
+mod starts;
+mod walk;
+
+pub use flow::{Edge, Flow, Point, Target};
+pub use process::flow_of;
