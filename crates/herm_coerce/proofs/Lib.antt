@@ -1,0 +1,3 @@
+pub mod Excess
+pub mod Rows
+pub mod Dropping

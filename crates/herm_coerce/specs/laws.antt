@@ -1,0 +1,2 @@
+-- What is proved of coercions.
+pub mod CoercionLaws

@@ -1,0 +1,195 @@
+//! The paths that each edge of a flow finalises.
+ghost use Rattle.std.specs.Prelude.{◌≡◌, ◌∷◌, [], cond, false, map, IfOk, ◌&&◌, nat_lt, length};
+ghost use Rattle.herm_model.specs.Paths as model;
+ghost use Rattle.herm_model.specs.Labels.{label_at};
+ghost use Rattle.herm_model.specs.laws.ExcessLaws.{IsExcess};
+ghost use Rattle.herm_types.specs.View.{path_view};
+ghost use Rattle.herm_typestate.specs.Facts.{has_fact};
+ghost use Rattle.herm_flow.specs.View.{target_view, edge_view, point_view, flow_view};
+ghost use Rattle.herm_check.specs.View.{labels_view};
+ghost use Rattle.herm_coerce.specs.View.{coercions_view};
+ghost use Rattle.herm_coerce.specs.Coerced.{IsDropped, AreDropped, ArePointsDropped, IsEntryDropped, AreCoercions};
+
+use herm_base::VarNo;
+use herm_check::behind;
+use herm_flow::{Edge, Flow, Point, Target};
+use herm_types::{Fact, Path};
+use herm_typestate::{Labels, State};
+use std::alloc::{AllocError, Global};
+
+/// The paths that are finalised where a process begins, and by the places of points and of their edges those that are finalised
+/// behind an edge.
+#[derive(Drop)]
+pub struct Coercions {
+    pub entry: Vec<Path>,
+    pub at: Vec<Vec<Vec<Path>>>,
+}
+
+/// What is left of the facts where none is kept.
+fn beyond_nothing(alloc: Global, state: &State) -> Result<Vec<Path>, AllocError>
+    ensures { IfOk result (λ paths. IsExcess (has_fact state.now) (λ f. false) (map path_view paths.items)) }
+{
+    let nothing = State::empty(alloc, 0)?;
+    let paths = state.excess(alloc, &nothing)?;
+    Ok(paths)
+}
+
+/// What is left of the facts beyond the label of a point.
+fn beyond_point(
+    alloc: Global,
+    state: &State,
+    labels: &Labels,
+    at: u32,
+) -> Result<Vec<Path>, AllocError>
+    ensures { IfOk result (λ paths. IsExcess (has_fact state.now) (labels_view labels.now at) (map path_view paths.items)) }
+{
+    match labels.at.as_slice().get(at as usize) {
+        Some(low) => {
+            let paths = state.excess(alloc, low)?;
+            Ok(paths)
+        }
+        None => {
+            let paths = beyond_nothing(alloc, state)?;
+            Ok(paths)
+        }
+    }
+}
+
+/// What is left of the facts beyond the label of a target.
+fn beyond(
+    alloc: Global,
+    state: &State,
+    labels: &Labels,
+    to: Target,
+) -> Result<Vec<Path>, AllocError>
+    ensures { IfOk result (λ paths. IsExcess (has_fact state.now) (label_at (labels_view labels.now) (target_view to)) (map path_view paths.items)) }
+{
+    match to {
+        Target::Point(at) => {
+            let paths = beyond_point(alloc, state, labels, at)?;
+            Ok(paths)
+        }
+        Target::End => {
+            let paths = beyond_nothing(alloc, state)?;
+            Ok(paths)
+        }
+        Target::EndBy(_) => {
+            let paths = beyond_nothing(alloc, state)?;
+            Ok(paths)
+        }
+    }
+}
+
+/// What an edge finalises, where these facts are held before it.
+fn dropped(
+    alloc: Global,
+    state: &State,
+    labels: &Labels,
+    edge: &Edge,
+) -> Result<Vec<Path>, AllocError>
+    ensures { IfOk result (λ paths. IsDropped (labels_view labels.now) (has_fact state.now) (edge_view edge.now) (map path_view paths.items)) }
+{
+    let after = behind(alloc, state, edge)?;
+    let paths = beyond(alloc, &after, labels, edge.to)?;
+    Ok(paths)
+}
+
+/// What each edge finalises.
+fn all_dropped(
+    alloc: Global,
+    state: &State,
+    labels: &Labels,
+    edges: &[Edge],
+) -> Result<Vec<Vec<Path>>, AllocError>
+    ensures { IfOk result (λ found. AreDropped (labels_view labels.now) (has_fact state.now) (map edge_view edges.now) (map (λ e. map path_view e.items) found.items)) }
+{
+    let mut found = Vec::new(alloc);
+    for edge in edges {
+        found.push(dropped(alloc, state, labels, edge)?)?;
+    }
+    Ok(found)
+}
+
+/// What each edge of the point at a place finalises.
+fn dropped_at(
+    alloc: Global,
+    labels: &Labels,
+    at: usize,
+    point: &Point,
+) -> Result<Vec<Vec<Path>>, AllocError>
+    ensures { IfOk result (λ found. AreDropped (labels_view labels.now) (labels_view labels.now at) (point_view point.now).edges (map (λ e. map path_view e.items) found.items)) }
+{
+    match labels.at.as_slice().get(at) {
+        Some(state) => {
+            let found = all_dropped(alloc, state, labels, point.edges.as_slice())?;
+            Ok(found)
+        }
+        None => {
+            let nothing = State::empty(alloc, 0)?;
+            let found = all_dropped(alloc, &nothing, labels, point.edges.as_slice())?;
+            Ok(found)
+        }
+    }
+}
+
+/// What the edges of each point finalise.
+fn edges_dropped(
+    alloc: Global,
+    flow: &Flow,
+    labels: &Labels,
+) -> Result<Vec<Vec<Vec<Path>>>, AllocError>
+    ensures { IfOk result (λ found. ArePointsDropped (labels_view labels.now) 0 (flow_view flow.now).points (map (λ p. map (λ e. map path_view e.items) p.items) found.items)) }
+{
+    let mut found = Vec::new(alloc);
+    for (at, point) in flow.points.as_slice().iter().enumerate() {
+        found.push(dropped_at(alloc, labels, at, point)?)?;
+    }
+    Ok(found)
+}
+
+fn port(alloc: Global) -> Path
+    ensures { path_view result ≡ 0 ∷ [] }
+{
+    Path {
+        var: VarNo(0),
+        parts: Vec::new(alloc),
+    }
+}
+
+/// Whether the port keeps its value where a process begins.
+fn keeps_port(alloc: Global, flow: &Flow, labels: &Labels) -> bool
+    ensures { result ≡ label_at (labels_view labels.now) (flow_view flow.now).entry (model.init (0 ∷ [])) }
+{
+    if flow.points.is_empty() {
+        return false;
+    }
+    let Some(first) = labels.at.as_slice().first() else {
+        return false;
+    };
+    let kept = first.holds(&Fact::Init(port(alloc)));
+    kept
+}
+
+/// The port, where it does not keep its value as a process begins.
+fn entry_dropped(alloc: Global, flow: &Flow, labels: &Labels) -> Result<Vec<Path>, AllocError>
+    ensures { IfOk result (λ paths. map path_view paths.items ≡ cond (label_at (labels_view labels.now) (flow_view flow.now).entry (model.init (0 ∷ []))) [] ((0 ∷ []) ∷ [])) }
+{
+    let mut paths = Vec::new(alloc);
+    if keeps_port(alloc, flow, labels) {
+        return Ok(paths);
+    }
+    paths.push(port(alloc))?;
+    Ok(paths)
+}
+
+/// What each edge finalises, and what is finalised where the process begins: what is held there and is not in the label of the point
+/// to which control goes. At an end it is all that is held. A process begins with a value at its port alone, so at the
+/// beginning it is the port, where there is no point or its label lacks the port's `init`, or else nothing.
+pub fn coerce(alloc: Global, flow: &Flow, labels: &Labels) -> Result<Coercions, AllocError>
+    ensures coercions { IfOk result (λ c. AreCoercions (flow_view flow.now) (labels_view labels.now) (coercions_view c)) }
+    ensures port { IfOk result (λ c. map path_view c.entry.items ≡ cond (nat_lt 0 (length flow.now.points.items) && labels_view labels.now 0 (model.init (0 ∷ []))) [] ((0 ∷ []) ∷ [])) }
+{
+    let entry = entry_dropped(alloc, flow, labels)?;
+    let at = edges_dropped(alloc, flow, labels)?;
+    Ok(Coercions { entry, at })
+}
