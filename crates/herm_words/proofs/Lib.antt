@@ -1,0 +1,4 @@
+pub mod StatementsWithin
+pub mod Sizes
+pub mod Joined
+pub mod Variants

@@ -1,0 +1,9 @@
+//! Tests of the words of refusals over source texts.
+#![tactic(auto)]
+
+#[cfg(test)]
+mod program;
+#[cfg(test)]
+mod rows;
+#[cfg(test)]
+mod words;
