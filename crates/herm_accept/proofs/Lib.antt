@@ -1,0 +1,4 @@
+pub mod Judging
+pub mod Readiness
+pub mod Arms
+pub mod Begins

@@ -1,0 +1,16 @@
+use Rattle.std.proofs.Common.{subst}
+use Rattle.herm_flow.specs.View.{flow_view}
+use Rattle.herm_check.specs.Faults.{IsFault}
+use Rattle.herm_accept.proofs.Arms.{judged_accepted, judged_refused}
+use Rattle.herm_accept.proofs.accepting.judge.Goals as goal
+
+pub returns-in-Ok : goal.returns-in-Ok
+returns-in-Ok c =
+    judged_accepted c.args.types.now c.args.number c.args.p.now c.in_ok-flow.flow c.in-Ok.labels c.args.accepted.now _ c.args.lacks.now.items
+    c.in_ok-flow.ensures c.in-Ok.ensures.many c.in-Ok.ensures.exact c.in-Ok.ensures.accepted c.in_ok-add_accepted-in-Ok.ensures
+
+pub returns-in-Err-Missing : goal.returns-in-Err-Missing
+returns-in-Err-Missing c =
+    let fault = subst (IsFault (flow_view c.in_ok-flow.flow)) c.in-Err-Missing.field-0-is c.in-Err-Missing.ensures.missing in
+    judged_refused c.args.types.now c.args.number c.args.p.now c.in_ok-flow.flow c.in-Err-Missing.all.items c.args.accepted.now c.args.lacks.now.items _
+    c.in_ok-flow.ensures fault.0 fault.1 c.in_ok-add_lacks-in-Err-Missing.ensures

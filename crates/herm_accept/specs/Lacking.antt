@@ -1,0 +1,46 @@
+-- What processes lack: the facts that statements need and that are not held on some path. Language reference, "Refusals of typestate".
+use Rattle.std.specs.Prelude.{◌≡◌, ◌≢◌, ℕ, suc, List, [], ◌++◌, ◌∷◌, map, ⊤}
+use Rattle.herm_model.specs.Lists.{map_or}
+use Rattle.herm_model.specs.ControlPaths.{flow_of}
+use Rattle.herm_model.specs.Refusals.{Refusal}
+use Rattle.herm_meaning.specs.Names.{NamedTable}
+use Rattle.herm_typed.specs.declared.statements.TypedProcess.{TypedProcess}
+use Rattle.herm_typed.specs.View.{typed_process_view}
+use Rattle.herm_check.specs.Missing.{refusal_view}
+use Rattle.herm_check.specs.Shortest.{AreShortest}
+use Rattle.herm_words.specs.declared.sites.Site.{Site}
+use Rattle.herm_words.specs.Sites.{sites_in, site_at}
+use Rattle.herm_words.specs.Words.{refusal_words}
+use Rattle.herm_accept.specs.declared.accepting.Lack.{Lack}
+use Rattle.herm_accept.specs.declared.accepting.AcceptFault.{AcceptFault}
+use Rattle.herm_accept.specs.declared.accepting.AcceptFault.TheVariants.{Missing, Memory}
+
+-- a fact that a statement of the process with a number lacks: where the statement begins, what is said of it, and the refusal
+pub record Lacking : Type 0 where
+  pub process : ℕ
+  pub start : ℕ
+  pub words : List ℕ
+  pub refusal : Refusal
+
+-- the place in bytes where the statement with a number begins
+abbrev pub start_in : List Site → ℕ → ℕ
+start_in sites number = map_or 0 (λ (s : Site). s.span.start) (site_at sites number)
+
+abbrev pub lack_view : Lack → Lacking
+lack_view l = record { process = l.process; start = l.start; words = l.words; refusal = refusal_view l.missing }
+
+abbrev pub lacking : NamedTable → ℕ → TypedProcess → Refusal → Lacking
+lacking types number p r = record { process = number; start = start_in (sites_in p) r.number; words = refusal_words types p r; refusal = r }
+
+-- The processes, which are numbered from this one on, lack these facts, by process, by statement and then in the order of
+-- needs, each with a control path that none is shorter than.
+abbrev pub AreLacking : NamedTable → ℕ → List TypedProcess → List Lacking → Type 0
+AreLacking types number [] all = all ≡ []
+AreLacking types number (p ∷ ps) all =
+    (refusals : List Refusal) × AreShortest (flow_of types.shapes (typed_process_view p)) refusals
+    × (others : List Lacking) × (all ≡ map (lacking types number p) refusals ++ others) × AreLacking types (suc number) ps others
+
+-- the processes are refused for what they lack, which is something; want of memory says nothing
+abbrev pub IsFaultOf : NamedTable → List TypedProcess → AcceptFault → Type 0
+IsFaultOf types ps (Missing lacks) = (map lack_view lacks.items ≢ []) × AreLacking types 0 ps (map lack_view lacks.items)
+IsFaultOf types ps Memory = ⊤

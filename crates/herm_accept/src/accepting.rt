@@ -1,0 +1,192 @@
+//! Whether the processes of a program are accepted.
+ghost use Rattle.std.specs.Prelude.{◌≡◌, ◌++◌, ℕ, length, map, IfOk, IfErr, OnOk};
+ghost use Rattle.herm_model.specs.Lists.{IsIn};
+ghost use Rattle.herm_model.specs.Statements.{Process};
+ghost use Rattle.herm_model.specs.TypedPrograms.{IsTypedProcess};
+ghost use Rattle.herm_typed.specs.View.{typed_process_view};
+ghost use Rattle.herm_typed.specs.Beside.{KnowTypes};
+ghost use Rattle.herm_check.specs.Missing.{refusal_view};
+ghost use Rattle.herm_words.specs.Sites.{sites_in, site_at};
+ghost use Rattle.herm_accept.specs.Accepted.{AreAccepted};
+ghost use Rattle.herm_accept.specs.Judged.{IsKnown, IsAdded, IsJudged};
+ghost use Rattle.herm_flow.specs.Ready.{IsReady};
+ghost use Rattle.herm_accept.specs.Lacking.{start_in, lack_view, lacking, IsFaultOf};
+
+use herm_base::{StmtNo, Word};
+use herm_check::{CheckFault, MissingFact, check};
+use herm_coerce::{Coercions, coerce};
+use herm_flow::{Flow, flow_of};
+use herm_typed::TypedProcess;
+use herm_types::TypeTable;
+use herm_typestate::Labels;
+use herm_words::{Site, sites_of, words_of};
+use std::alloc::{AllocError, Global};
+
+/// Of each process by its number: its flow, what is held at each point of it, and what each of its edges finalises.
+#[derive(Drop)]
+pub struct Accepted {
+    pub flows: Vec<Flow>,
+    pub labels: Vec<Labels>,
+    pub coercions: Vec<Coercions>,
+}
+
+/// A fact that a statement needs and that is not held on some path: the number of the process, the place in bytes where the
+/// statement begins in the file of its module, and the words of the refusal.
+#[derive(Drop)]
+pub struct Lack {
+    pub process: usize,
+    pub start: u32,
+    pub words: Word,
+    pub missing: MissingFact,
+}
+
+/// Why processes are not accepted: what they lack, or want of memory.
+#[derive(Drop)]
+pub enum AcceptFault {
+    Missing(Vec<Lack>),
+    Memory,
+}
+
+impl From<AllocError> for AcceptFault {
+    ghost use Rattle.herm_accept.specs.declared.accepting.AcceptFault.TheVariants.{Memory};
+    ghost use Rattle.std.specs.Prelude.{◌≡◌};
+
+    ghost from_gives = { λ _ fault. fault ≡ Memory };
+
+    fn from(_: AllocError) -> AcceptFault {
+        AcceptFault::Memory
+    }
+}
+
+/// Where the statement with a number begins.
+fn start_of(sites: &[Site], number: StmtNo) -> u32
+    ensures { result ≡ start_in sites.now number.0 }
+{
+    if number.0 == 0 {
+        return 0;
+    }
+    match sites.get(number.0 as usize - 1) {
+        Some(site) => site.span.start,
+        None => 0,
+    }
+}
+
+/// A missing fact with its place and its words.
+fn lack_of(
+    alloc: Global,
+    types: &TypeTable,
+    number: usize,
+    p: &TypedProcess,
+    sites: &[Site],
+    missing: MissingFact,
+) -> Result<Lack, AllocError>
+    requires { sites.now ≡ sites_in p.now }
+    ensures { IfOk result (λ l. lack_view l ≡ lacking types.now number p.now (refusal_view missing)) }
+{
+    let start = start_of(sites, missing.stmt);
+    let words = words_of(alloc, types, p, sites, &missing)?;
+    Ok(Lack {
+        process: number,
+        start,
+        words,
+        missing,
+    })
+}
+
+/// Adds what a process lacks.
+fn add_lacks(
+    alloc: Global,
+    types: &TypeTable,
+    number: usize,
+    p: &TypedProcess,
+    all: Vec<MissingFact>,
+    lacks: &mut Vec<Lack>,
+) -> Result<(), AllocError>
+    ensures { OnOk result (map lack_view lacks.new.items ≡ map lack_view lacks.old.items ++ map (lacking types.now number p.now) (map refusal_view all.items)) }
+{
+    let sites = sites_of(alloc, p)?;
+    'missing: for missing in all {
+        lacks.push(lack_of(alloc, types, number, p, sites.as_slice(), missing)?)?;
+    }
+    Ok(())
+}
+
+/// Adds a flow that is accepted.
+fn add_accepted(
+    alloc: Global,
+    flow: Flow,
+    labels: Labels,
+    accepted: &mut Accepted,
+) -> Result<(), AllocError>
+    ensures { OnOk result (IsAdded flow labels accepted.old accepted.new) }
+{
+    let coercions = coerce(alloc, &flow, &labels)?;
+    accepted.flows.push(flow)?;
+    accepted.labels.push(labels)?;
+    accepted.coercions.push(coercions)?;
+    Ok(())
+}
+
+/// The flow of a process, ready for the check.
+fn flow(alloc: Global, types: &TypeTable, p: &TypedProcess) -> Result<Flow, AllocError>
+    requires { IsKnown types.now p.now }
+    ensures { IfOk result (λ f. IsReady types.now.shapes (typed_process_view p.now) f) }
+{
+    let flow = flow_of(alloc, types, p)?;
+    Ok(flow)
+}
+
+/// Checks a process, and adds what is found of it.
+fn judge(
+    alloc: Global,
+    types: &TypeTable,
+    number: usize,
+    p: &TypedProcess,
+    accepted: &mut Accepted,
+    lacks: &mut Vec<Lack>,
+) -> Result<(), AllocError>
+    requires { IsKnown types.now p.now }
+    ensures { OnOk result (IsJudged types.now number p.now accepted.old lacks.old.items accepted.new lacks.new.items) }
+{
+    let flow = flow(alloc, types, p)?;
+    match check(alloc, &flow, p.vars.len()) {
+        Ok(labels) => {
+            add_accepted(alloc, flow, labels, accepted)?;
+            Ok(())
+        }
+        Err(CheckFault::Missing(all)) => {
+            add_lacks(alloc, types, number, p, all, lacks)?;
+            Ok(())
+        }
+        Err(CheckFault::Memory) => Err(AllocError),
+    }
+}
+
+/// Whether the processes of a typed program are accepted: of each its flow, exactly what is held at each of its points, and what
+/// its edges finalise; or, where some lack facts, exactly these, by process, by statement and then in the order of needs, each with
+/// a shortest path on which it is not held.
+pub fn accept(
+    alloc: Global,
+    types: &TypeTable,
+    processes: &[TypedProcess],
+) -> Result<Accepted, AcceptFault>
+    requires typed { (p : Process) → IsIn p (map typed_process_view processes.now) → IsTypedProcess (length types.now.exceptions) types.now.shapes (map typed_process_view processes.now) p }
+    requires known { KnowTypes types.now.shapes processes.now }
+    ensures accepted { IfOk result (λ a. AreAccepted types.now.shapes processes.now a.flows.items a.labels.items a.coercions.items) }
+    ensures missing { IfErr result (λ fault. IsFaultOf types.now processes.now fault) }
+{
+    let mut accepted = Accepted {
+        flows: Vec::new(alloc),
+        labels: Vec::new(alloc),
+        coercions: Vec::new(alloc),
+    };
+    let mut lacks = Vec::new(alloc);
+    'processes: for (number, p) in processes.iter().enumerate() {
+        judge(alloc, types, number, p, &mut accepted, &mut lacks)?;
+    }
+    let count = lacks.len();
+    if count == 0 {
+        return Ok(accepted);
+    }
+    Err(AcceptFault::Missing(lacks))
+}

@@ -1,0 +1,6 @@
+//! The typestate check of all processes of a program.
+#![tactic(auto)]
+
+mod accepting;
+
+pub use accepting::{AcceptFault, Accepted, Lack, accept};

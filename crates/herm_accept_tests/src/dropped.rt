@@ -1,0 +1,106 @@
+//! What coercions of an accepted program hold becomes lines of text.
+use crate::answer::put_bytes;
+use crate::meant::{Meant, acceptance_of, meaning_of};
+use herm_accept::{AcceptFault, Accepted};
+use herm_base::StmtNo;
+use herm_check::{Hop, MissingFact};
+use herm_flow::{Edge, Point};
+use herm_types::{Fact, Path};
+use herm_words::{sites_of, words_of};
+use std::alloc::{AllocError, Global};
+
+type Put = Result<(), AllocError>;
+
+/// Appends a line: words of a refusal from their path on, without the brackets around it.
+fn put_words(out: &mut String, words: &[u8]) -> Put {
+    out.push_str("\n ")?;
+    let mut is_first = true;
+    for piece in words.split(|byte| *byte == b'(' || *byte == b')') {
+        if !is_first {
+            put_bytes(out, piece)?;
+        }
+        is_first = false;
+    }
+    Ok(())
+}
+
+/// Appends a line: a path, and the hop behind which it is finalised, if it is not where the process begins.
+fn put_drop(alloc: Global, meant: &Meant, path: &Path, by: Vec<Hop>, out: &mut String) -> Put {
+    let Some(process) = meant.program.processes.first() else {
+        return Ok(());
+    };
+    let parts = Vec::from_slice(alloc, path.parts.as_slice())?;
+    let dropped = MissingFact {
+        stmt: StmtNo(0),
+        fact: Fact::Init(Path {
+            var: path.var,
+            parts,
+        }),
+        by,
+    };
+    let sites = sites_of(alloc, process)?;
+    let words = words_of(alloc, &meant.types, process, sites.as_slice(), &dropped)?;
+    put_words(out, words.bytes())
+}
+
+fn put_edge(
+    alloc: Global,
+    meant: &Meant,
+    stmt: StmtNo,
+    edge: &Edge,
+    paths: &[Path],
+    out: &mut String,
+) -> Put {
+    for path in paths {
+        let mut by = Vec::new(alloc);
+        by.push(Hop {
+            stmt,
+            outcome: edge.outcome,
+        })?;
+        put_drop(alloc, meant, path, by, out)?;
+    }
+    Ok(())
+}
+
+fn put_point(
+    alloc: Global,
+    meant: &Meant,
+    point: &Point,
+    edges: &[Vec<Path>],
+    out: &mut String,
+) -> Put {
+    for (edge, paths) in point.edges.iter().zip(edges.iter()) {
+        put_edge(alloc, meant, point.stmt, edge, paths.as_slice(), out)?;
+    }
+    Ok(())
+}
+
+/// The lines of the first process.
+fn put_accepted(alloc: Global, meant: &Meant, accepted: &Accepted, out: &mut String) -> Put {
+    let (Some(flow), Some(coercions)) = (accepted.flows.first(), accepted.coercions.first()) else {
+        return Ok(());
+    };
+    for path in &coercions.entry {
+        put_drop(alloc, meant, path, Vec::new(alloc), out)?;
+    }
+    for (point, edges) in flow.points.iter().zip(coercions.at.iter()) {
+        put_point(alloc, meant, point, edges.as_slice(), out)?;
+    }
+    Ok(())
+}
+
+/// What the edges of the first process of a source text finalise, a line for each path, where it is accepted.
+pub fn drops_for(alloc: Global, source: &str) -> Result<String, AllocError> {
+    let mut text = String::new(alloc);
+    let Some(meant) = meaning_of(alloc, source)? else {
+        text.push_str("no program")?;
+        return Ok(text);
+    };
+    let found = acceptance_of(alloc, &meant);
+    match &found {
+        Ok(accepted) => put_accepted(alloc, &meant, accepted, &mut text)?,
+        Err(AcceptFault::Missing(_)) => text.push_str("not accepted")?,
+        Err(AcceptFault::Memory) => return Err(AllocError),
+    }
+    Ok(text)
+}
