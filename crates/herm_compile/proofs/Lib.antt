@@ -6,6 +6,8 @@ pub mod FilesAlike
 pub mod OneAnswerLaws
 pub mod SeenRefusals
 pub mod OneNamingLaws
+pub mod WrittenPlaces
+pub mod OneAcceptanceLaws
 pub mod Choices
 pub mod TokenFacts
 pub mod PhaseLaws

@@ -33,7 +33,7 @@ abbrev starts_by : Name → FieldForm → List FieldForm → List ℕ → Places
 starts_by name port vars statements = record { name = name.span.start; declared = port.name.span.start ∷ map (λ d. d.name.span.start) vars; statements = statements }
 
 -- of a process: its name, its declarations, its statements
-abbrev module_starts : ModuleForm → Option (Places ℕ)
+abbrev pub module_starts : ModuleForm → Option (Places ℕ)
 module_starts (modules.Definitions name list) = None
 module_starts (modules.Process name port vars body) = Some (starts_by name port vars.items (map start_of (body_spans body.items)))
 
@@ -66,7 +66,7 @@ starts_known (modules.Process name port vars body) =
     (then_known token_goes (both_known (name_goes name) (name_known name)
     (both_known (enclosed_goes (field_reads.goes port)) (enclosed_known (field_reads.is port)) (enclosed_known (both_known (variables_go vars.items) (variables_known vars.items) (process_begins body.items))))))
 
-starts_read : Reads past_module module_view module_starts skip_module starts_at
+pub starts_read : Reads past_module module_view module_starts skip_module starts_at
 starts_read = record { goes = module_goes; is = starts_known }
 
 -- ---- the places of refusals, by where they begin

@@ -4,7 +4,14 @@ use Rattle.std.specs.List.{flat_map, AllByRecursion}
 use Rattle.std.proofs.lemmas.List.{append_cancel_left}
 use Rattle.std.proofs.lemmas.Bool.{eqb-true, eq-eqb}
 use Rattle.std.specs.Prelude.{map}
-use Rattle.herm_model.specs.Types.{predefined}
+use Rattle.herm_model.specs.Lists.{IsIn}
+use Rattle.herm_model.specs.Types.{TypeTable, predefined}
+use Rattle.herm_typed.specs.declared.statements.TypedProcess.{TypedProcess}
+use Rattle.herm_typed.specs.View.{typed_process_view}
+use Rattle.herm_typestate.specs.declared.labels.Labels.{Labels}
+use Rattle.herm_flow.specs.declared.flow.Flow.{Flow}
+use Rattle.herm_coerce.specs.declared.coercions.Coercions.{Coercions}
+use Rattle.herm_accept.specs.Accepted.{AreAccepted}
 use Rattle.herm_model.specs.Refusals.{IsMissing, IsAccepted}
 use Rattle.herm_compile.specs.Straight.{process_of, gaps, refusal_of, IsStep}
 use Rattle.herm_compile.specs.View.{Seen, fault_view}
@@ -190,10 +197,17 @@ pub more_files_later : (bytes more : List ℕ) (files : List (List ℕ)) (fault 
 more_files_later bytes more files (Refused faults) one = inl (record { none = λ names lines f. f; one = one })
 more_files_later bytes more files Memory one = tt
 
--- what is rightly said of files that mean a program
-pub later_refused : (files : List (List ℕ)) (types : NamedTable) (processes : List Process) (main : ℕ) (fault : CompileFault) → HaveProgram files types processes main → IfRefused fault (λ faults. AreLater files faults) → IsExactRefusal files fault
-later_refused files types processes main (Refused faults) have later = inr (inr (inr (types, processes, main, have, later)))
-later_refused files types processes main Memory have later = tt
+-- what is rightly said of files that mean a program whose processes are accepted
+pub later_refused : (files : List (List ℕ)) (types : NamedTable) (processes : List Process) (main : ℕ) (fault : CompileFault) → HaveProgram files types processes main → ((p : Process) → IsIn p processes → IsAccepted types.shapes p)
+    → IfRefused fault (λ faults. AreLater files faults) → IsExactRefusal files fault
+later_refused files types processes main (Refused faults) have accepted said = inr (inr (inr (inr (types, processes, main, have, accepted, said))))
+later_refused files types processes main Memory have accepted said = tt
+
+pub each_accepted : (table : TypeTable) (ps : List TypedProcess) (fs : List Flow) (ls : List Labels) (cs : List Coercions) → AreAccepted table ps fs ls cs → (p : Process) → IsIn p (map typed_process_view ps) → IsAccepted table p
+each_accepted table [] [] [] [] are p member = absurd member
+each_accepted table (p ∷ ps) (f ∷ fs) (l ∷ ls) (c ∷ cs) are q (inl e) = subst (λ (x : Process). IsAccepted table x) (sym e) are.0.accepted
+each_accepted table (p ∷ ps) (f ∷ fs) (l ∷ ls) (c ∷ cs) are q (inr member) = each_accepted table ps fs ls cs are.1 q member
+each_accepted table _ _ _ _ are p member = absurd are
 
 -- ---- the judgement
 

@@ -8,12 +8,13 @@ use Rattle.std.proofs.lemmas.Grind.{flat_map-append}
 use Rattle.herm_model.specs.Outcomes.{ok}
 use Rattle.herm_model.specs.ControlPaths as control
 use Rattle.herm_compile.specs.Straight.{ok_hops}
-use Rattle.herm_compile.specs.View.{Seen, fault_view, hop_view}
+use Rattle.herm_compile.specs.View.{Seen, fault_view}
+use Rattle.herm_check.specs.View.{hop_view}
 use Rattle.herm_compile.specs.Places.{IsPlace}
 use Rattle.herm_compile.specs.Refused.{reported, fault_at}
 use Rattle.herm_compile.specs.RefusalWords.{hop_text}
 use Rattle.herm_compile.specs.declared.check.Gap.{Gap}
-use Rattle.herm_compile.specs.declared.fault.Hop.{Hop}
+use Rattle.herm_check.specs.declared.search.Hop.{Hop}
 use Rattle.herm_compile.specs.declared.fault.Fault.{Fault}
 use Rattle.herm_compile.specs.declared.places.Place.{Place}
 

@@ -11,6 +11,7 @@ pub mod Added
 pub mod Spots
 pub mod SecondPhase
 pub mod ThirdPhase
+pub mod FourthPhase
 pub mod Phases
 pub mod OneDefinition
 pub mod RefusalWords

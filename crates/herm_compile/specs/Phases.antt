@@ -7,9 +7,12 @@ use Rattle.herm_syntax.specs.declared.modules.Module.{Module}
 use Rattle.herm_typed.specs.View.{typed_process_view}
 use Rattle.herm_resolve.specs.declared.program.Program.{Program}
 use Rattle.herm_resolve.specs.Refused.{IsProgramOf}
+use Rattle.herm_accept.specs.Accepted.{AreAccepted}
+use Rattle.herm_accept.specs.declared.accepting.Accepted.{Accepted}
 use Rattle.herm_compile.specs.FirstPhase.{HaveModules}
 use Rattle.herm_compile.specs.SecondPhase.{AreTypesOf, AreMisdefined}
 use Rattle.herm_compile.specs.ThirdPhase.{HaveProgram, AreMisnamed}
+use Rattle.herm_compile.specs.FourthPhase.{AreUnaccepted}
 use Rattle.herm_compile.specs.declared.fault.Fault.{Fault}
 
 -- the types that the definitions mean, or their faults
@@ -30,3 +33,8 @@ IsOfModules files types program = (modules : List Module) × (owners : List ℕ)
 abbrev pub IsResolution : List (List ℕ) → NamedTable → Result Program (Vec Fault Global) → Type 0
 IsResolution files types (Ok program) = HaveThisProgram files types program
 IsResolution files types (Err faults) = AreMisnamed files faults.items
+
+-- the processes of the program are accepted, with their flows, labels and coercions, or what they lack
+abbrev pub IsAcceptance : List (List ℕ) → NamedTable → Program → Result Accepted (Vec Fault Global) → Type 0
+IsAcceptance files types program (Ok a) = AreAccepted types.shapes program.processes.items a.flows.items a.labels.items a.coercions.items
+IsAcceptance files types program (Err faults) = AreUnaccepted files faults.items

@@ -1,7 +1,8 @@
 -- Why files are refused: the words and the faults.
 use Rattle.std.specs.Prelude.{◌≡◌, ◌≢◌, ◌⊎◌, ℕ, Some, None, List, [], ◌∷◌, map, length, codes, get_or, drop}
 use Rattle.herm_model.specs.Types.{predefined}
-use Rattle.herm_model.specs.Refusals.{IsMissing}
+use Rattle.herm_model.specs.Lists.{IsIn}
+use Rattle.herm_model.specs.Refusals.{IsMissing, IsAccepted}
 use Rattle.herm_alphabet.specs.declared.token.Token.{Token}
 use Rattle.herm_compile.specs.Form.{line_tokens, IsOfForm, AreOfForm}
 use Rattle.herm_compile.specs.Reading.{up_to_lines}
@@ -13,6 +14,7 @@ use Rattle.herm_compile.specs.FirstPhase.{AreFirstFaults}
 use Rattle.herm_model.specs.Statements.{Process}
 use Rattle.herm_compile.specs.SecondPhase.{AreMisdefined}
 use Rattle.herm_compile.specs.ThirdPhase.{HaveProgram, AreMisnamed}
+use Rattle.herm_compile.specs.FourthPhase.{AreUnaccepted}
 use Rattle.herm_compile.specs.declared.check.Gap.{Gap}
 use Rattle.herm_compile.specs.declared.compiled.Line.{Line}
 use Rattle.herm_compile.specs.declared.fault.Fault.{Fault}
@@ -78,12 +80,13 @@ abbrev pub AreLater : List (List ℕ) → List Fault → Type 0
 AreLater files faults = AreNotBuilt files faults ⊎ AreLacking files faults
 
 -- Files are refused by the first phase that has a fault in them: with one fault for each file that has no trees, or with those
--- of their definitions, or with those of names and types, or with what is said of files that mean a program (Language reference,
--- "Refusals").
+-- of their definitions, or with those of names and types, or with those of typestate, or with what is said of files that mean a
+-- program whose processes are accepted (Language reference, "Refusals").
 abbrev pub AreRefused : List (List ℕ) → List Fault → Type 0
 AreRefused files faults =
-    AreUnread files faults ⊎ AreMisdefined files faults ⊎ AreMisnamed files faults
-    ⊎ ((types : NamedTable) × (processes : List Process) × (main : ℕ) × HaveProgram files types processes main × AreLater files faults)
+    AreUnread files faults ⊎ AreMisdefined files faults ⊎ AreMisnamed files faults ⊎ AreUnaccepted files faults
+    ⊎ ((types : NamedTable) × (processes : List Process) × (main : ℕ) × HaveProgram files types processes main
+    × ((p : Process) → IsIn p processes → IsAccepted types.shapes p) × AreLater files faults)
 
 -- Want of memory says nothing of the files.
 abbrev pub IfRefused : CompileFault → (List Fault → Type 0) → Type 0

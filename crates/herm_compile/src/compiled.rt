@@ -1,7 +1,10 @@
 //! What the compiler gives: the names and lines of a program.
 use herm_base::Word;
+use herm_coerce::Coercions;
+use herm_flow::Flow;
 use herm_resolve::Program;
 use herm_types::TypeTable;
+use herm_typestate::Labels;
 
 /// A line of a program. A variable is its place among the declared strings, from 0.
 #[derive(Drop)]
@@ -23,11 +26,15 @@ pub struct Lines {
     pub lines: Vec<Line>,
 }
 
-/// A checked program: its types, its processes by number, the names of its declared strings, and its lines.
+/// A checked program: its types, its processes by number, and of each process its flow, what is held at each point of it and what
+/// each of its edges finalises; the names of its declared strings, and its lines.
 #[derive(Drop)]
 pub struct Compiled {
     pub types: TypeTable,
     pub program: Program,
+    pub flows: Vec<Flow>,
+    pub labels: Vec<Labels>,
+    pub coercions: Vec<Coercions>,
     pub names: Vec<Word>,
     pub lines: Vec<Line>,
 }

@@ -7,11 +7,11 @@ ghost use Rattle.herm_compile.specs.SecondPhase.{definition_fault};
 ghost use Rattle.herm_compile.specs.RefusalWords.{definition_words};
 ghost use Rattle.herm_compile.specs.Phases.{IsDefined};
 ghost use Rattle.herm_compile.specs.View.{fault_view};
-ghost use Rattle.herm_compile.specs.Spots.{AreShort};
+ghost use Rattle.herm_compile.specs.Spots.{AreShort, IsCursor};
 
 use crate::fault::Fault;
 use crate::phase::ReadFiles;
-use crate::spots::{Spot, spot_fault};
+use crate::spots::{Cursor, Spot, first_cursor, spot_fault};
 use herm_base::Word;
 use herm_defs::{DefCode, DefFault, DefsFault, define};
 use herm_types::TypeTable;
@@ -47,19 +47,21 @@ fn definition_fault(
     alloc: Global,
     files: &[(Word, Vec<u8>)],
     owners: &[u32],
+    cursor: &mut Cursor,
     fault: DefFault,
 ) -> Result<Fault, AllocError>
-    requires { AreShort (map (λ file. file.1.items) files.now) }
-    ensures { IfOk result (λ f. fault_view f ≡ definition_fault (map (λ file. file.1.items) files.now) owners.now (def_fault_view fault)) }
+    requires short { AreShort (map (λ file. file.1.items) files.now) }
+    requires cursor { IsCursor (map (λ file. file.1.items) files.now) cursor.old }
+    ensures cursor { OnOk result (IsCursor (map (λ file. file.1.items) files.now) cursor.new) }
+    ensures fault { IfOk result (λ f. fault_view f ≡ definition_fault (map (λ file. file.1.items) files.now) owners.now (def_fault_view fault)) }
 {
     let spot = Spot {
-        block: fault.module,
+        block: fault.module as usize,
         start: fault.span.start,
         code: code_of(fault.code),
-        words: words_of(fault.code),
     };
-    let fault = spot_fault(alloc, files, owners, spot)?;
-    Ok(fault)
+    let words = Word::of(alloc, words_of(fault.code))?;
+    Ok(spot_fault(files, owners, cursor, spot, words))
 }
 
 fn definition_faults(
@@ -72,8 +74,9 @@ fn definition_faults(
     ensures { IfOk result (λ faults. map fault_view faults.items ≡ map (definition_fault (map (λ file. file.1.items) files.now) owners.now) (map def_fault_view list.now)) }
 {
     let mut faults = Vec::new(alloc);
+    let mut cursor = first_cursor();
     'faults: for fault in list {
-        faults.push(definition_fault(alloc, files, owners, *fault)?)?;
+        faults.push(definition_fault(alloc, files, owners, &mut cursor, *fault)?)?;
     }
     Ok(faults)
 }

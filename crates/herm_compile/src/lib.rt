@@ -1,6 +1,7 @@
 //! The compiler: from the bytes of a source file to a checked program.
 #![tactic(auto)]
 
+mod acceptance;
 mod check;
 mod compiled;
 mod definitions;
@@ -25,15 +26,19 @@ ghost use Rattle.herm_compile.specs.Straight.{process_of, gaps};
 ghost use Rattle.herm_compile.specs.View.{fault_view};
 ghost use Rattle.herm_compile.specs.FirstPhase.{HasTrees, HaveModules, HaveTrees, TreesOrFault};
 ghost use Rattle.herm_compile.specs.SecondPhase.{HaveTypes, AreTypesOf};
+ghost use Rattle.herm_accept.specs.Accepted.{AreAccepted};
 ghost use Rattle.herm_compile.specs.Phases.{IsDefined, HaveThisProgram, IsOfModules, IsResolution};
-ghost use Rattle.herm_compile.specs.OneDefinition.{HaveOneTable, AreOneList, TypesOrFaults, HaveOneProgram, NameFaultsAreOneList, ProgramOrFaults};
+ghost use Rattle.herm_compile.specs.FourthPhase.{IsMeant};
+ghost use Rattle.herm_compile.specs.OneDefinition.{HaveOneTable, AreOneList, TypesOrFaults, HaveOneProgram, NameFaultsAreOneList, ProgramOrFaults, FactsAreOneList, AcceptedOrFaults};
 ghost use Rattle.herm_compile.specs.Refused.{IsExactRefusal, IsLater, AreLater, IfRefused, not_built, reported, starts};
 
+use acceptance::acceptance_of;
 use check::gaps_of;
 use compiled::Lines;
 pub use compiled::{Compiled, Line};
 use definitions::types_of;
-pub use fault::{CompileFault, Fact, Fault, Hop, MissingFact, Outcome, Path};
+pub use fault::{CompileFault, Fault};
+use herm_accept::Accepted;
 use herm_base::Word;
 use herm_lexer::{LexFault, Token, lex};
 use herm_resolve::Program;
@@ -49,14 +54,15 @@ use stop::Stop;
 /// Compiles files, phase by phase; each phase judges the files only where the phases before it have no fault. First each file is read, in
 /// their order: of files that have no trees, the one fault of each is given. Then the definitions of all modules are read into
 /// the table of types, or refused with the faults at their names. Then the processes of all modules are read into the typed
-/// program, or refused with the faults of their names and types. Of files that mean a program, a single one is compiled where it is of
-/// a straight-line program in which no fact is missing; it is refused with a fault for each missing fact where it is of one.
-/// All others are refused with the one fault `not built`.
+/// program, or refused with the faults of their names and types. Then the processes of the program are accepted, each with its flow,
+/// labels and coercions, or refused with a fault for each fact that a statement lacks. Of files whose processes are accepted, a single one
+/// is compiled where it is of a straight-line program. All others are refused with the one fault `not built`.
 pub fn compile(alloc: Global, files: &[(Word, Vec<u8>)]) -> Result<Compiled, CompileFault>
     ensures read { IfOk result (λ c. HaveTrees (map (λ file. file.1.items) files.now)) }
     ensures types { IfOk result (λ c. HaveTypes (map (λ file. file.1.items) files.now) c.types) }
     ensures program { IfOk result (λ c. HaveThisProgram (map (λ file. file.1.items) files.now) c.types c.program) }
     ensures kept { IfOk result (λ c. IsOfModules (map (λ file. file.1.items) files.now) c.types c.program) }
+    ensures checked { IfOk result (λ c. AreAccepted c.types.shapes c.program.processes.items c.flows.items c.labels.items c.coercions.items) }
     ensures form { IfOk result (λ c. AreOfForm (map (λ file. file.1.items) files.now) c.names.items c.lines.items) }
     ensures accepted { IfOk result (λ c. IsAccepted predefined (process_of (length c.names.items) c.lines.items)) }
     ensures refused { IfErr result (λ e. IsExactRefusal (map (λ file. file.1.items) files.now) e) }
@@ -83,7 +89,8 @@ pub fn trees_or_fault()
 {}
 
 /// Files have one answer of the second phase: one table of types, or one list of faults, and never both. Files have one
-/// answer of the third: one program, or one list of faults, and never both.
+/// answer of the third: one program, or one list of faults, and never both. Files have one answer of the fourth: the processes of their
+/// program are accepted, or one list of statements lack facts, and never both.
 pub fn one_definition()
     ensures types { HaveOneTable }
     ensures faults { AreOneList }
@@ -91,6 +98,8 @@ pub fn one_definition()
     ensures program { HaveOneProgram }
     ensures names { NameFaultsAreOneList }
     ensures program_or_faults { ProgramOrFaults }
+    ensures facts { FactsAreOneList }
+    ensures accepted_or_faults { AcceptedOrFaults }
 {}
 
 /// Compiles files that all have trees.
@@ -104,6 +113,7 @@ fn compile_read(
     ensures types { IfOk result (λ c. HaveTypes (map (λ file. file.1.items) files.now) c.types) }
     ensures program { IfOk result (λ c. HaveThisProgram (map (λ file. file.1.items) files.now) c.types c.program) }
     ensures kept { IfOk result (λ c. IsOfModules (map (λ file. file.1.items) files.now) c.types c.program) }
+    ensures checked { IfOk result (λ c. AreAccepted c.types.shapes c.program.processes.items c.flows.items c.labels.items c.coercions.items) }
     ensures form { IfOk result (λ c. AreOfForm (map (λ file. file.1.items) files.now) c.names.items c.lines.items) }
     ensures accepted { IfOk result (λ c. IsAccepted predefined (process_of (length c.names.items) c.lines.items)) }
     ensures refused { IfErr result (λ e. IsExactRefusal (map (λ file. file.1.items) files.now) e) }
@@ -128,12 +138,13 @@ fn compile_typed(
     ensures types { IfOk result (λ c. HaveTypes (map (λ file. file.1.items) files.now) c.types) }
     ensures program { IfOk result (λ c. HaveThisProgram (map (λ file. file.1.items) files.now) c.types c.program) }
     ensures kept { IfOk result (λ c. IsOfModules (map (λ file. file.1.items) files.now) c.types c.program) }
+    ensures checked { IfOk result (λ c. AreAccepted c.types.shapes c.program.processes.items c.flows.items c.labels.items c.coercions.items) }
     ensures form { IfOk result (λ c. AreOfForm (map (λ file. file.1.items) files.now) c.names.items c.lines.items) }
     ensures accepted { IfOk result (λ c. IsAccepted predefined (process_of (length c.names.items) c.lines.items)) }
     ensures refused { IfErr result (λ e. IsExactRefusal (map (λ file. file.1.items) files.now) e) }
 {
     match resolution_of(alloc, files, read, &types) {
-        Ok(Ok(program)) => compile_program(alloc, files, types, program),
+        Ok(Ok(program)) => compile_program(alloc, files, read, types, program),
         Ok(Err(faults)) => Err(CompileFault::Refused(faults)),
         Err(_) => Err(CompileFault::Memory),
     }
@@ -143,16 +154,45 @@ fn compile_typed(
 fn compile_program(
     alloc: Global,
     files: &[(Word, Vec<u8>)],
+    read: &ReadFiles,
     types: TypeTable,
     program: Program,
+) -> Result<Compiled, CompileFault>
+    requires trees { HaveTrees (map (λ file. file.1.items) files.now) }
+    requires modules { HaveModules 0 (map (λ file. file.1.items) files.now) read.now.modules.items read.now.owners.items }
+    requires meant { IsMeant read.now.modules.items types program }
+    ensures types { IfOk result (λ c. HaveTypes (map (λ file. file.1.items) files.now) c.types) }
+    ensures program { IfOk result (λ c. HaveThisProgram (map (λ file. file.1.items) files.now) c.types c.program) }
+    ensures kept { IfOk result (λ c. IsOfModules (map (λ file. file.1.items) files.now) c.types c.program) }
+    ensures checked { IfOk result (λ c. AreAccepted c.types.shapes c.program.processes.items c.flows.items c.labels.items c.coercions.items) }
+    ensures form { IfOk result (λ c. AreOfForm (map (λ file. file.1.items) files.now) c.names.items c.lines.items) }
+    ensures accepted { IfOk result (λ c. IsAccepted predefined (process_of (length c.names.items) c.lines.items)) }
+    ensures refused { IfErr result (λ e. IsExactRefusal (map (λ file. file.1.items) files.now) e) }
+{
+    match acceptance_of(alloc, files, read, &types, &program) {
+        Ok(Ok(accepted)) => compile_accepted(alloc, files, types, program, accepted),
+        Ok(Err(faults)) => Err(CompileFault::Refused(faults)),
+        Err(_) => Err(CompileFault::Memory),
+    }
+}
+
+/// Compiles files that mean this program, whose processes are accepted.
+fn compile_accepted(
+    alloc: Global,
+    files: &[(Word, Vec<u8>)],
+    types: TypeTable,
+    program: Program,
+    accepted: Accepted,
 ) -> Result<Compiled, CompileFault>
     requires trees { HaveTrees (map (λ file. file.1.items) files.now) }
     requires types { HaveTypes (map (λ file. file.1.items) files.now) types }
     requires program { HaveThisProgram (map (λ file. file.1.items) files.now) types program }
     requires kept { IsOfModules (map (λ file. file.1.items) files.now) types program }
+    requires checked { AreAccepted types.shapes program.processes.items accepted.flows.items accepted.labels.items accepted.coercions.items }
     ensures types { IfOk result (λ c. HaveTypes (map (λ file. file.1.items) files.now) c.types) }
     ensures program { IfOk result (λ c. HaveThisProgram (map (λ file. file.1.items) files.now) c.types c.program) }
     ensures kept { IfOk result (λ c. IsOfModules (map (λ file. file.1.items) files.now) c.types c.program) }
+    ensures checked { IfOk result (λ c. AreAccepted c.types.shapes c.program.processes.items c.flows.items c.labels.items c.coercions.items) }
     ensures form { IfOk result (λ c. AreOfForm (map (λ file. file.1.items) files.now) c.names.items c.lines.items) }
     ensures accepted { IfOk result (λ c. IsAccepted predefined (process_of (length c.names.items) c.lines.items)) }
     ensures refused { IfErr result (λ e. IsExactRefusal (map (λ file. file.1.items) files.now) e) }
@@ -161,6 +201,9 @@ fn compile_program(
         Ok(straight) => Ok(Compiled {
             types,
             program,
+            flows: accepted.flows,
+            labels: accepted.labels,
+            coercions: accepted.coercions,
             names: straight.names,
             lines: straight.lines,
         }),

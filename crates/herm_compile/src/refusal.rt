@@ -4,15 +4,20 @@ ghost use Rattle.std.specs.List.{flat_map, AllByRecursion};
 ghost use Rattle.herm_model.specs.Outcomes.{ok};
 ghost use Rattle.herm_compile.specs.Form.{name_of};
 ghost use Rattle.herm_compile.specs.Straight.{IsSmall, ok_hops, refusal_of};
-ghost use Rattle.herm_compile.specs.View.{fault_view, hop_view, missing_fact_view};
+ghost use Rattle.herm_check.specs.View.{hop_view};
+ghost use Rattle.herm_check.specs.Missing.{refusal_view};
+ghost use Rattle.herm_compile.specs.View.{fault_view};
 ghost use Rattle.herm_compile.specs.Places.{IsPlace};
 ghost use Rattle.herm_compile.specs.Refused.{reported, fault_at};
 ghost use Rattle.herm_compile.specs.RefusalWords.{hop_text, gap_words};
 
 use crate::check::Gap;
-use crate::fault::{Fact, Fault, Hop, MissingFact, Outcome, Path};
+use crate::fault::Fault;
 use crate::places::{Place, file_start, place_at};
 use herm_base::{StmtNo, VarNo, Word, decimal};
+use herm_check::{Hop, MissingFact};
+use herm_typed::Outcome;
+use herm_types::{Fact, Path};
 use std::alloc::{AllocError, Global};
 
 fn name_of(names: &[Word], number: u32) -> &[u8]
@@ -72,7 +77,7 @@ fn hops_to(alloc: Global, count: usize) -> Result<Vec<Hop>, AllocError>
 
 fn missing_of(alloc: Global, gap: Gap) -> Result<MissingFact, AllocError>
     requires { IsSmall gap }
-    ensures { IfOk result (λ missing. missing_fact_view missing ≡ refusal_of gap) }
+    ensures { IfOk result (λ missing. refusal_view missing ≡ refusal_of gap) }
 {
     let by = hops_to(alloc, gap.at)?;
     let path = Path {

@@ -1,18 +1,19 @@
 //! The third phase: the program that process modules mean, or their faults of names and types.
-ghost use Rattle.std.specs.Prelude.{◌≡◌, ◌≢◌, map, IfOk};
+ghost use Rattle.std.specs.Prelude.{◌≡◌, ◌≢◌, map, IfOk, OnOk};
 ghost use Rattle.herm_naming.specs.StatementFaults.{no_main};
 ghost use Rattle.herm_numbers.specs.Faults.{name_code_view, name_fault_view};
 ghost use Rattle.herm_compile.specs.FirstPhase.{HaveModules};
 ghost use Rattle.herm_compile.specs.SecondPhase.{AreTypesOf};
 ghost use Rattle.herm_compile.specs.ThirdPhase.{name_rank, name_fault, placed_fault, main_fault};
 ghost use Rattle.herm_compile.specs.RefusalWords.{name_words};
-ghost use Rattle.herm_compile.specs.Phases.{IsOfModules, IsResolution};
+ghost use Rattle.herm_compile.specs.FourthPhase.{IsMeant};
+ghost use Rattle.herm_compile.specs.Phases.{IsResolution};
 ghost use Rattle.herm_compile.specs.View.{fault_view};
-ghost use Rattle.herm_compile.specs.Spots.{AreShort};
+ghost use Rattle.herm_compile.specs.Spots.{AreShort, IsCursor};
 
 use crate::fault::Fault;
 use crate::phase::ReadFiles;
-use crate::spots::{Spot, spot_fault};
+use crate::spots::{Cursor, Spot, first_cursor, spot_fault};
 use herm_base::Word;
 use herm_numbers::{NameCode, NameFault, ResolveFault};
 use herm_resolve::{Program, resolve};
@@ -67,29 +68,34 @@ fn placed_fault(
     alloc: Global,
     files: &[(Word, Vec<u8>)],
     owners: &[u32],
+    cursor: &mut Cursor,
     fault: NameFault,
 ) -> Result<Fault, AllocError>
-    requires { AreShort (map (λ file. file.1.items) files.now) }
-    ensures { IfOk result (λ f. fault_view f ≡ placed_fault (map (λ file. file.1.items) files.now) owners.now (name_code_view fault.code) (fault.module, fault.span)) }
+    requires short { AreShort (map (λ file. file.1.items) files.now) }
+    requires cursor { IsCursor (map (λ file. file.1.items) files.now) cursor.old }
+    ensures cursor { OnOk result (IsCursor (map (λ file. file.1.items) files.now) cursor.new) }
+    ensures fault { IfOk result (λ f. fault_view f ≡ placed_fault (map (λ file. file.1.items) files.now) owners.now (name_code_view fault.code) (fault.module, fault.span)) }
 {
     let spot = Spot {
-        block: fault.module,
+        block: fault.module as usize,
         start: fault.span.start,
         code: code_of(fault.code),
-        words: words_of(fault.code),
     };
-    let fault = spot_fault(alloc, files, owners, spot)?;
-    Ok(fault)
+    let words = Word::of(alloc, words_of(fault.code))?;
+    Ok(spot_fault(files, owners, cursor, spot, words))
 }
 
 fn name_fault(
     alloc: Global,
     files: &[(Word, Vec<u8>)],
     owners: &[u32],
+    cursor: &mut Cursor,
     fault: NameFault,
 ) -> Result<Fault, AllocError>
-    requires { AreShort (map (λ file. file.1.items) files.now) }
-    ensures { IfOk result (λ f. fault_view f ≡ name_fault (map (λ file. file.1.items) files.now) owners.now (name_fault_view fault)) }
+    requires short { AreShort (map (λ file. file.1.items) files.now) }
+    requires cursor { IsCursor (map (λ file. file.1.items) files.now) cursor.old }
+    ensures cursor { OnOk result (IsCursor (map (λ file. file.1.items) files.now) cursor.new) }
+    ensures fault { IfOk result (λ f. fault_view f ≡ name_fault (map (λ file. file.1.items) files.now) owners.now (name_fault_view fault)) }
 {
     match fault.code {
         NameCode::NoMain => {
@@ -102,7 +108,7 @@ fn name_fault(
         | NameCode::NotCopyable
         | NameCode::Unreachable
         | NameCode::TooMany => {
-            let fault = placed_fault(alloc, files, owners, fault)?;
+            let fault = placed_fault(alloc, files, owners, cursor, fault)?;
             Ok(fault)
         }
     }
@@ -118,8 +124,9 @@ fn name_faults(
     ensures { IfOk result (λ faults. map fault_view faults.items ≡ map (name_fault (map (λ file. file.1.items) files.now) owners.now) (map name_fault_view list.now)) }
 {
     let mut faults = Vec::new(alloc);
+    let mut cursor = first_cursor();
     'faults: for fault in list {
-        faults.push(name_fault(alloc, files, owners, *fault)?)?;
+        faults.push(name_fault(alloc, files, owners, &mut cursor, *fault)?)?;
     }
     Ok(faults)
 }
@@ -150,7 +157,7 @@ pub fn resolution_of(
     requires read { HaveModules 0 (map (λ file. file.1.items) files.now) read.now.modules.items read.now.owners.items }
     requires types { AreTypesOf read.now.modules.items types.now }
     ensures said { IfOk result (λ said. IsResolution (map (λ file. file.1.items) files.now) types.now said) }
-    ensures kept { IfOk result (λ said. IfOk said (λ p. IsOfModules (map (λ file. file.1.items) files.now) types.now p)) }
+    ensures meant { IfOk result (λ said. IfOk said (λ p. IsMeant read.now.modules.items types.now p)) }
 {
     match resolve(alloc, read.modules.as_slice(), types) {
         Ok(program) => Ok(Ok(program)),

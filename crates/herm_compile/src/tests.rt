@@ -1,6 +1,9 @@
 //! Straight-line programs, their refusals, and the limits of the form and of its tokens.
-use crate::{CompileFault, Fact, Fault, MissingFact, Outcome, compile};
+use crate::{CompileFault, Fault, compile};
 use herm_base::Word;
+use herm_check::MissingFact;
+use herm_typed::Outcome;
+use herm_types::Fact;
 use std::alloc::{AllocError, Global};
 use std::test::Fail;
 
