@@ -1,0 +1,5 @@
+pub mod ChainLaws
+pub mod Splits
+pub mod Relinked
+pub mod Pushed
+pub mod Unlinked
