@@ -5,12 +5,9 @@ mod laws;
 mod report;
 mod run;
 mod texts;
-mod trace;
 
+pub use herm_events::{Action, Entry, Place, ReplyTrace, Stamp, Trace, Traces};
 pub use laws::{straight_lines_have_one_run, straight_lines_run};
-pub use report::{
-    Action, Counts, End, Entry, Journal, Place, ProcEnd, ReplyTrace, Report, Spent, Stamp,
-};
+pub use report::{Counts, End, Journal, ProcEnd, Report, Spent};
 pub use run::run_lines;
 pub use texts::push_unquoted;
-pub use trace::{Trace, Traces};

@@ -1,83 +1,8 @@
 //! What is reported of a run: its journal, the end of each process, what is queued at each port, and counts.
 ghost use Rattle.std.specs.Prelude.{◌≡◌};
 
-use crate::{Trace, Traces};
-use herm_base::{ExcNo, PortNo, ProcNo};
-
-/// A time of a run: each entry's stamp is one more than those of the entries that it follows at its process and at its place.
-/// (Lamport, Time, Clocks, and the Ordering of Events in a Distributed System, 1978.)
-#[derive(Clone, Copy, Debug, PartialEq, Eq, PartialOrd, Ord, Hash)]
-pub struct Stamp(pub u64);
-
-/// Where an action is done.
-#[derive(Clone, Copy, Debug, PartialEq, Eq)]
-pub enum Place {
-    /// The queue of a port.
-    Port(PortNo),
-    /// The cell in which a process hears the answers to its calls.
-    Reply(ProcNo),
-    /// The book of ports and processes made.
-    Book,
-}
-
-/// The text of an answer to a call.
-#[derive(Drop)]
-pub enum ReplyTrace {
-    /// The call returned, with these values.
-    Values(Trace),
-    /// The call was answered with an exception and the values of the parameters that it keeps.
-    Raised(ExcNo, Trace),
-    /// The callmessage was finalised without a return.
-    Gone,
-}
-
-/// What a process did at a place, with its answer.
-#[derive(Drop)]
-pub enum Action {
-    /// A port was made, unless the limit was reached.
-    MakePort {
-        made: Option<PortNo>,
-    },
-    /// A process of this module was made with its port, unless a limit was reached.
-    MakeProcess {
-        module: u32,
-        made: Option<(ProcNo, PortNo)>,
-    },
-    /// A message was queued under a number, or found the port closed.
-    Put {
-        number: Option<u64>,
-        trace: Trace,
-    },
-    /// The oldest message was taken.
-    Take {
-        number: u64,
-        trace: Trace,
-    },
-    /// The port was closed, and the messages left were handed over in queue order.
-    Close {
-        count: u64,
-        left: Traces,
-    },
-    /// A call was answered.
-    Answer {
-        call: u64,
-        reply: ReplyTrace,
-    },
-    /// An answer was heard.
-    Hear {
-        call: u64,
-        reply: ReplyTrace,
-    },
-}
-
-/// One action of a run.
-#[derive(Drop)]
-pub struct Entry {
-    pub stamp: Stamp,
-    pub proc: ProcNo,
-    pub place: Place,
-    pub action: Action,
-}
+use herm_base::{ExcNo, PortNo};
+use herm_events::{Entry, Trace, Traces};
 
 /// The actions of a run, by stamp and then by process.
 #[derive(Drop)]

@@ -5,16 +5,18 @@ ghost use Rattle.herm_world.specs.Lines.{held, sent_from, sent};
 ghost use Rattle.herm_world.specs.Reports.{queue_of};
 ghost use Rattle.herm_world.specs.StringTexts.{quoted};
 ghost use Rattle.herm_world.specs.StraightRuns.{IsRunnable, IsReported, an_entry, taken_at, counts_from, sent_at, sent_all, closed_at, journal_of, sets, counts_of, start_text, string_text};
-ghost use Rattle.herm_world.specs.View.{entries_view, proc_ends_view, numbered_queues, counts_view, report_view, place_view, action_view};
+ghost use Rattle.herm_events.specs.View.{entries_view, place_view, action_view};
+ghost use Rattle.herm_world.specs.View.{proc_ends_view, numbered_queues, counts_view, report_view};
 ghost use Rattle.herm_system.specs.Lines.{line};
 ghost use Rattle.herm_system.specs.ProcessFates.{ended_normally};
 ghost use Rattle.std.specs.List.{flat_map};
 ghost use Rattle.herm_journal.specs.Entries as source;
 
 use crate::texts::push_quoted;
-use crate::{Action, Counts, End, Entry, Journal, Place, ProcEnd, Report, Stamp, Trace, Traces};
+use crate::{Counts, End, Journal, ProcEnd, Report};
 use herm_base::{PortNo, ProcNo, Word};
 use herm_compile::{Compiled, Line};
+use herm_events::{Action, Entry, Place, Stamp, Trace, Traces};
 use std::alloc::{AllocError, Global};
 
 /// A process that runs lines: its strings, what it sent, its entries and its counts.
@@ -55,7 +57,8 @@ fn text_of(alloc: Global, string: &[u8]) -> Result<Trace, AllocError>
 {
     let mut text = Vec::new(alloc);
     push_quoted(&mut text, string)?;
-    Ok(Trace::from_vec(text))
+    let text = Trace::from_vec(text)?;
+    Ok(text)
 }
 
 /// Takes the string out of a variable.
@@ -285,7 +288,8 @@ fn start_message(alloc: Global, arg: &[u8]) -> Result<Trace, AllocError>
     text.push(b'{')?;
     push_quoted(&mut text, arg)?;
     text.extend_from_slice(b",>0}")?;
-    Ok(Trace::from_vec(text))
+    let text = Trace::from_vec(text)?;
+    Ok(text)
 }
 
 /// Runs the lines from the opening state to the final state, with this start argument. The lines begin with the receive,

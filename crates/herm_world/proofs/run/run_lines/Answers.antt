@@ -4,7 +4,8 @@ use Rattle.std.proofs.Math.ListN.{drop_of_length-le}
 use Rattle.herm_world.specs.Lines.{sent}
 use Rattle.herm_world.specs.StraightRuns.{journal_of, sets, counts_of, report_of, IsReported}
 use Rattle.herm_world.specs.StringTexts.{quoted}
-use Rattle.herm_world.specs.View.{entries_view, proc_ends_view, numbered_queues, counts_view, report_view}
+use Rattle.herm_events.specs.View.{entries_view}
+use Rattle.herm_world.specs.View.{proc_ends_view, numbered_queues, counts_view, report_view}
 use Rattle.herm_world.proofs.StraightEnd.{sets-few}
 use Rattle.herm_world.proofs.StraightReports.{straight-lines-run}
 use Rattle.herm_world.proofs.RunLines.{at-end, counts-are, report-is}

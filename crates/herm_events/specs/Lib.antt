@@ -1,0 +1,4 @@
+pub mod TraceBytes
+pub mod View
+pub mod Rising
+pub mod Names
