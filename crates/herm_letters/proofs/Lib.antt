@@ -1,0 +1,5 @@
+mod Decimals
+mod Joined
+mod Layers
+mod Written
+mod Told

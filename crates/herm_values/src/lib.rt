@@ -1,0 +1,24 @@
+//! What processes hold: values of every type, and tables of rows found by their keys.
+#![tactic(auto)]
+
+mod copying;
+mod count;
+mod depth;
+mod finalising;
+mod keys;
+mod places;
+mod scalar;
+mod table;
+mod value;
+mod work;
+
+pub use copying::copy_of;
+pub use count::cells;
+pub use depth::poly_depth;
+pub use finalising::{finalise, pending};
+pub use scalar::{KeyRow, Scalar};
+pub use value::{Table, Value};
+pub use work::{Work, WorkItem};
+
+#[cfg(test)]
+mod tests;

@@ -1,0 +1,127 @@
+//! Tables: rows with different keys, in the order of their insertion.
+ghost use Rattle.std.specs.Prelude.{◌≡◌, ◌≤◌, ◌<◌, [], length, Some, None, IfSome, IfErr, OnOk, OnErr, get_or, option_map, nat_le};
+ghost use Rattle.herm_rows.specs.Keys.{most_rows};
+ghost use Rattle.herm_rows.specs.Faults.{refused_row};
+ghost use Rattle.herm_model.specs.Values.{part, no_parts, part_at, joined, size};
+ghost use Rattle.herm_model.specs.Tables.{key_of, has_key};
+ghost use Rattle.herm_values.specs.Keys.{row_with, without_key, Answers};
+ghost use Rattle.herm_values.specs.View.{value_view, key_view, row_views, table_parts, views_of};
+ghost use Rattle.herm_values.specs.Whole.{IsWhole, IsWholeTable};
+ghost use Rattle.herm_values.specs.declared.value.Value.{size-Value};
+ghost use Rattle.herm_values.specs.declared.value.Table.{size-Table};
+
+use crate::keys::{held_at, key_of};
+use crate::places::{exchange, make_place, put_row};
+use crate::scalar::{KeyRow, Scalar};
+use crate::value::{Table, Value};
+use herm_rows::{InsertFault, Rows};
+use std::alloc::Global;
+
+impl Table {
+    /// A table with these fields as its key, and no rows. It takes no memory.
+    pub fn new(alloc: Global, columns: Vec<u32>) -> Table
+        ensures columns { result.columns ≡ columns }
+        ensures rows { table_parts result ≡ no_parts }
+        ensures whole { IsWholeTable result }
+    {
+        Table {
+            columns,
+            keys: Rows::new(alloc),
+            rows: Vec::new(alloc),
+        }
+    }
+
+    /// The number of rows.
+    pub fn len(&self) -> usize
+        ensures number { result ≡ length (row_views self.now) }
+    {
+        self.keys.len()
+    }
+
+    /// The row at a place in the order of insertion. A whole table has one at each.
+    pub fn row_at(&self, n: usize) -> Option<&Value>
+        requires place { n < length (row_views self.now) }
+        ensures row { option_map (λ v. value_view v.now) result ≡ get_or (row_views self.now) n None }
+        ensures whole { IsWholeTable self.now → IfSome result (λ v. IsWhole v.now) }
+        ensures smaller { IfSome result (λ v. size-Value v.now < size-Table self.now) }
+    {
+        let place = self.keys.at(n).place;
+        match self.rows.get(place as usize) {
+            Some(row) => row.as_ref(),
+            None => None,
+        }
+    }
+
+    /// The places of the fields that are the key.
+    pub fn columns(&self) -> &[u32]
+        ensures columns { result.now ≡ self.now.columns.items }
+    {
+        self.columns.as_slice()
+    }
+
+    /// The row at a place in the order of insertion.
+    pub fn at(&self, n: usize) -> &Value
+        requires place { n < length (row_views self.now) }
+        requires whole { IsWholeTable self.now }
+        ensures row { part_at n (table_parts self.now) ≡ Some (value_view result.now) }
+        ensures row_whole { IsWhole result.now }
+    {
+        self.row_at(n).unwrap()
+    }
+
+    /// The row with this key, if there is one.
+    pub fn find(&self, key: &Vec<Scalar>) -> Option<&Value>
+        requires whole { IsWholeTable self.now }
+        ensures row { option_map (λ v. value_view v.now) result ≡ row_with self.now.columns.items (key_view key.now.items) (table_parts self.now) }
+        ensures row_whole { IfSome result (λ v. IsWhole v.now) }
+    {
+        let found = self.keys.find(key)?;
+        held_at(self.rows.as_slice(), found.place)
+    }
+
+    /// Puts a row behind the others.
+    pub fn insert(&mut self, row: Value) -> Result<(), InsertFault<Value>>
+        requires whole { IsWholeTable self.old }
+        requires row { IsWhole row }
+        ensures answer { Answers (has_key self.old.columns.items (key_of self.old.columns.items (value_view row)) (table_parts self.old)) (nat_le most_rows (size (table_parts self.old))) result }
+        ensures inserted { OnOk result (table_parts self.new ≡ joined (table_parts self.old) (part (value_view row) no_parts)) }
+        ensures unchanged { OnErr result (table_parts self.new ≡ table_parts self.old) }
+        ensures handed_back { IfErr result (λ fault. refused_row fault ≡ row) }
+        ensures columns { self.new.columns ≡ self.old.columns }
+        ensures whole { IsWholeTable self.new }
+    {
+        let key = match key_of(*self.columns.allocator(), self.columns.as_slice(), &row) {
+            Ok(key) => key,
+            Err(_) => return Err(InsertFault::Memory(row)),
+        };
+        let place = match make_place(&mut self.rows, self.keys.len()) {
+            Ok(place) => place,
+            Err(_) => return Err(InsertFault::Memory(row)),
+        };
+        match self.keys.insert(KeyRow { key, place }) {
+            Ok(()) => {
+                put_row(&mut self.rows, place, row);
+                Ok(())
+            }
+            Err(InsertFault::Duplicate(_)) => Err(InsertFault::Duplicate(row)),
+            Err(InsertFault::Full(_)) => Err(InsertFault::Full(row)),
+            Err(InsertFault::Memory(_)) => Err(InsertFault::Memory(row)),
+        }
+    }
+
+    /// Takes the row with this key out, if there is one. It takes no memory.
+    pub fn remove(&mut self, key: &Vec<Scalar>) -> Option<Value>
+        requires whole { IsWholeTable self.old }
+        ensures row { option_map value_view result ≡ row_with self.old.columns.items (key_view key.now.items) (table_parts self.old) }
+        ensures others { table_parts self.new ≡ without_key self.old.columns.items (key_view key.now.items) (table_parts self.old) }
+        ensures columns { self.new.columns ≡ self.old.columns }
+        ensures whole { IsWholeTable self.new }
+        ensures row_whole { IfSome result IsWhole }
+    {
+        if self.keys.len() == 0 {
+            return None;
+        }
+        let found = self.keys.remove(key)?;
+        exchange(&mut self.rows, found.place, None)
+    }
+}
