@@ -54,7 +54,7 @@ module _ {N : Type 0} (extra : Kind → ℕ) where
 
 -- where kinds weigh nothing
 module _ {N : Type 0} (w : N → ℕ) where
-  none-ported : (action : CellAction N) → port_load weightless action ≡ 0
+  pub none-ported : (action : CellAction N) → port_load weightless action ≡ 0
   none-ported (make_port (Some n)) = refl
   none-ported (make_port None) = refl
   none-ported (make_process code (Some made)) = refl
@@ -65,7 +65,7 @@ module _ {N : Type 0} (w : N → ℕ) where
   none-ported (answer call r) = refl
   none-ported (hear call r) = refl
 
-  none-back : (action : CellAction N) → back_load weightless action ≡ 0
+  pub none-back : (action : CellAction N) → back_load weightless action ≡ 0
   none-back (put None m) = refl
   none-back (put (Some n) m) = refl
   none-back (make_port made) = refl
@@ -75,7 +75,7 @@ module _ {N : Type 0} (w : N → ℕ) where
   none-back (answer call r) = refl
   none-back (hear call r) = refl
 
-  none-called : (o : Option (Composed N)) → call_load weightless o ≡ 0
+  pub none-called : (o : Option (Composed N)) → call_load weightless o ≡ 0
   none-called None = refl
   none-called (Some x) = refl
 
@@ -83,7 +83,7 @@ module _ {N : Type 0} (w : N → ℕ) where
   none-there None = refl
   none-there (Some c) = refl
 
-  none-given : (source : Path) (o : Option (Taken N)) → source_load weightless source o ≡ 0
+  pub none-given : (source : Path) (o : Option (Taken N)) → source_load weightless source o ≡ 0
   none-given source None = refl
   none-given source (Some t) = none-there (cell_at source t.frame.variables)
 

@@ -22,10 +22,10 @@ CopiesKinds of c form ps = ⊤
 -- where all kinds are allowed
 module _ (of : Kind → Type 0) (all : (k : Kind) → of k) where
   mutual
-    every-kind : {N : Type 0} (c : Cell N) → HasKinds of c
+    pub every-kind : {N : Type 0} (c : Cell N) → HasKinds of c
     every-kind (cell n k ps) = (all k, every-kind_in ps)
 
-    every-kind_in : {N : Type 0} (ps : Parts N) → HaveKinds of ps
+    pub every-kind_in : {N : Type 0} (ps : Parts N) → HaveKinds of ps
     every-kind_in no_parts = tt
     every-kind_in (gap ps) = every-kind_in ps
     every-kind_in (part c ps) = (every-kind c, every-kind_in ps)

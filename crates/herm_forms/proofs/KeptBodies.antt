@@ -99,11 +99,11 @@ module _ {N : Type 0} (name : Name → N) (Is Stay : Frame N → Type 0) (keeps-
   all-cond true r s a b = a
   all-cond false r s a b = b
 
-  all-there : {X : Type 0} (next : X → Completion N) (o : Option X) → ((x : X) → All Is Stay (next x)) → All Is Stay (if_there next o)
+  pub all-there : {X : Type 0} (next : X → Completion N) (o : Option X) → ((x : X) → All Is Stay (next x)) → All Is Stay (if_there next o)
   all-there next None on = never
   all-there next (Some x) on = on x
 
-  all-putting : (p : Path) (o : Outcome) (c : Cell N) (b : Frame N) → Is b → All Is Stay (putting p o c b)
+  pub all-putting : (p : Path) (o : Outcome) (c : Cell N) (b : Frame N) → Is b → All Is Stay (putting p o c b)
   all-putting p o c b e = all-cond (has_place b.variables p) (goes o (Frames.put p c b)) stuck (went o (Frames.put p c b) (is-put p c b e)) never
 
   all-putting_all : (paths : List Path) (o : Outcome) (cs : List (Cell N)) (b : Frame N) → Is b → All Is Stay (putting_all paths o cs b)
@@ -122,10 +122,10 @@ module _ {N : Type 0} (name : Name → N) (Is Stay : Frame N → Type 0) (keeps-
   all-making : (k : Kind) (ps : Parts N) (next : Cell N → Frame N → Completion N) (b : Frame N) → Is b → ((c : Cell N) (b' : Frame N) → Is b' → All Is Stay (next c b')) → All Is Stay (making name k ps next b)
   all-making k ps next b e on = on (cell (name (b.number, b.serial)) k ps) (record b { serial = suc b.serial }) (keeps-it.serial (suc b.serial) b e)
 
-  all-copying : {M : Type 0} (c : Cell M) (next : Cell N → Frame N → Completion N) (b : Frame N) → Is b → ((c : Cell N) (b' : Frame N) → Is b' → All Is Stay (next c b')) → All Is Stay (copying name c next b)
+  pub all-copying : {M : Type 0} (c : Cell M) (next : Cell N → Frame N → Completion N) (b : Frame N) → Is b → ((c : Cell N) (b' : Frame N) → Is b' → All Is Stay (next c b')) → All Is Stay (copying name c next b)
   all-copying c next b e on = on (copy_from (λ s. name (b.number, s)) b.serial c) (record b { serial = b.serial + count c }) (keeps-it.serial (b.serial + count c) b e)
 
-  all-copying_parts : {M : Type 0} (ps : Parts M) (next : Parts N → Frame N → Completion N) (b : Frame N) → Is b → ((qs : Parts N) (b' : Frame N) → Is b' → All Is Stay (next qs b')) → All Is Stay (copying_parts name ps next b)
+  pub all-copying_parts : {M : Type 0} (ps : Parts M) (next : Parts N → Frame N → Completion N) (b : Frame N) → Is b → ((qs : Parts N) (b' : Frame N) → Is b' → All Is Stay (next qs b')) → All Is Stay (copying_parts name ps next b)
   all-copying_parts ps next b e on = on (copy_in (λ s. name (b.number, s)) b.serial ps) (record b { serial = b.serial + count_in ps }) (keeps-it.serial (b.serial + count_in ps) b e)
 
   all-value : (next : Value → Frame N → Completion N) (v : Evaluated) (b : Frame N) → Is b → ((v : Value) → All Is Stay (next v b)) → All Is Stay (with_value next v b)
@@ -133,7 +133,7 @@ module _ {N : Type 0} (name : Name → N) (Is Stay : Frame N → Type 0) (keeps-
   all-value next (raises x) b e on = went (raised x) b e
   all-value next no_value b e on = never
 
-  all-new_value : (s : Option Shape) (x : Path) (b : Frame N) → Is b → All Is Stay (new_value name s x b)
+  pub all-new_value : (s : Option Shape) (x : Path) (b : Frame N) → Is b → All Is Stay (new_value name s x b)
   all-new_value (Some (fields ts)) x b e = all-putting x ok _ (record b { serial = suc b.serial }) (keeps-it.serial (suc b.serial) b e)
   all-new_value (Some (rows row key)) x b e = all-putting x ok _ (record b { serial = suc b.serial }) (keeps-it.serial (suc b.serial) b e)
   all-new_value (Some s) x b e = never
@@ -146,7 +146,7 @@ module _ {N : Type 0} (name : Name → N) (Is Stay : Frame N → Type 0) (keeps-
   all-option None none some a on = a
   all-option (Some x) none some a on = on x
 
-  all-wrap : (t : ℕ) (lost : List Path) (y p : Path) (b : Frame N) → Is b → All Is Stay (Forms.wrap name t lost y p b)
+  pub all-wrap : (t : ℕ) (lost : List Path) (y p : Path) (b : Frame N) → Is b → All Is Stay (Forms.wrap name t lost y p b)
   all-wrap t lost y p b e =
       all-there _ (cell_at y (drop lost b).variables) (λ c. all-cond (nat_lt (polymorph_depth c) greatest_polymorph) _ _
       (all-moving lost y _ b e (λ content b' e'. all-making (a_polymorph t) (part content no_parts) (putting p ok) b' e' (λ d b'' e''. all-putting p ok d b'' e''))) (went (raised depletion) b e))
@@ -161,16 +161,16 @@ module _ {N : Type 0} (name : Name → N) (Is Stay : Frame N → Type 0) (keeps-
       all-cond (has_key key (key_of key row) (parts_of table)) _ _ (went (raised duplicate_key) b e) (all-cond (nat_lt (size (parts_of table)) greatest_rows) _ _
       (all-moving lost r _ b e (λ row' b' e'. all-there _ (read_at t b'.variables) (λ table'. went ok (change_rows t (add_row row') b') (keeps-it.variables _ b' e')))) (went (raised depletion) b e))))
 
-  all-finding : (key : List ℕ) (k : List Scalar) (t : Path) (next : ℕ → Cell N → Completion N) (b : Frame N) → Is b → ((i : ℕ) (c : Cell N) → All Is Stay (next i c)) → All Is Stay (finding key k t next b)
+  pub all-finding : (key : List ℕ) (k : List Scalar) (t : Path) (next : ℕ → Cell N → Completion N) (b : Frame N) → Is b → ((i : ℕ) (c : Cell N) → All Is Stay (next i c)) → All Is Stay (finding key k t next b)
   all-finding key k t next b e on =
       all-there _ (read_at t b.variables) (λ table. all-option (place_of_key key k (parts_of table)) _ _ (went _ b e) (λ i. all-there (next i) (part_at i (parts_of table)) (on i)))
 
-  all-next_row : AnyLoops Is → (s : ℕ) (r : Path) (ps : Parts N) (b : Frame N) → Is b → All Is Stay (next_row s r ps b)
+  pub all-next_row : AnyLoops Is → (s : ℕ) (r : Path) (ps : Parts N) (b : Frame N) → Is b → All Is Stay (next_row s r ps b)
   all-next_row any s r no_parts b e = went _ b e
   all-next_row any s r (gap ps) b e = never
   all-next_row any s r (part row ps) b e = all-putting r turn row (record b { loops = set_rows s ps b.loops }) (any (set_rows s ps b.loops) b e)
 
-  all-tested : (v : Value) (b : Frame N) → Is b → All Is Stay (tested v b)
+  pub all-tested : (v : Value) (b : Frame N) → Is b → All Is Stay (tested v b)
   all-tested (cell m (a_scalar (a_boolean true)) ps) b e = went _ b e
   all-tested (cell m (a_scalar (a_boolean false)) ps) b e = went _ b e
   all-tested v b e = never
@@ -207,7 +207,7 @@ module _ {N : Type 0} (name : Name → N) (Is Stay : Frame N → Type 0) (keeps-
   is-loops stay [] b e = e
   is-loops stay (l ∷ loops) b e = is-loops stay loops (cond (stay l.statement) b (finalise_parts l.rows b)) (is-one (stay l.statement) l b e)
 
-  is-leave : FewerLoops Is → (stay : ℕ → Bool) (b : Frame N) → Is b → Is (leave_loops stay b)
+  pub is-leave : FewerLoops Is → (stay : ℕ → Bool) (b : Frame N) → Is b → Is (leave_loops stay b)
   is-leave fewer stay b e = is-loops stay b.loops (record b { loops = filter (λ l. stay l.statement) b.loops }) (fewer stay b e)
 
   pub is-arrive : FewerLoops Is → (c : Module) (t : Target) (b : Frame N) → Is b → Is (arrive c t b)
@@ -235,7 +235,7 @@ module _ {N : Type 0} (name : Name → N) (Is Stay : Frame N → Type 0) (keeps-
     pub frame : k.frame ≡ record taken { serial = suc taken.serial; calls = suc taken.calls }
     pub call : k.call ≡ taken.calls
 
-  from-compose : (modes : List Mode) (inputs : Parts ⊤) (lost moved : List Path) (b : Frame N) (k : Composed N) → Is b → compose name modes inputs lost moved b ≡ Some k → ComposedFrom k
+  pub from-compose : (modes : List Mode) (inputs : Parts ⊤) (lost moved : List Path) (b : Frame N) (k : Composed N) → Is b → compose name modes inputs lost moved b ≡ Some k → ComposedFrom k
   from-compose modes inputs lost moved b k e is =
       let took = chain-some _ (take_all moved (drop lost (record b { serial = b.serial + count_in inputs }))) k is in
       let made = map-some (with_message name took.0.frame) (assemble modes (copy_in (λ s. name (b.number, s)) b.serial inputs) took.0.cells) k took.2 in
@@ -246,7 +246,7 @@ module _ {N : Type 0} (name : Name → N) (Is Stay : Frame N → Type 0) (keeps-
         call = ap (λ (x : Composed N). x.call) (sym made.2);
       }
 
-  is-from : (k : Composed N) → ComposedFrom k → Is k.frame
+  pub is-from : (k : Composed N) → ComposedFrom k → Is k.frame
   is-from k from = subst Is (sym from.frame) (keeps-it.calls (record from.taken { serial = suc from.taken.serial }) (keeps-it.serial (suc from.taken.serial) from.taken from.is))
 
   pub from-composed : (c : Module) (o : Path) (arguments : List Atom) (b : Frame N) (k : Composed N) → Is b → composed name c o arguments b ≡ Some k → ComposedFrom k
@@ -268,7 +268,7 @@ module _ {N : Type 0} (name : Name → N) (Is Stay : Frame N → Type 0) (keeps-
   all-create o (make_process code None) b e = went _ b e
   all-create o _ b e = never
 
-  all-send : (lost : List Path) (x : Path) (a : CellAction N) (b : Frame N) → Is b → All Is Stay (Exchanges.send lost x a b)
+  pub all-send : (lost : List Path) (x : Path) (a : CellAction N) (b : Frame N) → Is b → All Is Stay (Exchanges.send lost x a b)
   all-send lost x (put (Some k) m) b e = all-moving lost x _ b e (λ d b' e'. went ok b' e')
   all-send lost x (put None m) b e = all-moving lost x _ b e (λ d b' e'. all-putting x (raised disconnected) m b' e')
   all-send lost x _ b e = never
@@ -281,7 +281,7 @@ module _ {N : Type 0} (name : Name → N) (Is Stay : Frame N → Type 0) (keeps-
   all-receive_at [] i place m b e = never
   all-receive_at (x ∷ targets) i place m b e = all-cond (nat_eq i place) _ _ (all-putting x (arm place) m b e) (all-receive_at targets (suc i) place m b e)
 
-  all-select : (targets ports : List Path) (from : ℕ) (a : CellAction N) (b : Frame N) → Is b → All Is Stay (Exchanges.select targets ports from a b)
+  pub all-select : (targets ports : List Path) (from : ℕ) (a : CellAction N) (b : Frame N) → Is b → All Is Stay (Exchanges.select targets ports from a b)
   all-select targets ports from (take k m) b e = all-there _ (option_and_then (place_of_port 0 from) (ports_at ports b)) (λ place. all-receive_at targets 0 place m b e)
   all-select targets ports from _ b e = never
 
@@ -289,12 +289,12 @@ module _ {N : Type 0} (name : Name → N) (Is Stay : Frame N → Type 0) (keeps-
   all-there-is next None on = never
   all-there-is next (Some x) on = on x refl
 
-  all-call : Opens Is Stay → (k : Option (Composed N)) (outs : List Path) (a : CellAction N) → ((c : Composed N) → k ≡ Some c → Is c.frame) → All Is Stay (callmessages.call k outs a)
+  pub all-call : Opens Is Stay → (k : Option (Composed N)) (outs : List Path) (a : CellAction N) → ((c : Composed N) → k ≡ Some c → Is c.frame) → All Is Stay (callmessages.call k outs a)
   all-call opens k outs (put (Some i) m) on = all-there-is _ k (λ c is. stayed (record c.frame { call = Some c.call }) (opens c.call c.frame (on c is)))
   all-call opens k outs (put None m) on = all-there-is _ k (λ c is. went (raised disconnected) (drop outs (finalise_at_once m c.frame)) (is-drop outs (finalise_at_once m c.frame) (is-end Is keeps-it.letting m c.frame (on c is))))
   all-call opens k outs _ on = never
 
-  all-return : (taken : Option (Taken N)) (m : Path) (a : CellAction N) → ((t : Taken N) → taken ≡ Some t → Is t.frame) → All Is Stay (callmessages.return taken m a)
+  pub all-return : (taken : Option (Taken N)) (m : Path) (a : CellAction N) → ((t : Taken N) → taken ≡ Some t → Is t.frame) → All Is Stay (callmessages.return taken m a)
   all-return taken m (answer k r) on = all-there-is _ taken (λ t is. all-taking m _ t.frame (on t is) (λ d b' e'. went ok (finalise_at_once d b') (is-end Is keeps-it.letting d b' e')))
   all-return taken m _ on = never
 
@@ -303,11 +303,11 @@ module _ {N : Type 0} (name : Name → N) (Is Stay : Frame N → Type 0) (keeps-
   all-hear_reply back outs keep left (Actions.raised x cs) b e = all-putting_all (keep x) (raised x) cs (drop (left x) b) (is-drop (left x) b e)
   all-hear_reply back outs keep left gone b e = went (raised disconnected) (drop outs b) (is-drop outs b e)
 
-  all-hear_call : (back outs : List Path) (keep left : ℕ → List Path) (call : ℕ) (a : CellAction N) (b : Frame N) → Is (record b { call = None }) → All Is Stay (callmessages.hear_call back outs keep left call a b)
+  pub all-hear_call : (back outs : List Path) (keep left : ℕ → List Path) (call : ℕ) (a : CellAction N) (b : Frame N) → Is (record b { call = None }) → All Is Stay (callmessages.hear_call back outs keep left call a b)
   all-hear_call back outs keep left call (hear k r) b e = all-cond (nat_eq k call) _ _ (all-hear_reply back outs keep left r (record b { call = None }) e) never
   all-hear_call back outs keep left call _ b e = never
 
-  is-given : (c : Module) (paths : List Path) (b : Frame N) (t : Taken N) → Is b → given_back c paths b ≡ Some t → Is t.frame
+  pub is-given : (c : Module) (paths : List Path) (b : Frame N) (t : Taken N) → Is b → given_back c paths b ≡ Some t → Is t.frame
   is-given c paths b t e is = is-take_all paths (drop (flat_map (λ p. excess_over_full c p b) paths) b) t (is-drop (flat_map (λ p. excess_over_full c p b) paths) b e) is
 
   pub all-settle : (c : Module) (form : Form) (at : ℕ) (a : CellAction N) (b : Frame N) → Is b → (IsCall form → Opens Is Stay) → All Is Stay (settle name c form at a b)

@@ -9,8 +9,8 @@ use Rattle.herm_model.specs.Calls.{shape_at, call_parameters}
 use Rattle.herm_model.specs.StatementTable.{set_by_call}
 use Rattle.herm_model.specs.Targets.{Target}
 use Rattle.herm_model.specs.Finalising.{excess}
-use Rattle.herm_model.specs.Values.{Kind, kind_of, Cell, Parts, has_value, cell_at}
-use Rattle.herm_model.proofs.Options.{some-injective, chain-some, map-some}
+use Rattle.herm_model.specs.Values.{Kind, kind_of, a_callmessage, an_inport, Cell, cell, Parts, has_value, cell_at}
+use Rattle.herm_model.proofs.Options.{none-not_some, some-injective, chain-some, map-some}
 use Rattle.herm_forms.specs.Evaluate.{evaluate, key_values}
 use Rattle.herm_journal.specs.Actions.{values, raised, new_process, to_put, to_take, to_answer}
 use Rattle.herm_forms.specs.Frames.{Name, Loop, Frame, Completion, finalise_parts, drop, Taken, take_all}
@@ -60,7 +60,7 @@ module _ {N : Type 0} (w : N → ℕ) (extra : Kind → ℕ) (name : Name → N)
   balanced-finalise_loops h stay (l ∷ loops) b e =
       balanced-finalise_loops h stay loops (cond (stay l.statement) b (finalise_parts l.rows b)) (let_one_go (h + weigh_left stay loops) (stay l.statement) l b (omega arith))
 
-  balanced-leave_loops : (h : ℕ) (stay : ℕ → Bool) (b : Frame N) → Balanced w extra name m k h b → Balanced w extra name m k h (leave_loops stay b)
+  pub balanced-leave_loops : (h : ℕ) (stay : ℕ → Bool) (b : Frame N) → Balanced w extra name m k h b → Balanced w extra name m k h (leave_loops stay b)
   balanced-leave_loops h stay b e =
       balanced-finalise_loops h stay b.loops (record b { loops = filter (λ l. stay l.statement) b.loops }) (omega (arith, weigh-left stay b.loops))
 
@@ -94,10 +94,9 @@ module _ {N : Type 0} (w : N → ℕ) (extra : Kind → ℕ) (name : Name → N)
 
 -- what is wanted, taken apart
 module _ {N : Type 0} (w : N → ℕ) (extra : Kind → ℕ) (name : Name → N) (spares : SparesPlain extra) (m k steps actions : ℕ) where
-  settle-send : (c : Module) (x o : Path) (want : CellWant N) (action : CellAction N) (b : Frame N) → Exchanges.send_wants (excess_over_declared c o x b) x o b ≡ Some want
-      → Balanced w extra name m k (load_coming w extra action) b → AllBalanced w extra name m k (load_going w extra name b want action) (Exchanges.send (excess_over_declared c o x b) x action (recount steps actions b))
-  settle-send c x o want action b is e =
-      let lost = excess_over_declared c o x b in
+  pub settle-send : (lost : List Path) (x o : Path) (want : CellWant N) (action : CellAction N) (b : Frame N) → Exchanges.send_wants lost x o b ≡ Some want
+      → Balanced w extra name m k (load_coming w extra action) b → AllBalanced w extra name m k (load_going w extra name b want action) (Exchanges.send lost x action (recount steps actions b))
+  settle-send lost x o want action b is e =
       let r = chain-some (λ port. option_map (to_put port) (cell_at x (drop lost b).variables)) (Exchanges.outport_at o b) want is in
       let q = map-some (to_put r.0) (cell_at x (drop lost b).variables) want r.2 in
       let there : cell_at x (drop lost (recount steps actions b)).variables ≡ Some q.0 = ap (λ (b : Frame N). cell_at x b.variables) (recount-drop steps actions lost b) ∙ q.1 in
@@ -126,26 +125,33 @@ module _ {N : Type 0} (w : N → ℕ) (extra : Kind → ℕ) (name : Name → N)
   pub recount-composed : (c : Module) (o : Path) (arguments : List Atom) (b : Frame N) → composed name c o arguments (recount steps actions b) ≡ option_map (recount_composed steps actions) (composed name c o arguments b)
   recount-composed c o arguments b = recounted c o arguments b (inputs_of (call_parameters c.types c.variables o) arguments b.variables)
 
-  recount-load : (o : Option (Composed N)) → call_load extra (option_map (recount_composed steps actions) o) ≡ call_load extra o
+  pub recount-load : (o : Option (Composed N)) → call_load extra (option_map (recount_composed steps actions) o) ≡ call_load extra o
   recount-load None = refl
   recount-load (Some x) = refl
 
   same-load : (c : Module) (o : Path) (arguments : List Atom) (b : Frame N) (x : Composed N) → composed name c o arguments (recount steps actions b) ≡ Some x → call_load extra (composed name c o arguments b) ≡ extra (kind_of x.message)
   same-load c o arguments b x is = sym (recount-load (composed name c o arguments b)) ∙ ap (call_load extra) (sym (recount-composed c o arguments b) ∙ is)
 
+  -- a composed callmessage, which the counts of the body make no difference to
+  pub settle-made : (o : Path) (outs : List Path) (want : CellWant N) (action : CellAction N) (b : Frame N) (made counted : Option (Composed N)) → counted ≡ option_map (recount_composed steps actions) made
+      → ((x : Composed N) → counted ≡ Some x → Balanced w extra name m k (load_coming w extra action + load w extra x.message) x.frame)
+      → callmessages.call_wants made o b ≡ Some want
+      → AllBalanced w extra name m k (load_going w extra name b want action + back_load extra action) (callmessages.call counted outs action)
+  settle-made o outs want action b made counted again on is =
+      let r = chain-some (λ port. option_map (λ (x : Composed N). to_put port x.message) made) (Exchanges.outport_at o b) want is in
+      let q = map-some (λ (x : Composed N). to_put r.0 x.message) made want r.2 in
+      rw (sym q.2) (kept-call w extra name spares m k outs action b counted q.0.message on (ap (option_map (λ (x : Composed N). x.message)) (again ∙ ap (option_map (recount_composed steps actions)) q.1)))
+
   settle-call : (c : Module) (o : Path) (arguments : List Atom) (want : CellWant N) (action : CellAction N) (b : Frame N) → callmessages.call_wants (composed name c o arguments b) o b ≡ Some want
       → CopiesKinds (Spares extra) c (Call o arguments) b.variables
       → Balanced w extra name m k (load_coming w extra action + call_load extra (composed name c o arguments b)) b
       → AllBalanced w extra name m k (load_going w extra name b want action + back_load extra action) (callmessages.call (composed name c o arguments (recount steps actions b)) (arguments_at c is_out o arguments) action)
   settle-call c o arguments want action b is kinds e =
-      let r = chain-some (λ port. option_map (λ (x : Composed N). to_put port x.message) (composed name c o arguments b)) (Exchanges.outport_at o b) want is in
-      let q = map-some (λ (x : Composed N). to_put r.0 x.message) (composed name c o arguments b) want r.2 in
-      rw (sym q.2) (kept-call w extra name spares m k (arguments_at c is_out o arguments) action b (composed name c o arguments (recount steps actions b)) q.0.message
+      settle-made o (arguments_at c is_out o arguments) want action b (composed name c o arguments b) (composed name c o arguments (recount steps actions b)) (recount-composed c o arguments b)
       (λ x is. made-composed c o arguments (load_coming w extra action) (recount steps actions b) x is kinds
-      (subst (λ o. Balanced w extra name m k (load_coming w extra action + o) b) (same-load c o arguments b x is) e))
-      (ap (option_map (λ (x : Composed N). x.message)) (recount-composed c o arguments b ∙ ap (option_map (recount_composed steps actions)) q.1)))
+      (subst (λ o. Balanced w extra name m k (load_coming w extra action + o) b) (same-load c o arguments b x is) e)) is
 
-  settle-return : (c : Module) (given : List Path) (reply : List (Cell N) → CellReply N) → ((cs : List (Cell N)) → load_reply w extra (reply cs) ≡ load_all w extra cs)
+  pub settle-return : (c : Module) (given : List Path) (reply : List (Cell N) → CellReply N) → ((cs : List (Cell N)) → load_reply w extra (reply cs) ≡ load_all w extra cs)
       → (source : Path) (want : CellWant N) (action : CellAction N) (b : Frame N) → callmessages.return_wants reply (given_back c given b) source b ≡ Some want
       → Balanced w extra name m k (load_coming w extra action) b
       → AllBalanced w extra name m k (load_going w extra name b want action + source_load extra source (given_back c given b)) (callmessages.return (given_back c given (recount steps actions b)) source action)
@@ -159,13 +165,13 @@ module _ {N : Type 0} (w : N → ℕ) (extra : Kind → ℕ) (name : Name → N)
       (balanced-take_all w extra name spares m k (load_coming w extra action) given (drop lost (recount steps actions b)) (recount_taken steps actions q.0) again
       (balanced-drop w extra name spares m k (load_coming w extra action) lost (recount steps actions b) e)))))
 
-  no-more : (a : ℕ) (r : Completion N) → AllBalanced w extra name m k a r → AllBalanced w extra name m k (a + 0) r
+  pub no-more : (a : ℕ) (r : Completion N) → AllBalanced w extra name m k a r → AllBalanced w extra name m k (a + 0) r
   no-more a r e = let z : a ≡ a + 0 = omega arith in subst (λ h. AllBalanced w extra name m k h r) z e
 
   pub kept-settle : (c : Module) (form : Form) (want : CellWant N) (at : ℕ) (action : CellAction N) (b : Frame N) → wants name c form b ≡ Some want → CopiesKinds (Spares extra) c form b.variables
       → Balanced w extra name m k (load_coming w extra action + begun extra name c form b action) b → AllBalanced w extra name m k (load_going w extra name b want action + over extra c form b action) (settle name c form at action (recount steps actions b))
   kept-settle c (New x) want at action b is kinds e = rw (sym (some-injective is)) (kept-new_inport w extra name spares m k x action (recount steps actions b) e)
-  kept-settle c (Send x o) want at action b is kinds e = no-more (load_going w extra name b want action) _ (settle-send c x o want action b is (omega arith))
+  kept-settle c (Send x o) want at action b is kinds e = no-more (load_going w extra name b want action) _ (settle-send (excess_over_declared c o x b) x o want action b is (omega arith))
   kept-settle c (Receive x i) want at action b is kinds e =
       let r = map-some (λ port. to_take (port ∷ [])) (Exchanges.inport_at i b) want is in
       rw (sym r.2) (kept-receive w extra name spares m k x action (recount steps actions b) (omega arith))
@@ -184,6 +190,13 @@ module _ {N : Type 0} (w : N → ℕ) (extra : Kind → ℕ) (name : Name → N)
   settle-reply c (Call o arguments) call action b e =
       kept-hear_call w extra name spares m k (set_by_call c.types c.variables o arguments) (arguments_at c is_out o arguments) (kept_at c o arguments) (left_at c o arguments) call action b e
   settle-reply c _ call action b e = tt
+
+module _ {N : Type 0} (w : N → ℕ) (extra : Kind → ℕ) (name : Name → N) where
+  -- nothing goes out with an item of the work list
+  pub item-goes : (item : Cell N) (b : Frame N) (want : CellWant N) (action : CellAction N) → Exchanges.work_wants item ≡ Some want → load_going w extra name b want action ≡ 0
+  item-goes (cell n (an_inport port) ps) b want action is = rw (sym (some-injective is)) refl
+  item-goes (cell n (a_callmessage caller call) ps) b want action is = rw (sym (some-injective is)) refl
+  item-goes (cell n k ps) b want action is = none-not_some is
 
 pub edges-keep : EdgesKeep
 edges-keep w name c t b = let e = balanced-arrive w weightless name (λ k is. refl) (weight_made w name b) (weight_accounted w b) 0 c t b (omega (arith, names-kept w b)) in omega (arith, names-kept w (arrive c t b))

@@ -181,7 +181,7 @@ module _ {N : Type 0} (w : N → ℕ) (extra : Kind → ℕ) (name : Name → N)
       balanced-finding 0 key v t (λ i row. copying name row (putting r ok) b) b e
       (λ table i row there is. balanced-copying w extra name spares m k 0 0 row (putting r ok) b (part-spared i (parts_of table) row is (kinds table there)) e (λ d b' e'. balanced-putting w extra name spares m k 0 r ok d b' e'))
 
-  balanced-next_row : (s : ℕ) (r : Path) (rows : Parts N) (b : Frame N) → rows_for s b.loops ≡ Some rows → Balanced w extra name m k 0 b → AllBalanced w extra name m k 0 (next_row s r rows b)
+  pub balanced-next_row : (s : ℕ) (r : Path) (rows : Parts N) (b : Frame N) → rows_for s b.loops ≡ Some rows → Balanced w extra name m k 0 b → AllBalanced w extra name m k 0 (next_row s r rows b)
   balanced-next_row s r no_parts b there e = e
   balanced-next_row s r (gap left) b there e = tt
   balanced-next_row s r (part row left) b there e =

@@ -15,3 +15,8 @@ mutual
 pub more-kinds_all : {N : Type 0} (f g : Kind → Type 0) (more : (k : Kind) → f k → g k) (cs : List (Cell N)) → AllKinds f cs → AllKinds g cs
 more-kinds_all f g more [] h = tt
 more-kinds_all f g more (c ∷ cs) h = (more-kinds f g more c h.0, more-kinds_all f g more cs h.1)
+
+-- the cells of some lists are of the kinds
+abbrev pub ListKinds : {N X : Type 0} → (Kind → Type 0) → (X → Parts N) → List X → Type 0
+ListKinds of rows [] = Unit {0}
+ListKinds of rows (x ∷ xs) = HaveKinds of (rows x) × ListKinds of rows xs

@@ -15,7 +15,7 @@ use Rattle.herm_runs.proofs.Numbered.{BookMoves, book-moves, set-found, more-fou
 use Rattle.herm_journal.specs.Kinds.{HasKinds, AllKinds, ReplyKinds, AllPorts, WantKinds, ActionKinds}
 use Rattle.herm_journal.proofs.MoreKinds.{more-kinds, more-kinds_all}
 use Rattle.herm_system.specs.Machines.{Held, Machine, inport_of}
-use Rattle.herm_runs.specs.laws.ProcessLaws.{IsKnown, HeldKinds, Knows, KnowsPlaces}
+use Rattle.herm_runs.specs.laws.ProcessLaws.{IsKnown, HeldKinds, AreAmong, Knows, KnowsPlaces}
 use Rattle.herm_runs.proofs.DiariesTold.{done-fulfils}
 use Rattle.herm_runs.proofs.ActionParts.{action-parts, step-parts}
 
@@ -44,6 +44,10 @@ module _ (f g : Kind → Type 0) (more : (k : Kind) → f k → g k) where
   more-held : (hs : List (Held Name)) → HeldKinds f hs → HeldKinds g hs
   more-held [] h = tt
   more-held (x ∷ hs) h = (more-kinds f g more x.value h.0, more-held hs h.1)
+
+  more-among : (ks : List Kind) → AreAmong f ks → AreAmong g ks
+  more-among [] h = tt
+  more-among (k ∷ ks) h = (more k h.0, more-among ks h.1)
 
   more-reply : (r : CellReply Name) → ReplyKinds f r → ReplyKinds g r
   more-reply (Rattle.herm_journal.specs.Actions.values cs) h = more-kinds_all f g more cs h
@@ -188,32 +192,32 @@ found-place book q (replies x) j s e = inr e
 found-place place q k j s e = inr e
 
 -- each process knows only what this book has counted, and so does what is at each place
-pub record HasOnly {P : Type 0} (machine : Machine Name P) (b : Book) (s : System P) : Type 0 where
-  pub processes : (p : ℕ) (x : P) → numbered_from_one p s.processes ≡ Some x → Knows machine b x
+pub record HasOnly {P : Type 0} (machine : Machine Name P) (beside : P → List Kind) (b : Book) (s : System P) : Type 0 where
+  pub processes : (p : ℕ) (x : P) → numbered_from_one p s.processes ≡ Some x → Knows machine beside b x
   pub places : (q : Place) (h : PlaceState (Cell Name) (CellReply Name)) → holding_at q s ≡ Some h → HoldingKinds (IsKnown b) h
 
-module _ {P : Type 0} (machine : Machine Name P) where
+module _ {P : Type 0} (machine : Machine Name P) (beside : P → List Kind) where
   -- the same of a book that counts no less
-  knows-more : (b c : Book) → b.ports ≤ c.ports → b.processes ≤ c.processes → (x : P) → Knows machine b x → Knows machine c x
-  knows-more b c ports processes x h = (more-held (IsKnown b) (IsKnown c) (known-more b c ports processes) (machine.held x) h.0, h.1, omega (arith, processes, h.2))
+  knows-more : (b c : Book) → b.ports ≤ c.ports → b.processes ≤ c.processes → (x : P) → Knows machine beside b x → Knows machine beside c x
+  knows-more b c ports processes x h = (more-held (IsKnown b) (IsKnown c) (known-more b c ports processes) (machine.held x) h.0, h.1, omega (arith, processes, h.2), more-among (IsKnown b) (IsKnown c) (known-more b c ports processes) (beside x) h.3)
 
-  more-only : (b c : Book) → b.ports ≤ c.ports → b.processes ≤ c.processes → (s : System P) → HasOnly machine b s → HasOnly machine c s
+  more-only : (b c : Book) → b.ports ≤ c.ports → b.processes ≤ c.processes → (s : System P) → HasOnly machine beside b s → HasOnly machine beside c s
   more-only b c ports processes s k = record {
     processes = λ p x is. knows-more b c ports processes x (k.processes p x is);
     places = λ q h at. more-holding (IsKnown b) (IsKnown c) (known-more b c ports processes) h (k.places q h at);
   }
 
-  set-only : (b : Book) (p : ℕ) (y : P) (s : System P) → Knows machine b y → HasOnly machine b s → HasOnly machine b (set_process p y s)
+  set-only : (b : Book) (p : ℕ) (y : P) (s : System P) → Knows machine beside b y → HasOnly machine beside b s → HasOnly machine beside b (set_process p y s)
   set-only b p y s new k = record {
     processes = λ q x is. by_place x (set-found_from_one s.processes p q y x is) (k.processes q x);
     places = λ q h at. k.places q h (sym (held-with_process q p y s) ∙ at);
   }
     where
-      by_place : {Y Z : Type 0} (x : P) → (Y × (y ≡ x)) ⊎ Z → (Z → Knows machine b x) → Knows machine b x
-      by_place x (inl e) old = subst (Knows machine b) e.1 new
+      by_place : {Y Z : Type 0} (x : P) → (Y × (y ≡ x)) ⊎ Z → (Z → Knows machine beside b x) → Knows machine beside b x
+      by_place x (inl e) old = subst (Knows machine beside b) e.1 new
       by_place x (inr e) old = old e
 
-  place-only : (b : Book) (place : Place) (k : PlaceState (Cell Name) (CellReply Name)) (s : System P) → HoldingKinds (IsKnown b) k → HasOnly machine b s → HasOnly machine b (set_holding place k s)
+  place-only : (b : Book) (place : Place) (k : PlaceState (Cell Name) (CellReply Name)) (s : System P) → HoldingKinds (IsKnown b) k → HasOnly machine beside b s → HasOnly machine beside b (set_holding place k s)
   place-only b place k s new o = record {
     processes = λ q x is. o.processes q x (ap (numbered_from_one q) (sym (processes-stay place k s)) ∙ is);
     places = λ q h at. by_place h (found-place place q k h s at) (o.places q h);
@@ -224,7 +228,7 @@ module _ {P : Type 0} (machine : Machine Name P) where
       by_place h (inr e) old = old e
 
   -- with what was made
-  module _ (b : Book) (s : System P) (k : HasOnly machine b s) where
+  module _ (b : Book) (s : System P) (k : HasOnly machine beside b s) where
     more-port : (n : ℕ) (h : PlaceState (Cell Name) (CellReply Name)) → option_map a_port (slice_get (s.ports ++ empty_port ∷ []) n) ≡ Some h → HoldingKinds (IsKnown b) h
     more-port n h at =
         let f = map-some a_port (slice_get (s.ports ++ empty_port ∷ []) n) h at in
@@ -243,7 +247,7 @@ module _ {P : Type 0} (machine : Machine Name P) where
         by_place rs (inl e) old = subst (RepliesKinds (IsKnown b)) e.1 tt
         by_place rs (inr e) old = old e
 
-    port-only : HasOnly machine b (record s { ports = s.ports ++ empty_port ∷ [] })
+    port-only : HasOnly machine beside b (record s { ports = s.ports ++ empty_port ∷ [] })
     port-only = record { processes = k.processes; places = at }
       where
         at : (q : Place) (h : PlaceState (Cell Name) (CellReply Name)) → holding_at q (record s { ports = s.ports ++ empty_port ∷ [] }) ≡ Some h → HoldingKinds (IsKnown b) h
@@ -251,11 +255,11 @@ module _ {P : Type 0} (machine : Machine Name P) where
         at (reply_cell p) h e = k.places (reply_cell p) h e
         at book h e = k.places book h e
 
-    process-only : (y : P) → Knows machine b y → HasOnly machine b (record s { processes = s.processes ++ y ∷ []; ports = s.ports ++ empty_port ∷ []; replies = s.replies ++ [] ∷ [] })
+    process-only : (y : P) → Knows machine beside b y → HasOnly machine beside b (record s { processes = s.processes ++ y ∷ []; ports = s.ports ++ empty_port ∷ []; replies = s.replies ++ [] ∷ [] })
     process-only y new = record { processes = λ q x is. by_place x (more-found_from_one s.processes q y x is) (k.processes q x); places = at }
       where
-        by_place : {Y Z : Type 0} (x : P) → (Y × (y ≡ x)) ⊎ Z → (Z → Knows machine b x) → Knows machine b x
-        by_place x (inl e) old = subst (Knows machine b) e.1 new
+        by_place : {Y Z : Type 0} (x : P) → (Y × (y ≡ x)) ⊎ Z → (Z → Knows machine beside b x) → Knows machine beside b x
+        by_place x (inl e) old = subst (Knows machine beside b) e.1 new
         by_place x (inr e) old = old e
 
         at : (q : Place) (h : PlaceState (Cell Name) (CellReply Name)) → holding_at q (record s { processes = s.processes ++ y ∷ []; ports = s.ports ++ empty_port ∷ []; replies = s.replies ++ [] ∷ [] }) ≡ Some h → HoldingKinds (IsKnown b) h
@@ -263,18 +267,18 @@ module _ {P : Type 0} (machine : Machine Name P) where
         at (reply_cell p) h e = more-cell p h e
         at book h e = k.places book h e
 
-  module _ (known : KnowsPlaces machine) where
-    made-only : (maker : P) (a : CellAction Name) (b : Book) (s t : System P) → with_made machine maker a s ≡ Some t → MadeKinds b a → HasOnly machine b s → HasOnly machine b t
-    made-only maker (make_port (Some n)) b s t e m k = subst (HasOnly machine b) (some-injective e) (port-only b s k)
+  module _ (known : KnowsPlaces machine beside) where
+    made-only : (maker : P) (a : CellAction Name) (b : Book) (s t : System P) → with_made machine maker a s ≡ Some t → MadeKinds b a → HasOnly machine beside b s → HasOnly machine beside b t
+    made-only maker (make_port (Some n)) b s t e m k = subst (HasOnly machine beside b) (some-injective e) (port-only b s k)
     made-only maker (make_process code (Some made)) b s t e m k =
         let f = map-some _ (machine.begin code made.0 (inport_of machine made.1 maker)) t e in
-        subst (HasOnly machine b) f.2 (process-only b s k f.0 (known.begins b code made.0 (inport_of machine made.1 maker) f.0 (m.2, tt) m.0 m.1 f.1))
-    made-only maker a b s t e m k = subst (HasOnly machine b) (some-injective e) k
+        subst (HasOnly machine beside b) f.2 (process-only b s k f.0 (known.begins b code made.0 (inport_of machine made.1 maker) f.0 (m.2, tt) m.0 m.1 f.1))
+    made-only maker a b s t e m k = subst (HasOnly machine beside b) (some-injective e) k
 
-    step-knows : (e : Event) (s : System P) (m : Moved P) → step machine e s ≡ Some m → HasOnly machine s.book s → HasOnly machine m.system.book m.system
+    step-knows : (e : Event) (s : System P) (m : Moved P) → step machine e s ≡ Some m → HasOnly machine beside s.book s → HasOnly machine beside m.system.book m.system
     step-knows (steps p) s m is k =
         let parts = step-parts machine p s m is in
-        subst (λ (m : Moved P). HasOnly machine m.system.book m.system) parts.moved (set-only s.book p parts.left.0 s (known.local_steps s.book parts.state parts.left.0 (k.processes p parts.state parts.is) parts.left.1) k)
+        subst (λ (m : Moved P). HasOnly machine beside m.system.book m.system) parts.moved (set-only s.book p parts.left.0 s (known.local_steps s.book parts.state parts.left.0 (k.processes p parts.state parts.is) parts.left.1) k)
     step-knows (acts p place) s m is k =
         let parts = action-parts machine p place s m is in
         let t = set_process p parts.left.0 (set_holding place (after parts.did.0 parts.at.0) s) in
@@ -289,11 +293,11 @@ module _ {P : Type 0} (machine : Machine Name P) where
         let behind = known.answers c parts.state parts.left.0 parts.want.0 (number_of place) parts.did.0 (knows-more b c counted.0 counted.1 parts.state knows) parts.want.1 (done-fulfils parts.want.0 parts.at.0 parts.did.0 parts.did.1) brings parts.left.1 in
         let old = more-only b c counted.0 counted.1 s k in
         let now = made-only parts.state parts.did.0 c t parts.makes.0 parts.makes.1 counted.2 (set-only c p parts.left.0 (set_holding place (after parts.did.0 parts.at.0) s) behind (place-only c place (after parts.did.0 parts.at.0) s (after-kinds c parts.did.0 parts.at.0 brings held) old)) in
-        subst (λ (m : Moved P). HasOnly machine m.system.book m.system) parts.moved (subst (λ d. HasOnly machine d parts.makes.0) (sym (made-book machine parts.state parts.did.0 t parts.makes.0 parts.makes.1)) now)
+        subst (λ (m : Moved P). HasOnly machine beside m.system.book m.system) parts.moved (subst (λ d. HasOnly machine beside d parts.makes.0) (sym (made-book machine parts.state parts.did.0 t parts.makes.0 parts.makes.1)) now)
 
-    pub run-knows : (events : List Event) (r t : Run P) → run machine events r ≡ Some t → HasOnly machine r.system.book r.system → HasOnly machine t.system.book t.system
-    run-knows [] r t is k = subst (λ (x : Run P). HasOnly machine x.system.book x.system) (some-injective is) k
+    pub run-knows : (events : List Event) (r t : Run P) → run machine events r ≡ Some t → HasOnly machine beside r.system.book r.system → HasOnly machine beside t.system.book t.system
+    run-knows [] r t is k = subst (λ (x : Run P). HasOnly machine beside x.system.book x.system) (some-injective is) k
     run-knows (e ∷ events) r t is k =
         let b = chain-some (run machine events) (run_on machine e r) t is in
         let m = map-some (λ (m : Moved P). record { system = m.system; journal = with_entry r.journal e m.done }) (step machine e r.system) b.0 b.1 in
-        run-knows events b.0 t b.2 (subst (λ (x : Run P). HasOnly machine x.system.book x.system) m.2 (step-knows e r.system m.0 m.1 k))
+        run-knows events b.0 t b.2 (subst (λ (x : Run P). HasOnly machine beside x.system.book x.system) m.2 (step-knows e r.system m.0 m.1 k))

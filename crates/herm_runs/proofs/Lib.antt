@@ -1,3 +1,4 @@
+pub mod HeldParts
 pub mod Events
 pub mod ActionParts
 pub mod SystemLedger

@@ -1,7 +1,7 @@
 -- In runs a process waits for a message or for a reply alone.
-use Rattle.std.proofs.Common.{◌≡◌, ℕ, ◌≤◌, false, ◌||◌, option_map, option_and_then, slice_get, sym, ap, ◌∙◌, arith, true≢false}
+use Rattle.std.proofs.Common.{◌≡◌, ℕ, ◌≤◌, List, false, ◌||◌, option_map, option_and_then, slice_get, sym, ap, ◌∙◌, arith, true≢false}
 use Rattle.std.specs.Prelude.{is_some}
-use Rattle.herm_model.specs.Values.{Name, Cell}
+use Rattle.herm_model.specs.Values.{Kind, Name, Cell}
 use Rattle.herm_model.proofs.Options.{map-some}
 use Rattle.herm_journal.specs.Actions.{new_port, new_process, to_put, to_take, to_close, to_answer, to_hear}
 use Rattle.herm_journal.specs.PlaceStates.{a_port, replies}
@@ -37,10 +37,10 @@ can-wait machine s numbered p least most (to_answer caller call r) known e =
     absurd (true≢false (sym (ap (λ o. is_some (option_and_then (done_at {M = Cell Name} {R = CellReply Name} (to_answer caller call r)) (option_map replies o)) || false) q.1) ∙ e))
 can-wait machine s numbered p least most to_hear known e = tt
 
-pub only-takes-wait : {P : Type 0} (machine : Machine Name P) → KeepsNumbers machine → KnowsPlaces machine → OnlyTakesAndHearsWait machine
-only-takes-wait machine keeps known limits argument first events r main is p x want found wants e =
+pub only-takes-wait : {P : Type 0} (machine : Machine Name P) (beside : P → List Kind) → KeepsNumbers machine → KnowsPlaces machine beside → OnlyTakesAndHearsWait machine
+only-takes-wait machine beside keeps known limits argument first events r main is p x want found wants e =
     let numbered = runs-numbered machine keeps limits argument first events r main is in
-    let all = run-knows machine known events (start machine limits argument) r is (opening-knows machine known limits argument first main) in
+    let all = run-knows machine beside known events (start machine limits argument) r is (opening-knows machine beside known limits argument first main) in
     let knows = all.processes p x found in
     let number = (numbered.processes p x found).0 in
     can-wait machine r.system numbered p (omega (arith, knows.1, number)) (omega (arith, knows.2, number)) want (known.wants r.system.book x want knows wants) e

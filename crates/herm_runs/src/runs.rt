@@ -1,6 +1,7 @@
 // Laws of rounds, runs and journals. Runs are those of machines with a main.
 
-ghost use Rattle.herm_model.specs.Values.{Name};
+ghost use Rattle.herm_model.specs.Values.{Kind, Name};
+ghost use Rattle.std.specs.Prelude.{List};
 ghost use Rattle.herm_system.specs.Machines.{Machine};
 ghost use Rattle.herm_runs.specs.laws.ProcessLaws.{KeepsLedger, KeepsNumbers, KnowsPlaces};
 ghost use Rattle.herm_runs.specs.laws.OrderLaws.{OrderedJournalsAreRuns};
@@ -31,7 +32,7 @@ pub fn runs_are_journals<P>()
 /// same state: two actions that stand in the wrong order are of different processes and at different places, and could
 /// as well have been done the other way round.
 pub fn ordered_journals_are_runs<P>()
-    ensures runs { (machine : Machine Name P) → KeepsNumbers machine → KnowsPlaces machine → OrderedJournalsAreRuns machine }
+    ensures runs { (machine : Machine Name P) (beside : P → List Kind) → KeepsNumbers machine → KnowsPlaces machine beside → OrderedJournalsAreRuns machine }
 {}
 
 /// Whatever the schedule, every state of a run has the ledger: what was made is what is held, queued and finalised, by
@@ -66,5 +67,5 @@ pub fn histories_tell<P>()
 /// Whatever the schedule, a process waits for a message or for a reply alone: whatever else it wants is wanted of a place
 /// that is there, and can be done.
 pub fn only_takes_and_hears_wait<P>()
-    ensures wait { (machine : Machine Name P) → KeepsNumbers machine → KnowsPlaces machine → OnlyTakesAndHearsWait machine }
+    ensures wait { (machine : Machine Name P) (beside : P → List Kind) → KeepsNumbers machine → KnowsPlaces machine beside → OnlyTakesAndHearsWait machine }
 {}

@@ -24,7 +24,7 @@ use Rattle.herm_forms.proofs.Weights.{weigh-gaps}
 use Rattle.herm_forms.proofs.Balance.{Balanced, AllBalanced}
 use Rattle.herm_forms.proofs.KeptActions.{kept-work_done}
 use Rattle.herm_forms.proofs.Counting.{recount}
-use Rattle.herm_forms.proofs.KeptForms.{balanced-arrive, kept-act, kept-settle, settle-reply}
+use Rattle.herm_forms.proofs.KeptForms.{balanced-arrive, kept-act, kept-settle, settle-reply, item-goes}
 use Rattle.herm_forms.proofs.Begun.{begun, over, none-begun, none-over}
 use Rattle.herm_model.specs.examples.TableExamples.{k}
 use Rattle.herm_source.proofs.OpeningFrame.{opening_frame}
@@ -88,12 +88,6 @@ front-is [] call n item work is = absurd (not_item call n item work is)
 front-is (c ∷ list) call n item work is = cc is
 
 module _ {N : Type 0} (w : N → ℕ) (extra : Kind → ℕ) (name : Name → N) (spares : SparesPlain extra) where
-  -- nothing goes out with an item of the work list
-  item-goes : (item : Cell N) (b : Frame N) (want : CellWant N) (action : CellAction N) → Exchanges.work_wants item ≡ Some want → load_going w extra name b want action ≡ 0
-  item-goes (cell n (an_inport port) ps) b want action is = rw (sym (some-injective is)) refl
-  item-goes (cell n (a_callmessage caller call) ps) b want action is = rw (sym (some-injective is)) refl
-  item-goes (cell n k ps) b want action is = none-not_some is
-
   settle-item : (c : Module) (s t : State N) (want : CellWant N) (action : CellAction N) (item : Cell N) (work : List (Cell N)) → s.frame.work ≡ item ∷ work → Exchanges.work_wants item ≡ Some want
       → state_after c s None (Exchanges.work_done item action (counted_action (record (s.frame) { work = work }))) ≡ Some t
       → Balanced w extra name (weight_made w name s.frame) (load_kept w extra s.frame + load_coming w extra action) (load_going w extra name s.frame want action + extra (kind_of item)) t.frame
@@ -103,7 +97,7 @@ module _ {N : Type 0} (w : N → ℕ) (extra : Kind → ℕ) (name : Name → N)
       let b : Frame N = counted_action (record (s.frame) { work = work }) in
       let whole : load_all w extra s.frame.work ≡ load w extra item + load_all w extra work = ap (load_all w extra) front in
       let e = balanced-behind w extra name spares m k (0 + extra (kind_of item)) c s None (Exchanges.work_done item action b) t (kept-work_done w extra name spares m k item action b (omega arith)) is' in
-      omega (arith, item-goes item s.frame want action is)
+      omega (arith, item-goes w extra name item s.frame want action is)
 
   pub balanced-settle_next : (c : Module) (s t : State N) (want : CellWant N) (at : ℕ) (action : CellAction N) (next : Next N) → next_of c s ≡ next
       → wanted_next name c s.frame next ≡ Some want → settle_next name c s at action next ≡ Some t → CopiesNext (Spares extra) c s.frame next

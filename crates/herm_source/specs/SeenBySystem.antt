@@ -1,42 +1,23 @@
 -- What a process holds, at which ports it looks and which call it has open, as a system sees it.
-use Rattle.std.specs.Prelude.{ℕ, List, [], ◌∷◌, ◌++◌, map, flat_map, Bool, Option, Some, None, option_map, option_and_then}
+use Rattle.std.specs.Prelude.{ℕ, List, Bool, Option, Some, None, option_map, option_and_then}
 use Rattle.herm_model.specs.Paths.{Path}
 use Rattle.herm_model.specs.Nodes.{Node}
 use Rattle.herm_model.specs.Targets.{Target, node, end, end_by}
-use Rattle.herm_model.specs.Values.{Cell, Parts, no_parts, gap, part}
 use Rattle.herm_forms.specs.Frames.{Loop}
 use Rattle.herm_forms.specs.Modules.{Module}
 pub use Rattle.herm_forms.specs.Incoming.{ports_of}
 use Rattle.herm_forms.specs.Incoming.{leads_from, looked_at}
 use Rattle.herm_forms.specs.OpenCalls.{Calling, call_type}
 use Rattle.herm_system.specs.Machines.{Held, OpenCall}
+use Rattle.herm_system.specs.HeldParts.{held_parts}
 use Rattle.herm_source.specs.States.{State, node_at}
 use Rattle.herm_source.specs.Local.{calling, row_type}
-
--- a value without a type of its place
-abbrev pub untyped : {N : Type 0} → Cell N → Held N
-untyped c = record { place_type = None; value = c }
-
--- the values of variables with these types
-abbrev pub in_variables : {N : Type 0} → List ℕ → Parts N → List (Held N)
-in_variables ts no_parts = []
-in_variables [] (gap ps) = in_variables [] ps
-in_variables (t ∷ ts) (gap ps) = in_variables ts ps
-in_variables [] (part c ps) = untyped c ∷ in_variables [] ps
-in_variables (t ∷ ts) (part c ps) = record { place_type = Some t; value = c } ∷ in_variables ts ps
-
--- the rows of a loop, which are of one type
-abbrev pub in_rows : {N : Type 0} → Option ℕ → Parts N → List (Held N)
-in_rows t no_parts = []
-in_rows t (gap ps) = in_rows t ps
-in_rows t (part c ps) = record { place_type = t; value = c } ∷ in_rows t ps
 
 -- What a process holds: in its variables, in the lists of its loops and on its work list, which has no types.
 -- Language reference, "The ledger".
 abbrev pub values_held : {N : Type 0} → Module → State N → List (Held N)
 values_held c s =
-    in_variables c.variables s.frame.variables ++ flat_map (λ (l : Loop _). in_rows (row_type c l.statement) l.rows) s.frame.loops
-    ++ map untyped s.frame.work
+    held_parts c.variables s.frame.variables (λ (l : Loop _). row_type c l.statement) (λ (l : Loop _). l.rows) s.frame.loops s.frame.work
 
 -- the exception of an end
 abbrev pub exception_at : Target → Option ℕ

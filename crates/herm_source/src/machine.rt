@@ -1,6 +1,6 @@
 // The source machine meets the laws of one process that the laws of runs ask for.
 
-ghost use Rattle.herm_runs.specs.laws.ProcessLaws.{ForgetsNames, KeepsLedger, KeepsNumbers, KnowsPlaces};
+ghost use Rattle.herm_runs.specs.laws.ProcessLaws.{ForgetsNames, KeepsLedger, KeepsNumbers, KnowsPlaces, cells_alone};
 ghost use Rattle.herm_runs.specs.laws.SuitsLaws.{LooksAtHeld};
 ghost use Rattle.herm_source.specs.Instance.{IsSoundIn, nameless, source};
 ghost use Rattle.herm_source.specs.laws.NumberLaws.{AnswersStay, LocalStepsStay};
@@ -27,7 +27,7 @@ pub fn the_ledger_is_kept()
 /// A process that knows only ports and callers that the book has counted wants nothing of others, and learns only what
 /// comes to it.
 pub fn places_are_known()
-    ensures places { (modules : Modules) → KnowsPlaces (source modules) }
+    ensures places { (modules : Modules) → KnowsPlaces (source modules) cells_alone }
 {}
 
 /// A process does the same without the names of its cells.

@@ -1,4 +1,5 @@
 pub mod Machines
+pub mod HeldParts
 pub mod Systems
 pub mod Rounds
 pub mod Ledger

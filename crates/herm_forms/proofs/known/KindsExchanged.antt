@@ -42,11 +42,11 @@ module _ (of : Kind → Type 0) where
 
 module _ {N : Type 0} (name : Name → N) (of : Kind → Type 0) (allows : AllowsPlain of) where
   -- what was taken out of paths, and a composed callmessage
-  abbrev IfTaken : Option (Taken N) → Type 0
+  abbrev pub IfTaken : Option (Taken N) → Type 0
   IfTaken None = Unit {0}
   IfTaken (Some t) = AllKinds of t.cells × BodyKinds of t.frame
 
-  abbrev IfComposed : Option (Composed N) → Type 0
+  abbrev pub IfComposed : Option (Composed N) → Type 0
   IfComposed None = Unit {0}
   IfComposed (Some c) = HasKinds of c.message × BodyKinds of c.frame
 
@@ -81,7 +81,7 @@ module _ {N : Type 0} (name : Name → N) (of : Kind → Type 0) (allows : Allow
   compose-taken modes copies None h k = tt
   compose-taken modes copies (Some t) h k = with-message t.frame (assemble modes copies t.cells) k.1 (assemble-kinds modes copies t.cells h k.0)
 
-  compose-kinds : (modes : List Mode) (inputs : Parts ⊤) (lost moved : List Path) (b : Frame N) → HaveKinds of inputs → BodyKinds of b → IfComposed (compose name modes inputs lost moved b)
+  pub compose-kinds : (modes : List Mode) (inputs : Parts ⊤) (lost moved : List Path) (b : Frame N) → HaveKinds of inputs → BodyKinds of b → IfComposed (compose name modes inputs lost moved b)
   compose-kinds modes inputs lost moved b h e =
       compose-taken modes (copy_in (λ s. name (b.number, s)) b.serial inputs) (take_all moved (drop lost (record b { serial = b.serial + count_in inputs }))) (copy-kinds_in of (λ s. name (b.number, s)) b.serial inputs h)
       (take-all moved (drop lost (record b { serial = b.serial + count_in inputs })) (is-drop name of allows lost (record b { serial = b.serial + count_in inputs }) e))
@@ -100,7 +100,7 @@ module _ {N : Type 0} (name : Name → N) (of : Kind → Type 0) (allows : Allow
       composed-inputs _ (inputs_of (call_parameters c.types c.variables o) arguments b.variables) (inputs-kinds (call_parameters c.types c.variables o) arguments b.variables e.0)
       (λ inputs h. compose-kinds (map (λ p. p.mode) (call_parameters c.types c.variables o)) inputs (flat_map (λ p. excess_over_full c p b) (arguments_at c is_inout o arguments)) (arguments_at c is_inout o arguments) b h e)
 
-  given-kinds : (c : Module) (paths : List Path) (b : Frame N) → BodyKinds of b → IfTaken (given_back c paths b)
+  pub given-kinds : (c : Module) (paths : List Path) (b : Frame N) → BodyKinds of b → IfTaken (given_back c paths b)
   given-kinds c paths b e = take-all paths (drop (flat_map (λ p. excess_over_full c p b) paths) b) (is-drop name of allows (flat_map (λ p. excess_over_full c p b) paths) b e)
 
   -- the port that the outport at a path leads to, and that of an inport
@@ -120,10 +120,10 @@ module _ {N : Type 0} (name : Name → N) (of : Kind → Type 0) (allows : Allow
   inport-cell None h = tt
   inport-cell (Some c) h = inport-kinds name of allows c h
 
-  outport-path : (o : Path) (b : Frame N) → BodyKinds of b → IfOutport (outport_at o b)
+  pub outport-path : (o : Path) (b : Frame N) → BodyKinds of b → IfOutport (outport_at o b)
   outport-path o b e = outport-cell (read_at o b.variables) (read-kinds of o b.variables e.0)
 
-  inport-path : (i : Path) (b : Frame N) → BodyKinds of b → IfInport name of allows (inport_at i b)
+  pub inport-path : (i : Path) (b : Frame N) → BodyKinds of b → IfInport name of allows (inport_at i b)
   inport-path i b e = inport-cell (read_at i b.variables) (read-kinds of i b.variables e.0)
 
   -- what each form wants
@@ -131,7 +131,7 @@ module _ {N : Type 0} (name : Name → N) (of : Kind → Type 0) (allows : Allow
   put-kinds n None h k = tt
   put-kinds n (Some m) h k = (h, k)
 
-  send-wants : (o : Option ℕ) (m : Option (Cell N)) → IfOutport o → IfKinds of m → IfWant of (option_and_then (λ port. option_map (to_put port) m) o)
+  pub send-wants : (o : Option ℕ) (m : Option (Cell N)) → IfOutport o → IfKinds of m → IfWant of (option_and_then (λ port. option_map (to_put port) m) o)
   send-wants None m h k = tt
   send-wants (Some n) m h k = put-kinds n m h k
 
@@ -139,7 +139,7 @@ module _ {N : Type 0} (name : Name → N) (of : Kind → Type 0) (allows : Allow
   call-put n None h k = tt
   call-put n (Some c) h k = (h, k.0)
 
-  call-wants : (o : Option ℕ) (k : Option (Composed N)) → IfOutport o → IfComposed k → IfWant of (option_and_then (λ port. option_map (λ c. to_put port c.message) k) o)
+  pub call-wants : (o : Option ℕ) (k : Option (Composed N)) → IfOutport o → IfComposed k → IfWant of (option_and_then (λ port. option_map (λ c. to_put port c.message) k) o)
   call-wants None k h g = tt
   call-wants (Some n) k h g = call-put n k h g
 
@@ -159,11 +159,11 @@ module _ {N : Type 0} (name : Name → N) (of : Kind → Type 0) (allows : Allow
   port-then None more h k = tt
   port-then (Some n) more h k = port-before n more h k
 
-  ports-kinds : (paths : List Path) (b : Frame N) → BodyKinds of b → IfPorts (ports_at paths b)
+  pub ports-kinds : (paths : List Path) (b : Frame N) → BodyKinds of b → IfPorts (ports_at paths b)
   ports-kinds [] b e = tt
   ports-kinds (i ∷ paths) b e = port-then (inport_at i b) (ports_at paths b) (inport-path i b e) (ports-kinds paths b e)
 
-  select-wants : (o : Option (List ℕ)) → IfPorts o → IfWant {N = N} of (option_map to_take o)
+  pub select-wants : (o : Option (List ℕ)) → IfPorts o → IfWant {N = N} of (option_map to_take o)
   select-wants None h = tt
   select-wants (Some ports) h = h
 
@@ -175,7 +175,7 @@ module _ {N : Type 0} (name : Name → N) (of : Kind → Type 0) (allows : Allow
   caller-kinds (cell n (a_callmessage caller call) ps) h = h.0
   caller-kinds c h = tt
 
-  caller-cell : (o : Option (Cell N)) → IfKinds of o → IfCaller (option_and_then caller_of o)
+  pub caller-cell : (o : Option (Cell N)) → IfKinds of o → IfCaller (option_and_then caller_of o)
   caller-cell None h = tt
   caller-cell (Some c) h = caller-kinds c h
 
@@ -184,7 +184,7 @@ module _ {N : Type 0} (name : Name → N) (of : Kind → Type 0) (allows : Allow
   answer-kinds reply c None on h k = tt
   answer-kinds reply c (Some t) on h k = (h, on t.cells k.0)
 
-  return-wants : (reply : List (Cell N) → CellReply N) (c : Option (ℕ × ℕ)) (o : Option (Taken N)) → ((cs : List (Cell N)) → AllKinds of cs → ReplyKinds of (reply cs)) → IfCaller c → IfTaken o →
+  pub return-wants : (reply : List (Cell N) → CellReply N) (c : Option (ℕ × ℕ)) (o : Option (Taken N)) → ((cs : List (Cell N)) → AllKinds of cs → ReplyKinds of (reply cs)) → IfCaller c → IfTaken o →
       IfWant of (option_and_then (λ c. option_map (λ t. to_answer c.0 c.1 (reply t.cells)) o) c)
   return-wants reply None o on h k = tt
   return-wants reply (Some c) o on h k = answer-kinds reply c o on h k
@@ -217,7 +217,7 @@ module _ {N : Type 0} (name : Name → N) (of : Kind → Type 0) (allows : Allow
   all-create o (make_process code None) b h e = went _ b e
   all-create o _ b h e = never
 
-  all-send : (lost : List Path) (x : Path) (a : CellAction N) (b : Frame N) → ActionKinds of a → BodyKinds of b → All name of allows (Exchanges.send lost x a b)
+  pub all-send : (lost : List Path) (x : Path) (a : CellAction N) (b : Frame N) → ActionKinds of a → BodyKinds of b → All name of allows (Exchanges.send lost x a b)
   all-send lost x (put (Some k) m) b h e = all-moving name of allows lost x _ b e (λ d b' h' e'. went ok b' e')
   all-send lost x (put None m) b h e = all-moving name of allows lost x _ b e (λ d b' h' e'. all-putting name of allows x (raised disconnected) m b' h e')
   all-send lost x _ b h e = never
@@ -230,7 +230,7 @@ module _ {N : Type 0} (name : Name → N) (of : Kind → Type 0) (allows : Allow
   all-receive_at [] i place m b h e = never
   all-receive_at (x ∷ targets) i place m b h e = all-cond name of allows (nat_eq i place) _ _ (all-putting name of allows x (arm place) m b h e) (all-receive_at targets (suc i) place m b h e)
 
-  all-select : (targets ports : List Path) (from : ℕ) (a : CellAction N) (b : Frame N) → ActionKinds of a → BodyKinds of b → All name of allows (Exchanges.select targets ports from a b)
+  pub all-select : (targets ports : List Path) (from : ℕ) (a : CellAction N) (b : Frame N) → ActionKinds of a → BodyKinds of b → All name of allows (Exchanges.select targets ports from a b)
   all-select targets ports from (take k m) b h e = all-there name of allows _ (option_and_then (place_of_port 0 from) (ports_at ports b)) (λ place. all-receive_at targets 0 place m b h e)
   all-select targets ports from _ b h e = never
 
@@ -238,7 +238,7 @@ module _ {N : Type 0} (name : Name → N) (of : Kind → Type 0) (allows : Allow
   all-composed next None h on = never
   all-composed next (Some c) h on = on c h.1
 
-  all-call : (k : Option (Composed N)) (outs : List Path) (a : CellAction N) → IfComposed k → ActionKinds of a → All name of allows (callmessages.call k outs a)
+  pub all-call : (k : Option (Composed N)) (outs : List Path) (a : CellAction N) → IfComposed k → ActionKinds of a → All name of allows (callmessages.call k outs a)
   all-call k outs (put (Some i) m) h g = all-composed _ k h (λ c e. stayed (record c.frame { call = Some c.call }) e)
   all-call k outs (put None m) h g = all-composed _ k h (λ c e. went (raised disconnected) (drop outs (finalise_at_once m c.frame)) (is-drop name of allows outs (finalise_at_once m c.frame) (is-end name of allows m c.frame g e)))
   all-call k outs _ h g = never
@@ -247,7 +247,7 @@ module _ {N : Type 0} (name : Name → N) (of : Kind → Type 0) (allows : Allow
   all-taken next None h on = never
   all-taken next (Some t) h on = on t h.1
 
-  all-return : (taken : Option (Taken N)) (m : Path) (a : CellAction N) → IfTaken taken → All name of allows (callmessages.return taken m a)
+  pub all-return : (taken : Option (Taken N)) (m : Path) (a : CellAction N) → IfTaken taken → All name of allows (callmessages.return taken m a)
   all-return taken m (answer k r) h = all-taken _ taken h (λ t e. all-taking name of allows m _ t.frame e (λ d b' g e'. went ok (finalise_at_once d b') (is-end name of allows d b' g e')))
   all-return taken m _ h = never
 
@@ -256,7 +256,7 @@ module _ {N : Type 0} (name : Name → N) (of : Kind → Type 0) (allows : Allow
   all-hear_reply back outs keep left (Actions.raised x cs) b h e = all-putting_all name of allows (keep x) (raised x) cs (drop (left x) b) h (is-drop name of allows (left x) b e)
   all-hear_reply back outs keep left gone b h e = went (raised disconnected) (drop outs b) (is-drop name of allows outs b e)
 
-  all-hear_call : (back outs : List Path) (keep left : ℕ → List Path) (call : ℕ) (a : CellAction N) (b : Frame N) → ActionKinds of a → BodyKinds of b → All name of allows (callmessages.hear_call back outs keep left call a b)
+  pub all-hear_call : (back outs : List Path) (keep left : ℕ → List Path) (call : ℕ) (a : CellAction N) (b : Frame N) → ActionKinds of a → BodyKinds of b → All name of allows (callmessages.hear_call back outs keep left call a b)
   all-hear_call back outs keep left call (hear k r) b h e = all-cond name of allows (nat_eq k call) _ _ (all-hear_reply back outs keep left r (record b { call = None }) h e) never
   all-hear_call back outs keep left call _ b h e = never
 

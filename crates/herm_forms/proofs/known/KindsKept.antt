@@ -26,6 +26,7 @@ use Rattle.herm_forms.specs.Excess.{excess_over_full}
 use Rattle.herm_forms.specs.Modules.{Module}
 use Rattle.herm_forms.specs.Acts.{key_at, new_value, act}
 use Rattle.herm_journal.specs.Kinds.{HasKinds, HaveKinds, AllKinds}
+use Rattle.herm_journal.proofs.MoreKinds.{ListKinds}
 use Rattle.herm_forms.proofs.known.HeldKinds.{IfKinds, all-append, part-kinds, cell-kinds, read-kinds, parts-kinds, set-kinds_at, change-kinds_at, with-kinds, joined-kinds, without-kinds, gaps-kinds, copy-kinds, copy-kinds_in, renamed-kinds, pending-kinds, pending-kinds_in}
 
 -- kinds without numbers of ports and processes are allowed, and outports to the ports of inports
@@ -42,8 +43,7 @@ IfParts of None = Unit {0}
 IfParts of (Some ps) = HaveKinds of ps
 
 abbrev pub LoopKinds : {N : Type 0} → (Kind → Type 0) → List (Loop N) → Type 0
-LoopKinds of [] = Unit {0}
-LoopKinds of (l ∷ loops) = HaveKinds of l.rows × LoopKinds of loops
+LoopKinds of loops = ListKinds of (λ (l : Loop _). l.rows) loops
 
 -- the value that an expression gives has the property
 abbrev pub Gives : (Value → Type 0) → Evaluated → Type 0
@@ -71,33 +71,33 @@ module _ (Of : Value → Type 0) (scalars : (s : Scalar) → Of (Evaluate.scalar
   scalar-given : (s : Scalar) → Gives Of (gives_scalar s)
   scalar-given s = scalars s
 
-  scalar-then : {N : Type 0} (f : Scalar → Evaluated) (c : Cell N) → ((s : Scalar) → Gives Of (f s)) → Gives Of (scalar_then f c)
+  pub scalar-then : {N : Type 0} (f : Scalar → Evaluated) (c : Cell N) → ((s : Scalar) → Gives Of (f s)) → Gives Of (scalar_then f c)
   scalar-then f (cell n (a_scalar s) ps) on = on s
   scalar-then f (cell n k ps) on = tt
 
-  one-then : (f : Scalar → Evaluated) (x : Evaluated) → ((s : Scalar) → Gives Of (f s)) → Gives Of (one_then f x)
+  pub one-then : (f : Scalar → Evaluated) (x : Evaluated) → ((s : Scalar) → Gives Of (f s)) → Gives Of (one_then f x)
   one-then f (gives v) on = scalar-then f v on
   one-then f (raises e) on = tt
   one-then f no_value on = tt
 
-  two-then : (f : Scalar → Scalar → Evaluated) (x y : Evaluated) → ((s t : Scalar) → Gives Of (f s t)) → Gives Of (two_then f x y)
+  pub two-then : (f : Scalar → Scalar → Evaluated) (x y : Evaluated) → ((s t : Scalar) → Gives Of (f s t)) → Gives Of (two_then f x y)
   two-then f (gives v) y on = scalar-then (λ s. one_then (f s) y) v (λ s. one-then (f s) y (on s))
   two-then f (raises e) y on = tt
   two-then f no_value y on = tt
 
-  boolean-then : (f : Bool → Evaluated) (s : Scalar) → ((b : Bool) → Gives Of (f b)) → Gives Of (boolean_then f s)
+  pub boolean-then : (f : Bool → Evaluated) (s : Scalar) → ((b : Bool) → Gives Of (f b)) → Gives Of (boolean_then f s)
   boolean-then f (a_boolean b) on = on b
   boolean-then f s on = tt
 
-  integer-then : (f : ℤ → Evaluated) (s : Scalar) → ((z : ℤ) → Gives Of (f z)) → Gives Of (integer_then f s)
+  pub integer-then : (f : ℤ → Evaluated) (s : Scalar) → ((z : ℤ) → Gives Of (f z)) → Gives Of (integer_then f s)
   integer-then f (an_integer z) on = on z
   integer-then f s on = tt
 
-  text-then : (f : List ℕ → Evaluated) (s : Scalar) → ((t : List ℕ) → Gives Of (f t)) → Gives Of (text_then f s)
+  pub text-then : (f : List ℕ → Evaluated) (s : Scalar) → ((t : List ℕ) → Gives Of (f t)) → Gives Of (text_then f s)
   text-then f (a_text t) on = on t
   text-then f s on = tt
 
-  within-bits : (z : ℤ) → Gives Of (within_bits z)
+  pub within-bits : (z : ℤ) → Gives Of (within_bits z)
   within-bits z = gives-cond (is_integer z) (gives_scalar (an_integer z)) (raises overflow) (scalar-given (an_integer z)) tt
 
   within-length : (t : List ℕ) → Gives Of (within_length t)
@@ -120,7 +120,7 @@ module _ (Of : Value → Type 0) (scalars : (s : Scalar) → Of (Evaluate.scalar
   texts-given : (f : List ℕ → List ℕ → Evaluated) (s t : Scalar) → ((u v : List ℕ) → Gives Of (f u v)) → Gives Of (on_texts f s t)
   texts-given f s t on = text-then (λ u. text_then (f u) t) s (λ u. text-then (f u) t (on u))
 
-  operated : (o : Operator) (s t : Scalar) → Gives Of (operate o s t)
+  pub operated : (o : Operator) (s t : Scalar) → Gives Of (operate o s t)
   operated logical_or s t = booleans-given ◌||◌ s t
   operated logical_and s t = booleans-given ◌&&◌ s t
   operated equal s t = scalar-given (a_boolean (same_scalar s t))
@@ -136,7 +136,7 @@ module _ (Of : Value → Type 0) (scalars : (s : Scalar) → Of (Evaluate.scalar
   operated modulo s t = integers-given (by_divisor int_rem) s t (by-divisor int_rem)
   operated concatenated s t = texts-given (λ u v. within_length (u ++ v)) s t (λ u v. within-length (u ++ v))
 
-  rows-kinds : {N : Type 0} (o : Option (Cell N)) → Gives Of (rows_there o)
+  pub rows-kinds : {N : Type 0} (o : Option (Cell N)) → Gives Of (rows_there o)
   rows-kinds None = tt
   rows-kinds (Some (cell n a_table ps)) = scalar-given _
   rows-kinds (Some (cell n k ps)) = tt
@@ -158,7 +158,7 @@ module _ (Of : Value → Type 0) (scalars : (s : Scalar) → Of (Evaluate.scalar
 
 -- of kinds
 module _ (of : Kind → Type 0) (allows : AllowsPlain of) where
-  scalar-kinds : (s : Scalar) → HasKinds of (Evaluate.scalar_value s)
+  pub scalar-kinds : (s : Scalar) → HasKinds of (Evaluate.scalar_value s)
   scalar-kinds s = (allows.scalars s, tt)
 
   copied-kinds : {N : Type 0} (o : Option (Cell N)) → IfKinds of o → (d : Cell N) → o ≡ Some d → HasKinds of (forget d)
@@ -242,10 +242,10 @@ module _ {N : Type 0} (name : Name → N) (of : Kind → Type 0) (allows : Allow
   pub all-making : (k : Kind) (ps : Parts N) (next : Cell N → Frame N → Completion N) (b : Frame N) → of k → HaveKinds of ps → BodyKinds of b → ((c : Cell N) (b' : Frame N) → HasKinds of c → BodyKinds of b' → All (next c b')) → All (making name k ps next b)
   all-making k ps next b h g e on = on (cell (name (b.number, b.serial)) k ps) (record b { serial = suc b.serial }) (h, g) e
 
-  all-copying : {M : Type 0} (c : Cell M) (next : Cell N → Frame N → Completion N) (b : Frame N) → HasKinds of c → BodyKinds of b → ((c : Cell N) (b' : Frame N) → HasKinds of c → BodyKinds of b' → All (next c b')) → All (copying name c next b)
+  pub all-copying : {M : Type 0} (c : Cell M) (next : Cell N → Frame N → Completion N) (b : Frame N) → HasKinds of c → BodyKinds of b → ((c : Cell N) (b' : Frame N) → HasKinds of c → BodyKinds of b' → All (next c b')) → All (copying name c next b)
   all-copying c next b h e on = on (copy_from (λ s. name (b.number, s)) b.serial c) (record b { serial = b.serial + count c }) (copy-kinds of (λ s. name (b.number, s)) b.serial c h) e
 
-  all-copying_parts : {M : Type 0} (ps : Parts M) (next : Parts N → Frame N → Completion N) (b : Frame N) → HaveKinds of ps → BodyKinds of b → ((qs : Parts N) (b' : Frame N) → HaveKinds of qs → BodyKinds of b' → All (next qs b')) → All (copying_parts name ps next b)
+  pub all-copying_parts : {M : Type 0} (ps : Parts M) (next : Parts N → Frame N → Completion N) (b : Frame N) → HaveKinds of ps → BodyKinds of b → ((qs : Parts N) (b' : Frame N) → HaveKinds of qs → BodyKinds of b' → All (next qs b')) → All (copying_parts name ps next b)
   all-copying_parts ps next b h e on = on (copy_in (λ s. name (b.number, s)) b.serial ps) (record b { serial = b.serial + count_in ps }) (copy-kinds_in of (λ s. name (b.number, s)) b.serial ps h) e
 
   all-value : (next : Value → Frame N → Completion N) (v : Evaluated) (b : Frame N) → GivesKinds of v → BodyKinds of b → ((v : Value) → HasKinds of v → All (next v b)) → All (with_value next v b)
@@ -253,7 +253,7 @@ module _ {N : Type 0} (name : Name → N) (of : Kind → Type 0) (allows : Allow
   all-value next (raises x) b h e on = went (raised x) b e
   all-value next no_value b h e on = never
 
-  all-new_value : (s : Option Shape) (x : Path) (b : Frame N) → BodyKinds of b → All (new_value name s x b)
+  pub all-new_value : (s : Option Shape) (x : Path) (b : Frame N) → BodyKinds of b → All (new_value name s x b)
   all-new_value (Some (fields ts)) x b e = all-putting x ok _ (record b { serial = suc b.serial }) (allows.records, gaps-kinds of N (length ts)) e
   all-new_value (Some (rows row key)) x b e = all-putting x ok _ (record b { serial = suc b.serial }) (allows.tables, tt) e
   all-new_value (Some s) x b e = never
@@ -291,7 +291,7 @@ module _ {N : Type 0} (name : Name → N) (of : Kind → Type 0) (allows : Allow
   all-option None none some a on = a
   all-option (Some x) none some a on = on x
 
-  all-wrap : (t : ℕ) (lost : List Path) (y p : Path) (b : Frame N) → BodyKinds of b → All (Forms.wrap name t lost y p b)
+  pub all-wrap : (t : ℕ) (lost : List Path) (y p : Path) (b : Frame N) → BodyKinds of b → All (Forms.wrap name t lost y p b)
   all-wrap t lost y p b e =
       all-there _ (cell_at y (drop lost b).variables) (λ c. all-cond (nat_lt (polymorph_depth c) greatest_polymorph) _ _
       (all-moving lost y _ b e (λ content b' h e'. all-making (a_polymorph t) (part content no_parts) (putting p ok) b' (allows.polymorphs t) (h, tt) e' (λ d b'' h' e''. all-putting p ok d b'' h' e''))) (went (raised depletion) b e))
@@ -300,7 +300,7 @@ module _ {N : Type 0} (name : Name → N) (of : Kind → Type 0) (allows : Allow
   all-unwrap t p y b e =
       all-cell _ (cell_at p b.variables) (cell-kinds of p b.variables e.0) (λ c h. all-opened (content_of t c) _ _ (content-kinds t c h) (went (raised polymorph_mismatch) b e) (λ o g. all-content y o (cleared p b) g (is-cleared p b e)))
 
-  is-rows : (t : Path) (f : Parts N → Parts N) (b : Frame N) → ((ps : Parts N) → HaveKinds of ps → HaveKinds of (f ps)) → BodyKinds of b → BodyKinds of (change_rows t f b)
+  pub is-rows : (t : Path) (f : Parts N → Parts N) (b : Frame N) → ((ps : Parts N) → HaveKinds of ps → HaveKinds of (f ps)) → BodyKinds of b → BodyKinds of (change_rows t f b)
   is-rows t f b on e = (change-kinds_at of t (Forms.with_parts f) b.variables (λ c. with-kinds of f c on) e.0, e.1, e.2, e.3)
 
   all-insert : (key : List ℕ) (lost : List Path) (r t : Path) (b : Frame N) → BodyKinds of b → All (Forms.insert key lost r t b)
@@ -309,7 +309,7 @@ module _ {N : Type 0} (name : Name → N) (of : Kind → Type 0) (allows : Allow
       all-cond (has_key key (key_of key row) (parts_of table)) _ _ (went (raised duplicate_key) b e) (all-cond (nat_lt (size (parts_of table)) greatest_rows) _ _
       (all-moving lost r _ b e (λ row' b' h e'. all-there _ (read_at t b'.variables) (λ table'. went ok (change_rows t (add_row row') b') (is-rows t (add_row row') b' (λ ps g. joined-kinds of ps (part row' no_parts) g (h, tt)) e')))) (went (raised depletion) b e))))
 
-  all-finding : (key : List ℕ) (k : List Scalar) (t : Path) (next : ℕ → Cell N → Completion N) (b : Frame N) → BodyKinds of b → ((i : ℕ) (c : Cell N) → HasKinds of c → All (next i c)) → All (finding key k t next b)
+  pub all-finding : (key : List ℕ) (k : List Scalar) (t : Path) (next : ℕ → Cell N → Completion N) (b : Frame N) → BodyKinds of b → ((i : ℕ) (c : Cell N) → HasKinds of c → All (next i c)) → All (finding key k t next b)
   all-finding key k t next b e on =
       all-cell _ (read_at t b.variables) (read-kinds of t b.variables e.0) (λ table h. all-option (place_of_key key k (parts_of table)) _ _ (went _ b e) (λ i. all-cell (next i) (part_at i (parts_of table)) (part-kinds of i (parts_of table) (parts-kinds of table h)) (on i)))
 
@@ -326,11 +326,11 @@ module _ {N : Type 0} (name : Name → N) (of : Kind → Type 0) (allows : Allow
   rows-cond true ps o h g = h
   rows-cond false ps o h g = g
 
-  rows-for : (s : ℕ) (loops : List (Loop N)) → LoopKinds of loops → IfParts of (rows_for s loops)
+  pub rows-for : (s : ℕ) (loops : List (Loop N)) → LoopKinds of loops → IfParts of (rows_for s loops)
   rows-for s [] e = tt
   rows-for s (l ∷ loops) e = rows-cond (nat_eq l.statement s) l.rows (rows_for s loops) e.0 (rows-for s loops e.1)
 
-  all-next_row : (s : ℕ) (r : Path) (ps : Parts N) (b : Frame N) → HaveKinds of ps → BodyKinds of b → All (next_row s r ps b)
+  pub all-next_row : (s : ℕ) (r : Path) (ps : Parts N) (b : Frame N) → HaveKinds of ps → BodyKinds of b → All (next_row s r ps b)
   all-next_row s r no_parts b h e = went _ b e
   all-next_row s r (gap ps) b h e = never
   all-next_row s r (part row ps) b h e = all-putting r turn row (record b { loops = set_rows s ps b.loops }) h.0 (e.0, set-rows s ps b.loops h.1 e.1, e.2, e.3)
@@ -339,7 +339,7 @@ module _ {N : Type 0} (name : Name → N) (of : Kind → Type 0) (allows : Allow
   all-rows None none some h a on = a
   all-rows (Some ps) none some h a on = on ps h
 
-  all-tested : (v : Value) (b : Frame N) → BodyKinds of b → All (tested v b)
+  pub all-tested : (v : Value) (b : Frame N) → BodyKinds of b → All (tested v b)
   all-tested (cell m (a_scalar (a_boolean true)) ps) b e = went _ b e
   all-tested (cell m (a_scalar (a_boolean false)) ps) b e = went _ b e
   all-tested v b e = never
@@ -400,7 +400,7 @@ module _ {N : Type 0} (name : Name → N) (of : Kind → Type 0) (allows : Allow
   kept-loops stay [] e = tt
   kept-loops stay (l ∷ loops) e = kept-cond (stay l.statement) l (filter (λ l. stay l.statement) loops) e.0 (kept-loops stay loops e.1)
 
-  is-leave : (stay : ℕ → Bool) (b : Frame N) → BodyKinds of b → BodyKinds of (leave_loops stay b)
+  pub is-leave : (stay : ℕ → Bool) (b : Frame N) → BodyKinds of b → BodyKinds of (leave_loops stay b)
   is-leave stay b e = is-loops stay b.loops (record b { loops = filter (λ l. stay l.statement) b.loops }) e.1 (e.0, kept-loops stay b.loops e.1, e.2, e.3)
 
   pub is-arrive : (c : Module) (t : Target) (b : Frame N) → BodyKinds of b → BodyKinds of (arrive c t b)

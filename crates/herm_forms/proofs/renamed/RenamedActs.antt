@@ -34,13 +34,13 @@ module _ {N M : Type 0} (f : N → M) (name : Name → N) where
   abbrev pub again : Name → M
   again n = f (name n)
 
-  beyond_full-renamed : (c : Module) (x : Path) (b : Frame N) → excess_over_full c x (rename_body f b) ≡ excess_over_full c x b
+  pub beyond_full-renamed : (c : Module) (x : Path) (b : Frame N) → excess_over_full c x (rename_body f b) ≡ excess_over_full c x b
   beyond_full-renamed c x b = beyond-renamed f c.types (type_at c.types c.variables x) (list_of (λ t. full_facts c.types t (0 ∷ [])) (type_at c.types c.variables x)) x b
 
   beyond_declared-renamed : (c : Module) (o x : Path) (b : Frame N) → excess_over_declared c o x (rename_body f b) ≡ excess_over_declared c o x b
   beyond_declared-renamed c o x b = beyond-renamed f c.types (type_at c.types c.variables x) (list_of (λ t. declared_facts c.types t (0 ∷ [])) (Calls.inport_at c.types c.variables o)) x b
 
-  beyond_each-renamed : (c : Module) (paths : List Path) (b : Frame N) → flat_map (λ p. excess_over_full c p (rename_body f b)) paths ≡ flat_map (λ p. excess_over_full c p b) paths
+  pub beyond_each-renamed : (c : Module) (paths : List Path) (b : Frame N) → flat_map (λ p. excess_over_full c p (rename_body f b)) paths ≡ flat_map (λ p. excess_over_full c p b) paths
   beyond_each-renamed c [] b = refl
   beyond_each-renamed c (p ∷ paths) b = ap₂ (Rattle.std.specs.Prelude.◌++◌) (beyond_full-renamed c p b) (beyond_each-renamed c paths b)
 
@@ -95,7 +95,7 @@ module _ {N M : Type 0} (f : N → M) (name : Name → N) where
   inputs_of-renamed (p ∷ parameters) [] ps = refl
   inputs_of-renamed (p ∷ parameters) (a ∷ atoms) ps = ap₂ (input_of p.mode) (atom_value-renamed f ps a) (inputs_of-renamed parameters atoms ps)
 
-  inputs-renamed : (next : Parts ⊤ → Option (Composed N)) (next' : Parts ⊤ → Option (Composed M)) → ((x : Parts ⊤) → next' x ≡ option_map (rename_composed f) (next x)) → (o : Option (Parts ⊤))
+  pub inputs-renamed : (next : Parts ⊤ → Option (Composed N)) (next' : Parts ⊤ → Option (Composed M)) → ((x : Parts ⊤) → next' x ≡ option_map (rename_composed f) (next x)) → (o : Option (Parts ⊤))
       → option_and_then next' o ≡ option_map (rename_composed f) (option_and_then next o)
   inputs-renamed next next' e None = refl
   inputs-renamed next next' e (Some x) = e x
@@ -110,7 +110,7 @@ module _ {N M : Type 0} (f : N → M) (name : Name → N) where
       ∙ inputs-renamed (λ inputs. compose name modes inputs lost moved b) (λ inputs. compose again modes inputs lost moved (rename_body f b)) (λ inputs. compose-renamed f name modes inputs lost moved b)
       (inputs_of (call_parameters c.types c.variables o) arguments b.variables)
 
-  given_back-renamed : (c : Module) (given : List Path) (b : Frame N) → given_back c given (rename_body f b) ≡ option_map (rename_taken f) (given_back c given b)
+  pub given_back-renamed : (c : Module) (given : List Path) (b : Frame N) → given_back c given (rename_body f b) ≡ option_map (rename_taken f) (given_back c given b)
   given_back-renamed c given b = ap (λ lost. callmessages.give_back lost given (rename_body f b)) (beyond_each-renamed c given b) ∙ give_back-renamed f (flat_map (λ p. excess_over_full c p b) given) given b
 
   pub wants-renamed : (c : Module) (form : Form) (b : Frame N) → wants again c form (rename_body f b) ≡ option_map (rename_want f) (wants name c form b)

@@ -88,7 +88,7 @@ module _ {N M : Type 0} (f : N → M) where
       ap (λ ls. cond (stay l.statement) (rename_loop f l ∷ ls) ls) (filter-renamed stay loops)
       ∙ map-cond (rename_loop f) (stay l.statement) (l ∷ filter (λ (l : Loop N). stay l.statement) loops) (filter (λ (l : Loop N). stay l.statement) loops)
 
-  leave_loops-renamed : (stay : ℕ → Bool) (b : Frame N) → leave_loops stay (rename_body f b) ≡ rename_body f (leave_loops stay b)
+  pub leave_loops-renamed : (stay : ℕ → Bool) (b : Frame N) → leave_loops stay (rename_body f b) ≡ rename_body f (leave_loops stay b)
   leave_loops-renamed stay b =
       ap (λ ls. finalise_loops stay (map (rename_loop f) b.loops) (record (rename_body f b) { loops = ls })) (filter-renamed stay b.loops)
       ∙ finalise_loops-renamed stay b.loops (record b { loops = filter (λ (l : Loop N). stay l.statement) b.loops })
@@ -206,7 +206,7 @@ module _ {N M : Type 0} (f : N → M) where
   change_rows-renamed : (t : Path) (h : Parts N → Parts N) (h' : Parts M → Parts M) → ((ps : Parts N) → h' (rename_in f ps) ≡ rename_in f (h ps)) → (b : Frame N) → change_rows t h' (rename_body f b) ≡ rename_body f (change_rows t h b)
   change_rows-renamed t h h' e b = ap (λ ps. record (rename_body f b) { variables = ps }) (sym (change_at-rename f t (with_parts h) (with_parts h') (λ c. sym (with_parts-renamed h h' e c)) b.variables))
 
-  parts_of-renamed : (c : Cell N) → parts_of (rename f c) ≡ rename_in f (parts_of c)
+  pub parts_of-renamed : (c : Cell N) → parts_of (rename f c) ≡ rename_in f (parts_of c)
   parts_of-renamed (cell n k ps) = refl
 
   cond-both : (t t' : Bool) (r s : Completion N) (r' s' : Completion M) → t' ≡ t → r' ≡ rename_result f r → s' ≡ rename_result f s → cond t' r' s' ≡ rename_result f (cond t r s)
@@ -285,7 +285,7 @@ module _ {N M : Type 0} (f : N → M) where
   rows_if-renamed true rows' o = refl
   rows_if-renamed false rows' o = refl
 
-  rows_for-renamed : (s : ℕ) (loops : List (Loop N)) → rows_for s (map (rename_loop f) loops) ≡ option_map (rename_in f) (rows_for s loops)
+  pub rows_for-renamed : (s : ℕ) (loops : List (Loop N)) → rows_for s (map (rename_loop f) loops) ≡ option_map (rename_in f) (rows_for s loops)
   rows_for-renamed s [] = refl
   rows_for-renamed s (l ∷ loops) = ap (cond (nat_eq l.statement s) (Some (rename_in f l.rows))) (rows_for-renamed s loops) ∙ rows_if-renamed (nat_eq l.statement s) l.rows (rows_for s loops)
 
@@ -295,7 +295,7 @@ module _ {N M : Type 0} (f : N → M) where
       ap (λ ls. cond (nat_eq l.statement s) (record { statement = s; rows = rename_in f left } ∷ map (rename_loop f) loops) (rename_loop f l ∷ ls)) (set_rows-renamed s left loops)
       ∙ map-cond (rename_loop f) (nat_eq l.statement s) (record { statement = s; rows = left } ∷ loops) (l ∷ set_rows s left loops)
 
-  next_row-renamed : (s : ℕ) (r : Path) (left : Parts N) (b : Frame N) → next_row s r (rename_in f left) (rename_body f b) ≡ rename_result f (next_row s r left b)
+  pub next_row-renamed : (s : ℕ) (r : Path) (left : Parts N) (b : Frame N) → next_row s r (rename_in f left) (rename_body f b) ≡ rename_result f (next_row s r left b)
   next_row-renamed s r no_parts b = refl
   next_row-renamed s r (gap left) b = refl
   next_row-renamed s r (part row left) b =

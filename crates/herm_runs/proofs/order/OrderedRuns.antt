@@ -1,7 +1,7 @@
 -- The entries of a run in order are the journal of a run.
 use Rattle.std.proofs.Common.{◌≡◌, ℕ, zero, suc, ◌<◌, ◌≤◌, List, [], ◌∷◌, map, Bool, true, false, ◌||◌, Some, option_map, slice_get, length, refl, sym, ap, subst, ◌∙◌, arith, true≢false}
 use Rattle.herm_model.specs.Lists.{any_pass, list_of}
-use Rattle.herm_model.specs.Values.{Cell, Name}
+use Rattle.herm_model.specs.Values.{Kind, Cell, Name}
 use Rattle.herm_model.proofs.Options.{some-injective, none-not_some}
 use Rattle.herm_journal.specs.Actions.{new_port, new_process, to_put, to_take, to_close, to_answer, to_hear}
 use Rattle.herm_journal.specs.PlaceStates.{Limits, first_book, PlaceState, a_port, replies, a_book, Book}
@@ -69,11 +69,11 @@ module _ {P : Type 0} (machine : Machine Name P) (s : System P) (numbered : IsNu
   places-there to_hear p place k one le e = subst IsThereAt (sym (one-place place (reply_cell p) e)) (cell-there p one le)
 
 -- what is known at the start
-first-knows : {P : Type 0} (machine : Machine Name P) → KnowsPlaces machine → (limits : Limits) (main : P) → machine.begin machine.main 1 main_port ≡ Some main → (p : ℕ) (x : P) → numbered_from_one p (main ∷ []) ≡ Some x → Knows machine (first_book limits) x
-first-knows machine known limits main is zero x e = none-not_some e
-first-knows machine known limits main is (suc zero) x e =
-    subst (Knows machine (first_book limits)) (some-injective e) (known.begins (first_book limits) machine.main 1 main_port main (omega arith, tt) (omega arith) (omega arith) is)
-first-knows machine known limits main is (suc (suc p)) x e = none-not_some e
+first-knows : {P : Type 0} (machine : Machine Name P) (beside : P → List Kind) → KnowsPlaces machine beside → (limits : Limits) (main : P) → machine.begin machine.main 1 main_port ≡ Some main → (p : ℕ) (x : P) → numbered_from_one p (main ∷ []) ≡ Some x → Knows machine beside (first_book limits) x
+first-knows machine beside known limits main is zero x e = none-not_some e
+first-knows machine beside known limits main is (suc zero) x e =
+    subst (Knows machine beside (first_book limits)) (some-injective e) (known.begins (first_book limits) machine.main 1 main_port main (omega arith, tt) (omega arith) (omega arith) is)
+first-knows machine beside known limits main is (suc (suc p)) x e = none-not_some e
 
 first-holds : {P : Type 0} (machine : Machine Name P) (limits : Limits) (argument : Text) (q : Place) (h : PlaceState (Cell Name) (CellReply Name)) → holding_at q (opening machine limits argument) ≡ Some h → HoldingKinds (IsKnown (first_book limits)) h
 first-holds machine limits argument (port zero) h e = subst (HoldingKinds (IsKnown (first_book limits))) (some-injective e) tt
@@ -84,19 +84,19 @@ first-holds machine limits argument (reply_cell (suc zero)) h e = subst (Holding
 first-holds machine limits argument (reply_cell (suc (suc p))) h e = none-not_some e
 first-holds machine limits argument book h e = subst (HoldingKinds (IsKnown (first_book limits))) (some-injective e) tt
 
-pub opening-knows : {P : Type 0} (machine : Machine Name P) → KnowsPlaces machine → (limits : Limits) (argument : Text) (main : P) → machine.begin machine.main 1 main_port ≡ Some main → HasOnly machine (first_book limits) (opening machine limits argument)
-opening-knows machine known limits argument main is =
+pub opening-knows : {P : Type 0} (machine : Machine Name P) (beside : P → List Kind) → KnowsPlaces machine beside → (limits : Limits) (argument : Text) (main : P) → machine.begin machine.main 1 main_port ≡ Some main → HasOnly machine beside (first_book limits) (opening machine limits argument)
+opening-knows machine beside known limits argument main is =
     let alone : (opening machine limits argument).processes ≡ main ∷ [] = ap (list_of (λ x. x ∷ [])) is in
     record {
-      processes = λ p x found. first-knows machine known limits main is p x (sym (ap (numbered_from_one p) alone) ∙ found);
+      processes = λ p x found. first-knows machine beside known limits main is p x (sym (ap (numbered_from_one p) alone) ∙ found);
       places = first-holds machine limits argument;
     }
 
-module _ {P : Type 0} (machine : Machine Name P) (keeps : KeepsNumbers machine) (known : KnowsPlaces machine) (limit : ℕ) where
+module _ {P : Type 0} (machine : Machine Name P) (keeps : KeepsNumbers machine) (beside : P → List Kind) (known : KnowsPlaces machine beside) (limit : ℕ) where
   -- what holds of every state along a run
   record IsRegular (s : System P) : Type 0 where
     numbered : IsNumbered machine s
-    knows : HasOnly machine s.book s
+    knows : HasOnly machine beside s.book s
     limited : s.book.limits.steps ≡ limit
 
   regular-move : (e : Entry) (s u : System P) → IsRegular s → IsMove machine limit e s u → IsRegular u
@@ -106,12 +106,12 @@ module _ {P : Type 0} (machine : Machine Name P) (keeps : KeepsNumbers machine) 
       let last : Run P = record { system = u; journal = entry_behind [] e.process e.place e.action ∷ [] } in
       record {
         numbered = run-numbered machine keeps r.0 first last r.1 k.numbered;
-        knows = run-knows machine known r.0 first last r.1 k.knows;
+        knows = run-knows machine beside known r.0 first last r.1 k.knows;
         limited = ap (λ (l : Limits). l.steps) (move-limits machine limit e s u m) ∙ k.limited;
       }
 
-  walk-knows : (b : Book) (n : ℕ) (x y : P) → Walks machine limit n x y → Knows machine b x → Knows machine b y
-  walk-knows b zero x y w k = subst (Knows machine b) w k
+  walk-knows : (b : Book) (n : ℕ) (x y : P) → Walks machine limit n x y → Knows machine beside b x → Knows machine beside b y
+  walk-knows b zero x y w k = subst (Knows machine beside b) w k
   walk-knows b (suc n) x y w k = walk-knows b n w.0 y w.3 (known.local_steps b x w.0 k w.2)
 
   regular-there : (f : Entry) (s u v : System P) → IsRegular s → (n : IsMove machine limit f u v) → numbered_from_one f.process s.processes ≡ Some n.before →
@@ -123,12 +123,12 @@ module _ {P : Type 0} (machine : Machine Name P) (keeps : KeepsNumbers machine) 
       let number = (k.numbered.processes f.process n.before is).0 in
       places-there machine s k.numbered n.want f.process f.place wants (omega (arith, knows.1, number)) (omega (arith, knows.2, number)) n.among
 
-pub ordered-runs : {P : Type 0} (machine : Machine Name P) → KeepsNumbers machine → KnowsPlaces machine → OrderedJournalsAreRuns machine
-ordered-runs machine keeps known limits argument main events r is runs =
+pub ordered-runs : {P : Type 0} (machine : Machine Name P) (beside : P → List Kind) → KeepsNumbers machine → KnowsPlaces machine beside → OrderedJournalsAreRuns machine
+ordered-runs machine beside keeps known limits argument main events r is runs =
     let limit = limits.steps in
     let s = opening machine limits argument in
     let p = run-path machine limit events s [] r refl runs in
-    let regular : IsRegular machine keeps known limit s = record { numbered = opening-numbered machine keeps limits argument main is; knows = opening-knows machine known limits argument main is; limited = refl } in
-    let o = path-ordered machine limit (IsRegular machine keeps known limit) (λ s k. k.numbered) (regular-move machine keeps known limit) (regular-there machine keeps known limit) p.entries s r.system [] regular p.path p.stamped in
+    let regular : IsRegular machine keeps beside known limit s = record { numbered = opening-numbered machine keeps limits argument main is; knows = opening-knows machine beside known limits argument main is; limited = refl } in
+    let o = path-ordered machine limit (IsRegular machine keeps beside known limit) (λ s k. k.numbered) (regular-move machine keeps beside known limit) (regular-there machine keeps beside known limit) p.entries s r.system [] regular p.path p.stamped in
     let runs_there = path-run machine limit (ordered p.entries) s r.system [] refl o.0 o.1 in
     (runs_there.0, runs_there.1 ∙ ap (λ j. Some (record { system = r.system; journal = ordered j })) (sym p.are))

@@ -44,18 +44,28 @@ abbrev pub HeldKinds : {N : Type 0} → (Kind → Type 0) → List (Held N) → 
 HeldKinds of [] = ⊤
 HeldKinds of (h ∷ hs) = HasKinds of h.value × HeldKinds of hs
 
--- the process knows only ports and callers that the book has counted, and is itself counted
-abbrev pub Knows : {P : Type 0} → Machine Name P → Book → P → Type 0
-Knows machine b x = HeldKinds (IsKnown b) (machine.held x) × (1 ≤ machine.number x) × (machine.number x ≤ b.processes)
+-- these are among the kinds
+abbrev pub AreAmong : (Kind → Type 0) → List Kind → Type 0
+AreAmong of [] = ⊤
+AreAmong of (k ∷ ks) = of k × AreAmong of ks
+
+-- The process knows only ports and callers that the book has counted, in its cells and in values beside them that are no
+-- cells, whose kinds are given; and it is itself counted.
+abbrev pub Knows : {P : Type 0} → Machine Name P → (beside : P → List Kind) → Book → P → Type 0
+Knows machine beside b x = HeldKinds (IsKnown b) (machine.held x) × (1 ≤ machine.number x) × (machine.number x ≤ b.processes) × AreAmong (IsKnown b) (beside x)
+
+-- a process that has no values but its cells
+abbrev pub cells_alone : {P : Type 0} → P → List Kind
+cells_alone x = []
 
 -- Whatever the book has counted: a process that knows only what is counted wants nothing of other places, and what
 -- comes to it as that is all that it learns.
-pub record KnowsPlaces {P : Type 0} (machine : Machine Name P) : Type 0 where
-  pub begins : (b : Book) (code number : ℕ) (port : Cell Name) (x : P) → HasKinds (IsKnown b) port → 1 ≤ number → number ≤ b.processes → machine.begin code number port ≡ Some x → Knows machine b x
-  pub wants : (b : Book) (x : P) (want : CellWant Name) → Knows machine b x → machine.wanted x ≡ Some want → WantKinds (IsKnown b) want
-  pub local_steps : (b : Book) (x y : P) → Knows machine b x → machine.local_step x ≡ Some y → Knows machine b y
-  pub answers : (b : Book) (x y : P) (want : CellWant Name) (at : ℕ) (a : CellAction Name) → Knows machine b x → machine.wanted x ≡ Some want → Answers want a → ActionKinds (IsKnown b) a
-      → machine.answered x at a ≡ Some y → Knows machine b y
+pub record KnowsPlaces {P : Type 0} (machine : Machine Name P) (beside : P → List Kind) : Type 0 where
+  pub begins : (b : Book) (code number : ℕ) (port : Cell Name) (x : P) → HasKinds (IsKnown b) port → 1 ≤ number → number ≤ b.processes → machine.begin code number port ≡ Some x → Knows machine beside b x
+  pub wants : (b : Book) (x : P) (want : CellWant Name) → Knows machine beside b x → machine.wanted x ≡ Some want → WantKinds (IsKnown b) want
+  pub local_steps : (b : Book) (x y : P) → Knows machine beside b x → machine.local_step x ≡ Some y → Knows machine beside b y
+  pub answers : (b : Book) (x y : P) (want : CellWant Name) (at : ℕ) (a : CellAction Name) → Knows machine beside b x → machine.wanted x ≡ Some want → Answers want a → ActionKinds (IsKnown b) a
+      → machine.answered x at a ≡ Some y → Knows machine beside b y
 
 -- A process does the same without the names of its cells: what this machine does to a state without names is what the
 -- other does to the state, without its names. Language reference, "Values".

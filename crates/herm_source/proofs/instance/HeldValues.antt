@@ -1,211 +1,43 @@
 -- The values that a process holds, one by one, weigh and are of the kinds of its variables, loops and work list together.
-use Rattle.std.proofs.Common.{◌≡◌, ℕ, ◌+◌, List, [], ◌∷◌, ◌++◌, map, flat_map, Option, Some, None, refl, sym, ap, ap₂, ◌∙◌, arith, append_assoc, append-nil}
+use Rattle.std.proofs.Common.{◌≡◌, ℕ, List, ◌++◌, flat_map, Option}
 use Rattle.herm_model.specs.Lists.{total, list_of}
 use Rattle.herm_model.specs.Types.{TypeTable}
-use Rattle.herm_model.specs.Values.{Kind, Cell, Parts, no_parts, gap, part}
-use Rattle.herm_model.proofs.Lists.{total-append}
-use Rattle.herm_journal.specs.Weights.{weigh, weigh_in, weigh_all}
+use Rattle.herm_model.specs.Values.{Kind, Parts}
+use Rattle.herm_journal.specs.Weights.{weigh}
 use Rattle.herm_journal.specs.Kinds.{HaveKinds, AllKinds}
 use Rattle.herm_forms.specs.Frames.{Loop}
-use Rattle.herm_forms.specs.Weights.{weight_held, weigh_loops}
+use Rattle.herm_forms.specs.Weights.{weight_held}
 use Rattle.herm_forms.specs.Modules.{Module}
 use Rattle.herm_forms.proofs.known.KindsKept.{LoopKinds}
 use Rattle.herm_system.specs.Machines.{Held}
-use Rattle.herm_system.specs.Kinds.{kinds_of, kinds_in, each, all_of, typed_of, typed_in, typed_held}
+use Rattle.herm_system.specs.Kinds.{kinds_of, kinds_in, each, all_of, typed_in, typed_held}
 use Rattle.herm_runs.specs.laws.ProcessLaws.{HeldKinds}
+pub use Rattle.herm_runs.proofs.HeldParts.{typed-variables}
+use Rattle.herm_runs.proofs.HeldParts.{weigh-parts, parts-are, are-parts, kinds-parts, typed-parts}
 use Rattle.herm_source.specs.States.{State}
 use Rattle.herm_source.specs.Local.{row_type}
-use Rattle.herm_source.specs.SeenBySystem.{untyped, in_variables, in_rows, values_held}
+use Rattle.herm_source.specs.SeenBySystem.{values_held}
 
-module _ {N : Type 0} (w : N → ℕ) where
-  abbrev weigh_held : List (Held N) → ℕ
-  weigh_held hs = total (λ (h : Held N). weigh w h.value) hs
+-- the type of a loop's rows, and the rows
+abbrev row : {N : Type 0} → Module → Loop N → Option ℕ
+row c l = row_type c l.statement
 
-  weigh-variables : (ts : List ℕ) (ps : Parts N) → weigh_held (in_variables ts ps) ≡ weigh_in w ps
-  weigh-variables ts no_parts = refl
-  weigh-variables [] (gap ps) = weigh-variables [] ps
-  weigh-variables (t ∷ ts) (gap ps) = weigh-variables ts ps
-  weigh-variables [] (part c ps) = ap (weigh w c +◌) (weigh-variables [] ps)
-  weigh-variables (t ∷ ts) (part c ps) = ap (weigh w c +◌) (weigh-variables ts ps)
+abbrev rows : {N : Type 0} → Loop N → Parts N
+rows l = l.rows
 
-  weigh-rows : (t : Option ℕ) (ps : Parts N) → weigh_held (in_rows t ps) ≡ weigh_in w ps
-  weigh-rows t no_parts = refl
-  weigh-rows t (gap ps) = weigh-rows t ps
-  weigh-rows t (part c ps) = ap (weigh w c +◌) (weigh-rows t ps)
+pub weigh-values : {N : Type 0} (w : N → ℕ) (c : Module) (s : State N) → total (λ (h : Held N). weigh w h.value) (values_held c s) ≡ weight_held w s.frame
+weigh-values w c s = weigh-parts w c.variables s.frame.variables (row c) rows s.frame.loops s.frame.work
 
-  weigh-loops : (type : ℕ → Option ℕ) (loops : List (Loop N)) → weigh_held (flat_map (λ (l : Loop N). in_rows (type l.statement) l.rows) loops) ≡ weigh_loops w loops
-  weigh-loops type [] = refl
-  weigh-loops type (l ∷ loops) =
-      omega (arith, total-append (λ (h : Held N). weigh w h.value) (in_rows (type l.statement) l.rows) (flat_map (λ (l : Loop N). in_rows (type l.statement) l.rows) loops), weigh-rows (type l.statement) l.rows, weigh-loops type loops)
+pub values-are : {N : Type 0} (of : Kind → Type 0) (c : Module) (s : State N) → HaveKinds of s.frame.variables → LoopKinds of s.frame.loops → AllKinds of s.frame.work → HeldKinds of (values_held c s)
+values-are of c s v l i = parts-are of c.variables s.frame.variables (row c) rows s.frame.loops s.frame.work v l i
 
-  weigh-items : (cs : List (Cell N)) → weigh_held (map untyped cs) ≡ weigh_all w cs
-  weigh-items [] = refl
-  weigh-items (c ∷ cs) = ap (weigh w c +◌) (weigh-items cs)
+pub are-values : {N : Type 0} (of : Kind → Type 0) (c : Module) (s : State N) → HeldKinds of (values_held c s) → HaveKinds of s.frame.variables × LoopKinds of s.frame.loops × AllKinds of s.frame.work
+are-values of c s h = are-parts of c.variables s.frame.variables (row c) rows s.frame.loops s.frame.work h
 
-  pub weigh-values : (c : Module) (s : State N) → weigh_held (values_held c s) ≡ weight_held w s.frame
-  weigh-values c s =
-      let variables = in_variables c.variables s.frame.variables in
-      let loops = flat_map (λ (l : Loop N). in_rows (row_type c l.statement) l.rows) s.frame.loops in
-      let items : List (Held N) = map untyped s.frame.work in
-      omega (
-        arith,
-        total-append (λ (h : Held N). weigh w h.value) (variables ++ loops) items,
-        total-append (λ (h : Held N). weigh w h.value) variables loops,
-        weigh-variables c.variables s.frame.variables,
-        weigh-loops (row_type c) s.frame.loops,
-        weigh-items s.frame.work,
-      )
+pub kinds-values : {N : Type 0} (c : Module) (s : State N) → flat_map (λ (h : Held N). kinds_of h.value) (values_held c s)
+    ≡ kinds_in s.frame.variables ++ flat_map (λ (l : Loop N). kinds_in l.rows) s.frame.loops ++ flat_map kinds_of s.frame.work
+kinds-values c s = kinds-parts c.variables s.frame.variables (row c) rows s.frame.loops s.frame.work
 
-module _ {N : Type 0} (of : Kind → Type 0) where
-  kinds-append : (hs ks : List (Held N)) → HeldKinds of hs → HeldKinds of ks → HeldKinds of (hs ++ ks)
-  kinds-append [] ks h k = k
-  kinds-append (x ∷ hs) ks h k = (h.0, kinds-append hs ks h.1 k)
-
-  kinds-left : (hs ks : List (Held N)) → HeldKinds of (hs ++ ks) → HeldKinds of hs × HeldKinds of ks
-  kinds-left [] ks h = (tt, h)
-  kinds-left (x ∷ hs) ks h = let k = kinds-left hs ks h.1 in ((h.0, k.0), k.1)
-
-  variables-held : (ts : List ℕ) (ps : Parts N) → HaveKinds of ps → HeldKinds of (in_variables ts ps)
-  variables-held ts no_parts h = tt
-  variables-held [] (gap ps) h = variables-held [] ps h
-  variables-held (t ∷ ts) (gap ps) h = variables-held ts ps h
-  variables-held [] (part c ps) h = (h.0, variables-held [] ps h.1)
-  variables-held (t ∷ ts) (part c ps) h = (h.0, variables-held ts ps h.1)
-
-  held-variables : (ts : List ℕ) (ps : Parts N) → HeldKinds of (in_variables ts ps) → HaveKinds of ps
-  held-variables ts no_parts h = tt
-  held-variables [] (gap ps) h = held-variables [] ps h
-  held-variables (t ∷ ts) (gap ps) h = held-variables ts ps h
-  held-variables [] (part c ps) h = (h.0, held-variables [] ps h.1)
-  held-variables (t ∷ ts) (part c ps) h = (h.0, held-variables ts ps h.1)
-
-  rows-held : (t : Option ℕ) (ps : Parts N) → HaveKinds of ps → HeldKinds of (in_rows t ps)
-  rows-held t no_parts h = tt
-  rows-held t (gap ps) h = rows-held t ps h
-  rows-held t (part c ps) h = (h.0, rows-held t ps h.1)
-
-  held-rows : (t : Option ℕ) (ps : Parts N) → HeldKinds of (in_rows t ps) → HaveKinds of ps
-  held-rows t no_parts h = tt
-  held-rows t (gap ps) h = held-rows t ps h
-  held-rows t (part c ps) h = (h.0, held-rows t ps h.1)
-
-  loops-held : (type : ℕ → Option ℕ) (loops : List (Loop N)) → LoopKinds of loops → HeldKinds of (flat_map (λ (l : Loop N). in_rows (type l.statement) l.rows) loops)
-  loops-held type [] h = tt
-  loops-held type (l ∷ loops) h = kinds-append (in_rows (type l.statement) l.rows) _ (rows-held (type l.statement) l.rows h.0) (loops-held type loops h.1)
-
-  held-loops : (type : ℕ → Option ℕ) (loops : List (Loop N)) → HeldKinds of (flat_map (λ (l : Loop N). in_rows (type l.statement) l.rows) loops) → LoopKinds of loops
-  held-loops type [] h = tt
-  held-loops type (l ∷ loops) h =
-      let k = kinds-left (in_rows (type l.statement) l.rows) (flat_map (λ (l : Loop N). in_rows (type l.statement) l.rows) loops) h in (held-rows (type l.statement) l.rows k.0, held-loops type loops k.1)
-
-  items-held : (cs : List (Cell N)) → AllKinds of cs → HeldKinds of (map untyped cs)
-  items-held [] h = tt
-  items-held (c ∷ cs) h = (h.0, items-held cs h.1)
-
-  held-items : (cs : List (Cell N)) → HeldKinds of (map untyped cs) → AllKinds of cs
-  held-items [] h = tt
-  held-items (c ∷ cs) h = (h.0, held-items cs h.1)
-
-  pub values-are : (c : Module) (s : State N) → HaveKinds of s.frame.variables → LoopKinds of s.frame.loops → AllKinds of s.frame.work → HeldKinds of (values_held c s)
-  values-are c s v l i =
-      let variables = in_variables c.variables s.frame.variables in
-      let loops = flat_map (λ (l : Loop N). in_rows (row_type c l.statement) l.rows) s.frame.loops in
-      kinds-append (variables ++ loops) (map untyped s.frame.work)
-      (kinds-append variables loops (variables-held c.variables s.frame.variables v) (loops-held (row_type c) s.frame.loops l)) (items-held s.frame.work i)
-
-  pub are-values : (c : Module) (s : State N) → HeldKinds of (values_held c s) → HaveKinds of s.frame.variables × LoopKinds of s.frame.loops × AllKinds of s.frame.work
-  are-values c s h =
-      let variables = in_variables c.variables s.frame.variables in
-      let loops = flat_map (λ (l : Loop N). in_rows (row_type c l.statement) l.rows) s.frame.loops in
-      let k = kinds-left (variables ++ loops) (map untyped s.frame.work) h in
-      let j = kinds-left variables loops k.0 in
-      (held-variables c.variables s.frame.variables j.0, held-loops (row_type c) s.frame.loops j.1, held-items s.frame.work k.1)
-
--- the typed cells of variables
-pub typed-variables : {N : Type 0} (types : TypeTable) (ts : List ℕ) (ps : Parts N) → flat_map (typed_held types) (in_variables ts ps) ≡ typed_in types (each ts) ps
-typed-variables types [] no_parts = refl
-typed-variables types (t ∷ ts) no_parts = refl
-typed-variables types [] (gap ps) = typed-variables types [] ps
-typed-variables types (t ∷ ts) (gap ps) = typed-variables types ts ps
-typed-variables types [] (part c ps) = typed-variables types [] ps
-typed-variables types (t ∷ ts) (part c ps) = ap (typed_of types t c ++◌) (typed-variables types ts ps)
-
-flat-append : {X Y : Type 0} (f : X → List Y) (xs ys : List X) → flat_map f (xs ++ ys) ≡ flat_map f xs ++ flat_map f ys
-flat-append f [] ys = refl
-flat-append f (x ∷ xs) ys = ap (f x ++◌) (flat-append f xs ys) ∙ sym (append_assoc (f x) (flat_map f xs) (flat_map f ys))
-
--- the kinds of all that a process holds are those of its variables, its loops' rows and its work list
-module _ {N : Type 0} where
-  kinds-variables : (ts : List ℕ) (ps : Parts N) → flat_map (λ (h : Held N). kinds_of h.value) (in_variables ts ps) ≡ kinds_in ps
-  kinds-variables ts no_parts = refl
-  kinds-variables [] (gap ps) = kinds-variables [] ps
-  kinds-variables (t ∷ ts) (gap ps) = kinds-variables ts ps
-  kinds-variables [] (part c ps) = ap (kinds_of c ++◌) (kinds-variables [] ps)
-  kinds-variables (t ∷ ts) (part c ps) = ap (kinds_of c ++◌) (kinds-variables ts ps)
-
-  kinds-rows : (t : Option ℕ) (ps : Parts N) → flat_map (λ (h : Held N). kinds_of h.value) (in_rows t ps) ≡ kinds_in ps
-  kinds-rows t no_parts = refl
-  kinds-rows t (gap ps) = kinds-rows t ps
-  kinds-rows t (part c ps) = ap (kinds_of c ++◌) (kinds-rows t ps)
-
-  kinds-loops : (type : ℕ → Option ℕ) (loops : List (Loop N)) → flat_map (λ (h : Held N). kinds_of h.value) (flat_map (λ (l : Loop N). in_rows (type l.statement) l.rows) loops) ≡ flat_map (λ (l : Loop N). kinds_in l.rows) loops
-  kinds-loops type [] = refl
-  kinds-loops type (l ∷ loops) =
-      flat-append (λ (h : Held N). kinds_of h.value) (in_rows (type l.statement) l.rows) (flat_map (λ (l : Loop N). in_rows (type l.statement) l.rows) loops)
-      ∙ ap₂ (λ (xs ys : List Kind). xs ++ ys) (kinds-rows (type l.statement) l.rows) (kinds-loops type loops)
-
-  kinds-items : (cs : List (Cell N)) → flat_map (λ (h : Held N). kinds_of h.value) (map untyped cs) ≡ flat_map kinds_of cs
-  kinds-items [] = refl
-  kinds-items (c ∷ cs) = ap (kinds_of c ++◌) (kinds-items cs)
-
-  pub kinds-values : (c : Module) (s : State N) → flat_map (λ (h : Held N). kinds_of h.value) (values_held c s)
-      ≡ kinds_in s.frame.variables ++ flat_map (λ (l : Loop N). kinds_in l.rows) s.frame.loops ++ flat_map kinds_of s.frame.work
-  kinds-values c s =
-      let variables = in_variables c.variables s.frame.variables in
-      let loops = flat_map (λ (l : Loop N). in_rows (row_type c l.statement) l.rows) s.frame.loops in
-      let items : List (Held N) = map untyped s.frame.work in
-      flat-append (λ (h : Held N). kinds_of h.value) (variables ++ loops) items
-      ∙ ap₂ (λ (xs ys : List Kind). xs ++ ys)
-      (flat-append (λ (h : Held N). kinds_of h.value) variables loops ∙ ap₂ (λ (xs ys : List Kind). xs ++ ys) (kinds-variables c.variables s.frame.variables) (kinds-loops (row_type c) s.frame.loops))
-      (kinds-items s.frame.work)
-
--- and those at places with types are those of its variables and its loops' rows, by their types
-module _ {N : Type 0} (types : TypeTable) where
-  typed-rows : (t : ℕ) (ps : Parts N) → flat_map (typed_held types) (in_rows (Some t) ps) ≡ typed_in types (all_of t) ps
-  typed-rows t no_parts = refl
-  typed-rows t (gap ps) = typed-rows t ps
-  typed-rows t (part c ps) = ap (typed_of types t c ++◌) (typed-rows t ps)
-
-  untyped-rows : (ps : Parts N) → flat_map (typed_held types) (in_rows None ps) ≡ []
-  untyped-rows no_parts = refl
-  untyped-rows (gap ps) = untyped-rows ps
-  untyped-rows (part c ps) = untyped-rows ps
-
-  rows-typed : (t : Option ℕ) (ps : Parts N) → flat_map (typed_held types) (in_rows t ps) ≡ list_of (λ t. typed_in types (all_of t) ps) t
-  rows-typed None ps = untyped-rows ps
-  rows-typed (Some t) ps = typed-rows t ps
-
-  loops-typed : (type : ℕ → Option ℕ) (loops : List (Loop N)) → flat_map (typed_held types) (flat_map (λ (l : Loop N). in_rows (type l.statement) l.rows) loops)
-      ≡ flat_map (λ (l : Loop N). list_of (λ t. typed_in types (all_of t) l.rows) (type l.statement)) loops
-  loops-typed type [] = refl
-  loops-typed type (l ∷ loops) =
-      flat-append (typed_held types) (in_rows (type l.statement) l.rows) (flat_map (λ (l : Loop N). in_rows (type l.statement) l.rows) loops)
-      ∙ ap₂ (λ (xs ys : List (ℕ × Kind)). xs ++ ys) (rows-typed (type l.statement) l.rows) (loops-typed type loops)
-
-  items-untyped : (cs : List (Cell N)) → flat_map (typed_held types) (map untyped cs) ≡ []
-  items-untyped [] = refl
-  items-untyped (c ∷ cs) = items-untyped cs
-
-  pub typed-values : (c : Module) (s : State N) → flat_map (typed_held types) (values_held c s)
-      ≡ typed_in types (each c.variables) s.frame.variables ++ flat_map (λ (l : Loop N). list_of (λ t. typed_in types (all_of t) l.rows) (row_type c l.statement)) s.frame.loops
-  typed-values c s =
-      let variables = in_variables c.variables s.frame.variables in
-      let loops = flat_map (λ (l : Loop N). in_rows (row_type c l.statement) l.rows) s.frame.loops in
-      let items : List (Held N) = map untyped s.frame.work in
-      let own = typed_in types (each c.variables) s.frame.variables in
-      let rows = flat_map (λ (l : Loop N). list_of (λ t. typed_in types (all_of t) l.rows) (row_type c l.statement)) s.frame.loops in
-      flat-append (typed_held types) (variables ++ loops) items
-      ∙ ap₂ (λ (xs ys : List (ℕ × Kind)). xs ++ ys)
-      (flat-append (typed_held types) variables loops ∙ ap₂ (λ (xs ys : List (ℕ × Kind)). xs ++ ys) (typed-variables types c.variables s.frame.variables) (loops-typed (row_type c) s.frame.loops))
-      (items-untyped s.frame.work)
-      ∙ append-nil (own ++ rows)
+pub typed-values : {N : Type 0} (types : TypeTable) (c : Module) (s : State N) → flat_map (typed_held types) (values_held c s)
+    ≡ typed_in types (each c.variables) s.frame.variables ++ flat_map (λ (l : Loop N). list_of (λ t. typed_in types (all_of t) l.rows) (row_type c l.statement)) s.frame.loops
+typed-values types c s = typed-parts types c.variables s.frame.variables (row c) rows s.frame.loops s.frame.work

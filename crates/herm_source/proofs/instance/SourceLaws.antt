@@ -13,7 +13,7 @@ use Rattle.herm_forms.specs.Modules.{Module}
 use Rattle.herm_forms.proofs.known.KindsKept.{AllowsPlain, BodyKinds}
 use Rattle.herm_system.specs.Machines.{Held}
 use Rattle.herm_system.specs.Ledger.{held_by, goes_out}
-use Rattle.herm_runs.specs.laws.ProcessLaws.{KeepsNumbers, KeepsLedger, IsKnown, HeldKinds, Knows, KnowsPlaces}
+use Rattle.herm_runs.specs.laws.ProcessLaws.{KeepsNumbers, KeepsLedger, IsKnown, HeldKinds, Knows, KnowsPlaces, cells_alone}
 use Rattle.herm_source.specs.Modules.{Modules}
 use Rattle.herm_source.specs.States.{State, own_name, begin, wanted, local_step, answered}
 use Rattle.herm_source.specs.SeenBySystem.{values_held}
@@ -93,18 +93,18 @@ want-of of None w h e = none-not_some e
 want-of of (Some v) w h e = subst (WantKinds of) (some-injective e) h
 
 module _ (modules : Modules) (b : Book) where
-  body-known : (x : State Name) (c : Module) → code_at modules x ≡ Some c → Knows (source modules) b x → BodyKinds (IsKnown b) x.frame
+  body-known : (x : State Name) (c : Module) → code_at modules x ≡ Some c → Knows (source modules) cells_alone b x → BodyKinds (IsKnown b) x.frame
   body-known x c is k =
       let weight_held = subst (HeldKinds (IsKnown b)) (ap (list_of (λ c. values_held c x)) is) k.0 in
       let parts = are-values (IsKnown b) c x weight_held in
       (parts.0, parts.1, parts.2, λ call. (k.1, k.2))
 
-  known-body : (x : State Name) (c : Module) → code_at modules x ≡ Some c → BodyKinds (IsKnown b) x.frame → Knows (source modules) b x
+  known-body : (x : State Name) (c : Module) → code_at modules x ≡ Some c → BodyKinds (IsKnown b) x.frame → Knows (source modules) cells_alone b x
   known-body x c is k =
       let own = k.3 0 in
-      (subst (HeldKinds (IsKnown b)) (sym (ap (list_of (λ c. values_held c x)) is)) (values-are (IsKnown b) c x k.0 k.1 k.2), own.0, own.1)
+      (subst (HeldKinds (IsKnown b)) (sym (ap (list_of (λ c. values_held c x)) is)) (values-are (IsKnown b) c x k.0 k.1 k.2), own.0, own.1, tt)
 
-pub source-knows-places : (modules : Modules) → KnowsPlaces (source modules)
+pub source-knows-places : (modules : Modules) → KnowsPlaces (source modules) cells_alone
 source-knows-places modules = record {
   begins = λ b code number inport x h one le e.
       let m = map-some (λ c. begin c code number inport) (slice_get modules.codes code) x e in

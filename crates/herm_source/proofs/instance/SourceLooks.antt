@@ -16,7 +16,8 @@ use Rattle.herm_runs.specs.laws.SuitsLaws.{LooksAtHeld}
 use Rattle.herm_source.specs.Modules.{Program, Modules}
 use Rattle.herm_source.specs.States.{State, own_name, wanted}
 use Rattle.herm_source.specs.AcceptedRuns.{AreCodesOf}
-use Rattle.herm_source.specs.SeenBySystem.{in_variables, in_rows, untyped, values_held, port_type}
+use Rattle.herm_system.specs.HeldParts.{in_variables, in_rows, untyped}
+use Rattle.herm_source.specs.SeenBySystem.{values_held, port_type}
 use Rattle.herm_source.specs.Instance.{source, code_at, IsSoundIn}
 use Rattle.herm_source.specs.Sharing.{ShareTypes, AcceptedShareTypes}
 use Rattle.herm_source.proofs.incoming.SuitsPorts.{port-typed}
