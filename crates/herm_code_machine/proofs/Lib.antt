@@ -1,0 +1,11 @@
+pub mod RunsKeep
+pub mod Standing
+pub mod DoneForms
+pub mod StackSplits
+pub mod kept
+pub mod known
+pub mod balanced
+pub mod renamed
+pub mod instance
+pub mod CodeLimits
+pub mod TrimmedExcess

@@ -1,0 +1,3 @@
+-- That a process keeps its number and its module.
+pub mod KeptEffects
+pub mod CodeNumbers

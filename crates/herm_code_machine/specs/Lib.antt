@@ -1,0 +1,14 @@
+pub mod ReadyCode
+pub mod Stacks
+pub mod Effects
+pub mod CodeActions
+pub mod CodeStates
+pub mod Pieces
+pub mod CodeSteps
+pub mod CodeSeen
+pub mod Beside
+pub mod CodeLocal
+pub mod CodeInstance
+pub mod CodeRenaming
+pub mod examples
+pub mod laws

@@ -1,0 +1,42 @@
+-- Code by hand that calls.
+use Rattle.std.specs.Prelude.{ℕ, List, [], ◌∷◌, ◌++◌, codes}
+use Rattle.herm_model.specs.Types.{callmessage, inport, outport, by_in, by_inout, Raised}
+use Rattle.herm_model.specs.Expressions.{Literal}
+use Rattle.herm_model.specs.Outcomes.{depletion, disconnected}
+use Rattle.herm_instructions.specs.Instructions.{of_in, of_inout, Step, Load, Call, ReturnBy, Create, End, EndBy}
+use Rattle.herm_instructions.specs.Images.{CodeModule, Image}
+use Rattle.herm_code_machine.specs.examples.CodeByHand.{line, landing, to, module_by, image_by, variable, listed, start_paths, receives_start, places, says}
+
+-- exception Busy;
+abbrev pub busy : ℕ
+busy = 7
+
+abbrev pub keeps_second : List Raised
+keeps_second = record { exception = busy; kept = 1 ∷ [] } ∷ []
+
+-- process deny(start: ask_in) { var c: ask; receive c from start; return c exception Busy; }
+abbrev pub denying_code : CodeModule
+denying_code = module_by (9 ∷ 8 ∷ []) (receives_start ++ line Step ∷ line (ReturnBy (variable 1) busy (1 ∷ [])) ∷ line End ∷ []) []
+
+-- process main(start: main_start) {
+--   var m: main_message, o: ask_out, q: string, w: string;
+--   receive m from start; create o of deny; q := "q"; w := "w";
+--   try { call o(q, w); } on Busy { send w to m.out; } on Disconnected { send q to m.out; }
+-- }
+abbrev pub calling_code : CodeModule
+calling_code = module_by (7 ∷ 6 ∷ 10 ∷ 2 ∷ 2 ∷ []) (
+    receives_start ++ line Step ∷ landing (Create (variable 2) 0) (to depletion 22 ∷ []) ∷ (places 0 (variable 3) ++ places 1 (variable 4)
+    ++ line Step ∷ line (Load (variable 3)) ∷ landing (Call (variable 2) (of_in ∷ of_inout (variable 4) ∷ []) keeps_second) (to disconnected 17 ∷ to busy 14 ∷ []) ∷ line End
+    ∷ (says 4 20 ++ line End ∷ (says 3 21 ++ line End ∷ line (EndBy disconnected) ∷ line (EndBy disconnected) ∷ line (EndBy depletion) ∷ []))))
+    (listed 14 (start_paths ++ variable 2 ∷ variable 3 ∷ variable 4 ∷ []) []
+    ∷ listed 17 (start_paths ++ variable 2 ∷ variable 3 ∷ []) []
+    ∷ listed 20 (start_paths ++ variable 2 ∷ variable 3 ∷ variable 4 ∷ []) []
+    ∷ listed 21 (start_paths ++ variable 2 ∷ variable 3 ∷ []) []
+    ∷ listed 22 start_paths [] ∷ [])
+
+-- type ask = callmessage (in q: string, inout w: string) raises (Busy {full(w)});  type ask_in = inport of ask;
+-- type ask_out = outport of ask_in;  and both processes
+abbrev pub kept_parameter : Image
+kept_parameter =
+    image_by (callmessage (record { mode = by_in; content = 2 } ∷ record { mode = by_inout; content = 2 } ∷ []) keeps_second ∷ inport 8 [] ∷ outport 9 ∷ [])
+    (Literal.text (codes "q") ∷ Literal.text (codes "w") ∷ []) (denying_code ∷ calling_code ∷ [])

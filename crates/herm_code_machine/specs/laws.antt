@@ -1,0 +1,6 @@
+-- What is claimed of the machine of code.
+pub mod StackLaws
+pub mod PieceLaws
+pub mod InstructionLaws
+pub mod SoundLaws
+pub mod TrimLaws

@@ -1,0 +1,10 @@
+// The machine of code: processes of compiled code and their steps. The definitions stand in specs/; the functions here are
+// laws about them.
+#![tactic(auto)]
+
+pub mod examples;
+pub mod instructions;
+pub mod machine;
+pub mod pieces;
+pub mod runs;
+pub mod trims;

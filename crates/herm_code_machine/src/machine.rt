@@ -1,0 +1,35 @@
+// The machine of code meets the laws of one process that the laws of runs ask for.
+
+ghost use Rattle.herm_code_machine.specs.Beside.{stack_kinds};
+ghost use Rattle.herm_code_machine.specs.CodeInstance.{code_machine, nameless_code};
+ghost use Rattle.herm_code_machine.specs.CodeRenaming.{forget_code};
+ghost use Rattle.herm_code_machine.specs.ReadyCode.{ReadyImage};
+ghost use Rattle.herm_sound.specs.SoundMachines.{KeepsLimits};
+ghost use Rattle.herm_runs.specs.laws.ProcessLaws.{ForgetsNames, KeepsLedger, KeepsNumbers, KnowsPlaces};
+
+/// A process begins with the number and the module that it is given, and keeps them.
+pub fn numbers_are_kept()
+    ensures numbers { (image : ReadyImage) → KeepsNumbers (code_machine image) }
+{}
+
+/// What a process makes, holds, finalises, gives and gets keeps the ledger's equation.
+pub fn the_ledger_is_kept()
+    ensures ledger { (image : ReadyImage) → KeepsLedger (code_machine image) }
+{}
+
+/// A process that knows only ports and callers that the book has counted, in its cells and in the values on its stack, wants
+/// nothing of others, and learns only what comes to it.
+pub fn places_are_known()
+    ensures places { (image : ReadyImage) → KnowsPlaces (code_machine image) stack_kinds }
+{}
+
+/// A process does the same without the names of its cells.
+pub fn names_are_forgotten()
+    ensures names { (image : ReadyImage) → ForgetsNames (code_machine image) (nameless_code image) forget_code }
+{}
+
+/// A process begins with no steps and no actions; a local step counts one step, and an answer one action and the step of its
+/// piece; and none is made beyond its limit.
+pub fn limits_are_kept()
+    ensures limits { (image : ReadyImage) → KeepsLimits (code_machine image) }
+{}

@@ -1,0 +1,13 @@
+pub mod Instructions
+pub mod Actions
+pub mod Labels
+pub mod Images
+pub mod Operands
+pub mod Effects
+pub mod Places
+pub mod TypedInstructions
+pub mod Pieces
+pub mod GoodCode
+pub mod tests
+pub mod examples
+pub mod laws

@@ -1,0 +1,2 @@
+pub mod ExampleImages
+pub mod CodeExamples

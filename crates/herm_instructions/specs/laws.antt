@@ -1,0 +1,4 @@
+pub mod GoodLaws
+pub mod LabelLaws
+pub mod KeyLaws
+pub mod CodeExampleLaws

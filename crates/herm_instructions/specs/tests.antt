@@ -1,0 +1,2 @@
+pub mod InstructionTests
+pub mod GoodTests

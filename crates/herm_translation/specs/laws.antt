@@ -1,0 +1,2 @@
+-- What is claimed of states that stand for others.
+pub mod StandingLaws
