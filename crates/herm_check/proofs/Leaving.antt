@@ -86,75 +86,85 @@ module _ (flow : Flow) (differ : EdgesDiffer flow) (i : ℕ) (p : Point) (e : Ed
       known_at j f k (inl q) = after-known f (joined-after ls t l new after joined f (sym (holds-here ls t l new after joined f) ∙ subst (λ n. holds_at (slice_set ls t new) n f ≡ true) (sym q) k))
       known_at j f k (inr d) = h.known j f (sym (holds-elsewhere ls t l new after joined j f d) ∙ k)
 
-  kept-settled : (j : ℕ) → IsSettled flow ls j → IsSettled flow (slice_set ls t new) j
-  kept-settled j h q at r n d m = by (same_or_not t j)
+  more : (d : Edge) (S T : Fact → Bool) → ((f : Fact) → T f ≡ S f) → Carries (slice_set ls t new) d S → Carries (slice_set ls t new) d T
+  more d S T same g k there within = let both = g k there within in (both.0, λ f held. ap (held_after_edge d f) (same f) ∙ both.1 f held)
+
+  -- a point that is not to be left again was not before, and its label has what it had
+  unmoved : (j : ℕ) → is_pending (slice_set ls t new) j ≡ false → (is_pending ls j ≡ false) × ((f : Fact) → holds_at (slice_set ls t new) j f ≡ holds_at ls j f)
+  unmoved j n = by (same_or_not t j)
     where
-      more : (e' : Edge) (S T : Fact → Bool) → ((f : Fact) → T f ≡ S f) → Carries (slice_set ls t new) e' S → Carries (slice_set ls t new) e' T
-      more e' S T same g k there within = let both = g k there within in (both.0, λ f held. ap (held_after_edge e' f) (same f) ∙ both.1 f held)
-
-      by : (t ≡ j) ⊎ (t ≢ j) → Carries (slice_set ls t new) d (holds_at (slice_set ls t new) j)
+      by : (t ≡ j) ⊎ (t ≢ j) → (is_pending ls j ≡ false) × ((f : Fact) → holds_at (slice_set ls t new) j f ≡ holds_at ls j f)
       by (inl e) =
-          let still = joined.still (sym (pending-here ls t l new after joined) ∙ subst (λ k. is_pending (slice_set ls t new) k ≡ false) (sym e) n) in
-          more d (holds_at ls j) (holds_at (slice_set ls t new) j) (λ f. subst (λ k. holds_at (slice_set ls t new) k f ≡ holds_at ls k f) e (holds-here ls t l new after joined f ∙ (still.2 f ∙ sym (holds-before ls t l new after joined f))))
-          (goes-kept ls t l new after joined d.target (λ f. held_after_edge d f (holds_at ls j f))
-          (h q at (subst (λ k. is_reached ls k ≡ true) e (reached-before ls t l new after joined ∙ still.0)) (subst (λ k. is_pending ls k ≡ false) e (pending-before ls t l new after joined ∙ still.1)) d m))
-      by (inr e) =
-          more d (holds_at ls j) (holds_at (slice_set ls t new) j) (λ f. holds-elsewhere ls t l new after joined j f e)
-          (goes-kept ls t l new after joined d.target (λ f. held_after_edge d f (holds_at ls j f))
-          (h q at (sym (reached-elsewhere ls t l new after joined j e) ∙ r) (sym (pending-elsewhere ls t l new after joined j e) ∙ n) d m))
+          let still = joined.still (sym (pending-here ls t l new after joined) ∙ subst (λ k. is_pending (slice_set ls t new) k ≡ false) (sym e) n) in (
+            subst (λ k. is_pending ls k ≡ false) e (pending-before ls t l new after joined ∙ still.1),
+            λ f. subst (λ k. holds_at (slice_set ls t new) k f ≡ holds_at ls k f) e (holds-here ls t l new after joined f ∙ (still.2 f ∙ sym (holds-before ls t l new after joined f))),
+          )
+      by (inr e) = (sym (pending-elsewhere ls t l new after joined j e) ∙ n, λ f. holds-elsewhere ls t l new after joined j f e)
 
-  pub left-more : (done : List Edge) → IsLeft flow i before done ls → IsLeft flow i before (done ++ e ∷ []) (slice_set ls t new)
-  left-more done h = record {
+  -- and so it was reached
+  reached-still : (j : ℕ) → is_pending (slice_set ls t new) j ≡ false → is_reached (slice_set ls t new) j ≡ true → is_reached ls j ≡ true
+  reached-still j n r = by (same_or_not t j)
+    where
+      by : (t ≡ j) ⊎ (t ≢ j) → is_reached ls j ≡ true
+      by (inl e) = subst (λ k. is_reached ls k ≡ true) e (reached-before ls t l new after joined ∙ (joined.still (sym (pending-here ls t l new after joined) ∙ subst (λ k. is_pending (slice_set ls t new) k ≡ false) (sym e) n)).0)
+      by (inr e) = sym (reached-elsewhere ls t l new after joined j e) ∙ r
+
+  kept-settled : (j : ℕ) → IsSettled flow ls j → IsSettled flow (slice_set ls t new) j
+  kept-settled j h q at r n d m =
+      let still = unmoved j n in
+      more d (holds_at ls j) (holds_at (slice_set ls t new) j) still.1
+      (goes-kept ls t l new after joined d.target (λ f. held_after_edge d f (holds_at ls j f)) (h q at (reached-still j n r) still.0 d m))
+
+  pub left-more : ((f : Fact) → before f ≡ holds_at ls i f) → (done : List Edge) → IsLeft flow i done ls → IsLeft flow i (done ++ e ∷ []) (slice_set ls t new)
+  left-more same done h = record {
     are_true = kept-true h.are_true;
+    reached = reached (same_or_not t i);
     settled = λ j d. kept-settled j (h.settled j d);
-    same = λ n f. same n f (same_or_not t i);
     carried = λ d m. carried d (in-append_cases d done (e ∷ []) m);
   }
     where
-      same : is_pending (slice_set ls t new) i ≡ false → (f : Fact) → (t ≡ i) ⊎ (t ≢ i) → holds_at (slice_set ls t new) i f ≡ before f
-      same n f (inl e) =
-          let still = joined.still (sym (pending-here ls t l new after joined) ∙ subst (λ k. is_pending (slice_set ls t new) k ≡ false) (sym e) n) in
-          subst (λ k. holds_at (slice_set ls t new) k f ≡ holds_at ls k f) e (holds-here ls t l new after joined f ∙ (still.2 f ∙ sym (holds-before ls t l new after joined f)))
-          ∙ h.same (subst (λ k. is_pending ls k ≡ false) e (pending-before ls t l new after joined ∙ still.1)) f
-      same n f (inr e) = holds-elsewhere ls t l new after joined i f e ∙ h.same (sym (pending-elsewhere ls t l new after joined i e) ∙ n) f
+      reached : (t ≡ i) ⊎ (t ≢ i) → is_reached (slice_set ls t new) i ≡ true
+      reached (inl q) = subst (λ k. is_reached (slice_set ls t new) k ≡ true) q (reached-here ls t l new after joined)
+      reached (inr d) = reached-elsewhere ls t l new after joined i d ∙ h.reached
 
-      carried : (d : Edge) → IsIn d done ⊎ IsIn d (e ∷ []) → Carries (slice_set ls t new) d before
-      carried d (inl m) = goes-kept ls t l new after joined d.target (λ f. held_after_edge d f (before f)) (h.carried d m)
-      carried d (inr (inl same)) = subst (λ d. Carries (slice_set ls t new) d before) (sym same) new-carried
+      carried : (d : Edge) → IsIn d done ⊎ IsIn d (e ∷ []) → is_pending (slice_set ls t new) i ≡ false → Carries (slice_set ls t new) d (holds_at (slice_set ls t new) i)
+      carried d (inl m) n =
+          let still = unmoved i n in
+          more d (holds_at ls i) (holds_at (slice_set ls t new) i) still.1 (goes-kept ls t l new after joined d.target (λ f. held_after_edge d f (holds_at ls i f)) (h.carried d m still.0))
+      carried d (inr (inl is)) n = subst (λ d. Carries (slice_set ls t new) d (holds_at (slice_set ls t new) i)) (sym is) (more e before (holds_at (slice_set ls t new) i) (λ f. (unmoved i n).1 f ∙ sym (same f)) new-carried)
         where
           new-carried : Carries (slice_set ls t new) e before
           new-carried k there within = let both = goes-new ls t l new after joined e.target to k there within in (both.0, λ f held. sym (behind f) ∙ both.1 f held)
-      carried d (inr (inr none)) = absurd none
+      carried d (inr (inr none)) n = absurd none
 
 -- an edge to an end carries nothing
-pub left-end : (flow : Flow) (i : ℕ) (before : Fact → Bool) (e : Edge) (ls : List Label) (done : List Edge) → ((k : ℕ) → e.target ≡ node k → ⊥) → IsLeft flow i before done ls → IsLeft flow i before (done ++ e ∷ []) ls
-left-end flow i before e ls done none h = record { are_true = h.are_true; settled = h.settled; same = h.same; carried = λ d m. by d (in-append_cases d done (e ∷ []) m) }
+pub left-end : (flow : Flow) (i : ℕ) (e : Edge) (ls : List Label) (done : List Edge) → ((k : ℕ) → e.target ≡ node k → ⊥) → IsLeft flow i done ls → IsLeft flow i (done ++ e ∷ []) ls
+left-end flow i e ls done none h = record { are_true = h.are_true; reached = h.reached; settled = h.settled; carried = λ d m. by d (in-append_cases d done (e ∷ []) m) }
   where
-    by : (d : Edge) → IsIn d done ⊎ IsIn d (e ∷ []) → Carries ls d before
-    by d (inl m) = h.carried d m
-    by d (inr (inl same)) = λ k to within. absurd (none k (subst (λ (x : Edge). x.target ≡ node k) same to))
-    by d (inr (inr n)) = absurd n
+    by : (d : Edge) → IsIn d done ⊎ IsIn d (e ∷ []) → is_pending ls i ≡ false → Carries ls d (holds_at ls i)
+    by d (inl m) n = h.carried d m n
+    by d (inr (inl same)) n = λ k to within. absurd (none k (subst (λ (x : Edge). x.target ≡ node k) same to))
+    by d (inr (inr m)) n = absurd m
 
 -- when all edges of a point were followed, its label is settled
-pub all-left : (flow : Flow) (i : ℕ) (p : Point) (before : Fact → Bool) (ls : List Label) → slice_get flow.points i ≡ Some p → IsLeft flow i before p.edges ls → AreLabels flow ls
-all-left flow i p before ls is h = record { are_true = h.are_true; settled = λ j. by j (same_or_not i j) }
+pub all-left : (flow : Flow) (i : ℕ) (p : Point) (ls : List Label) → slice_get flow.points i ≡ Some p → IsLeft flow i p.edges ls → AreLabels flow ls
+all-left flow i p ls is h = record { are_true = h.are_true; settled = λ j. by j (same_or_not i j) }
   where
     here : IsSettled flow ls i
-    here q at r n d m k to within =
+    here q at r n d m =
         let same : p ≡ q = cc in
-        let both = h.carried d (subst (λ (x : Point). IsIn d x.edges) (sym same) m) k to within in
-        (both.0, λ f held. ap (held_after_edge d f) (h.same n f) ∙ both.1 f held)
+        h.carried d (subst (λ (x : Point). IsIn d x.edges) (sym same) m) n
 
     by : (j : ℕ) → (i ≡ j) ⊎ (i ≢ j) → IsSettled flow ls j
     by j (inl e) = subst (IsSettled flow ls) e here
     by j (inr d) = h.settled j d
 
 -- what follows from one edge more, wherever it leads
-pub left-followed : (flow : Flow) (differ : EdgesDiffer flow) (i : ℕ) (p : Point) (e : Edge) → slice_get flow.points i ≡ Some p → IsIn e p.edges → (before : Fact → Bool) → IsReached flow (node i)
-    → ((f : Fact) → before f ≡ false → Lacks flow f i) → ((f : Fact) → before f ≡ true → IsIn f (all_facts flow))
-    → (ls after : List Label) → IsFollowed e before ls after → (done : List Edge) → IsLeft flow i before done ls → IsLeft flow i before (done ++ e ∷ []) after
-left-followed flow differ i p e is member before leaves lacks known ls _ (ends _ none) done h = left-end flow i before e ls done none h
-left-followed flow differ i p e is member before leaves lacks known ls _ (joins _ t l new after to behind joined) done h = left-more flow differ i p e is member before leaves lacks known ls t l new after to behind joined done h
+pub left-followed : (flow : Flow) (differ : EdgesDiffer flow) (i : ℕ) (p : Point) (e : Edge) → slice_get flow.points i ≡ Some p → IsIn e p.edges
+    → (ls after : List Label) → IsFollowed e (holds_at ls i) ls after → (done : List Edge) → IsLeft flow i done ls → IsLeft flow i (done ++ e ∷ []) after
+left-followed flow differ i p e is member ls _ (ends _ none) done h = left-end flow i e ls done none h
+left-followed flow differ i p e is member ls _ (joins _ t l new after to behind joined) done h =
+    left-more flow differ i p e is member (holds_at ls i) (h.are_true.reached i h.reached) (λ f. h.are_true.lacking i f h.reached) (h.are_true.known i) ls t l new after to behind joined (λ f. refl) done h
 
 pub followed-weight : (all : List Fact) (e : Edge) (before : Fact → Bool) (ls after : List Label) → IsFollowed e before ls after → ((i : ℕ) (f : Fact) → holds_at ls i f ≡ true → IsIn f all) → weight all after ≤ weight all ls
 followed-weight all e before ls _ (ends _ none) known = omega arith

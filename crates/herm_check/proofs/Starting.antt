@@ -1,5 +1,5 @@
 -- A point that begins to be left.
-use Rattle.std.proofs.Common.{◌≡◌, ◌≢◌, ◌⊎◌, inl, inr, ℕ, ◌<◌, List, [], length, Bool, false, Some, slice_get, slice_set, sym, ◌∙◌, ap, subst, length-set}
+use Rattle.std.proofs.Common.{◌≡◌, ◌≢◌, ◌⊎◌, inl, inr, ℕ, ◌<◌, List, [], length, Bool, true, false, Some, slice_get, slice_set, sym, ◌∙◌, ap, subst, length-set}
 use Rattle.herm_model.specs.Lists.{map_or}
 use Rattle.herm_model.specs.Paths.{Fact}
 use Rattle.herm_model.specs.Targets.{Target}
@@ -27,8 +27,8 @@ module _ (flow : Flow) (ls : List Label) (i : ℕ) (l new : Label) (old : slice_
   same-goes : (x : Target) (test : Fact → Bool) → Goes ls x test → Goes (slice_set ls i new) x test
   same-goes x test g j to inside = let both = g j to (subst (λ n. j < n) (length-set ls i new) inside) in (same-reached j ∙ both.0, λ f h. both.1 f (sym (same-holds j f) ∙ h))
 
-  pub starts : (before : Fact → Bool) → ((f : Fact) → before f ≡ has_fact l.state f) → AreLabels flow ls → IsLeft flow i before [] (slice_set ls i new)
-  starts before is h = record {
+  pub starts : is_reached ls i ≡ true → AreLabels flow ls → IsLeft flow i [] (slice_set ls i new)
+  starts here h = record {
     are_true = record {
       many = length-set ls i new ∙ h.are_true.many;
       reached = λ j k. h.are_true.reached j (sym (same-reached j) ∙ k);
@@ -40,6 +40,6 @@ module _ (flow : Flow) (ls : List Label) (i : ℕ) (l new : Label) (old : slice_
     settled = λ j d p at k n e m to there inside.
         let both = same-goes e.target (λ f. held_after_edge e f (holds_at ls j f)) (h.settled j p at (sym (same-reached j) ∙ k) (sym (ap (map_or false (λ k. k.pending)) (set-elsewhere ls i j new d)) ∙ n) e m) to there inside in
         (both.0, λ f g. ap (held_after_edge e f) (same-holds j f) ∙ both.1 f g);
-    same = λ n f. ap (map_or false (λ k. has_fact k.state f)) (set-here ls i new within) ∙ (facts f ∙ sym (is f));
+    reached = same-reached i ∙ here;
     carried = λ e m. absurd m;
   }

@@ -48,12 +48,13 @@ pub record AreLabels (flow : Flow) (ls : List Label) : Type 0 where
   pub are_true : AreTrue flow ls
   pub settled : (i : ℕ) → IsSettled flow ls i
 
--- A point is being left with these facts, and these of its edges were followed.
-pub record IsLeft (flow : Flow) (i : ℕ) (before : Fact → Bool) (done : List Edge) (ls : List Label) : Type 0 where
+-- A point is being left, and these of its edges were followed. Where an edge led back to it and took facts from its label, it is
+-- to be left again.
+pub record IsLeft (flow : Flow) (i : ℕ) (done : List Edge) (ls : List Label) : Type 0 where
   pub are_true : AreTrue flow ls
+  pub reached : is_reached ls i ≡ true
   pub settled : (j : ℕ) → i ≢ j → IsSettled flow ls j
-  pub same : is_pending ls i ≡ false → (f : Fact) → holds_at ls i f ≡ before f
-  pub carried : (e : Edge) → IsIn e done → Carries ls e before
+  pub carried : (e : Edge) → IsIn e done → is_pending ls i ≡ false → Carries ls e (holds_at ls i)
 
 -- each edge leads to a point that is there, or to an end
 abbrev pub LeadThere : Flow → Type 0

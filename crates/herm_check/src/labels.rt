@@ -3,7 +3,7 @@ ghost use Rattle.std.specs.Prelude.{◌≡◌, ◌+◌, ◌≤◌, ◌<◌, ℕ,
 ghost use Rattle.herm_model.specs.Lists.{IsIn};
 ghost use Rattle.herm_model.specs.Paths.{Fact as FactOf};
 ghost use Rattle.herm_model.specs.Targets.{node};
-ghost use Rattle.herm_model.specs.ControlPaths.{IsReached, Lacks};
+ghost use Rattle.herm_model.specs.ControlPaths.{IsReached, held_at_start};
 ghost use Rattle.herm_model.specs.laws.FlowLaws.{EdgesDiffer, IsThere};
 ghost use Rattle.herm_model.specs.Labels.{AreExact};
 ghost use Rattle.herm_check.specs.declared.label.Label.{Label as LabelOf};
@@ -23,14 +23,14 @@ use herm_typestate::{Labels, State};
 use std::alloc::{AllocError, Global};
 
 /// So many points that no path has reached.
-fn blank(alloc: Global, count: usize, vars: usize) -> Result<Vec<Label>, AllocError>
+fn blank(alloc: Global, count: usize) -> Result<Vec<Label>, AllocError>
     ensures many { IfOk result (λ ls. length ls.items ≡ count) }
     ensures reached { IfOk result (λ ls. (i : ℕ) → is_reached ls.items i ≡ false) }
     ensures facts { IfOk result (λ ls. (i : ℕ) (f : FactOf) → holds_at ls.items i f ≡ false) }
 {
     let mut labels = Vec::with_capacity(alloc, count)?;
     for _ in 0..count {
-        let state = State::empty(alloc, vars)?;
+        let state = State::empty(alloc, 0)?;
         labels.push(Label {
             reached: false,
             pending: false,
@@ -40,39 +40,48 @@ fn blank(alloc: Global, count: usize, vars: usize) -> Result<Vec<Label>, AllocEr
     Ok(labels)
 }
 
+/// The label of the first point as a process begins: there is a value at the port alone.
+fn first_label(alloc: Global, vars: usize) -> Result<Label, AllocError>
+    ensures reached { IfOk result (λ l. l.reached ≡ true) }
+    ensures pending { IfOk result (λ l. l.pending ≡ true) }
+    ensures facts { IfOk result (λ l. (f : FactOf) → has_fact l.state f ≡ held_at_start f) }
+{
+    let port = Path {
+        var: VarNo(0),
+        parts: Vec::new(alloc),
+    };
+    let mut state = State::empty(alloc, vars)?;
+    state.make(alloc, &Fact::Init(port))?;
+    Ok(Label {
+        reached: true,
+        pending: true,
+        state,
+    })
+}
+
 /// The labels as a process begins: there is a value at its port, and it is still to leave its first point.
 fn begin(alloc: Global, flow: &Flow, vars: usize) -> Result<Vec<Label>, AllocError>
     ensures { IfOk result (λ ls. AreLabels (flow_view flow.now) ls.items) }
 {
     let count = flow.points.len();
-    let mut labels = blank(alloc, count, vars)?;
+    let mut labels = blank(alloc, count)?;
     if count == 0 {
         return Ok(labels);
     }
-    let port = Path {
-        var: VarNo(0),
-        parts: Vec::new(alloc),
-    };
-    let first = &mut labels[0];
-    first.state.make(alloc, &Fact::Init(port))?;
-    first.reached = true;
-    first.pending = true;
+    let first = first_label(alloc, vars)?;
+    labels[0] = first;
     Ok(labels)
 }
 
-/// Follows an edge from a point at which these facts are held.
-fn follow(
-    alloc: Global,
-    edge: &Edge,
-    state: &State,
-    labels: &mut Vec<Label>,
-) -> Result<(), AllocError>
-    requires { IsThere (length labels.old.items) (edge_view edge.now).target }
-    ensures { OnOk result (IsFollowed (edge_view edge.now) (has_fact state.now) labels.old.items labels.new.items) }
+/// Follows an edge from the point at a place, with what is held there.
+fn follow(alloc: Global, edge: &Edge, i: usize, labels: &mut Vec<Label>) -> Result<(), AllocError>
+    requires within { i < length labels.old.items }
+    requires there { IsThere (length labels.old.items) (edge_view edge.now).target }
+    ensures { OnOk result (IsFollowed (edge_view edge.now) (holds_at labels.old.items i) labels.old.items labels.new.items) }
 {
     match edge.to {
         Target::Point(t) => {
-            let after = behind(alloc, state, edge)?;
+            let after = behind(alloc, &labels[i].state, edge)?;
             let label = &mut labels[t as usize];
             join(label, after);
             Ok(())
@@ -82,27 +91,23 @@ fn follow(
     }
 }
 
-/// Follows each edge of a point at which these facts are held.
+/// Follows each edge of a point.
 fn follow_all(
     alloc: Global,
     flow: &Flow,
     i: usize,
-    state: &State,
     labels: &mut Vec<Label>,
 ) -> Result<(), AllocError>
     requires differ { EdgesDiffer (flow_view flow.now) }
     requires there { LeadThere (flow_view flow.now) }
     requires within { i < length flow.now.points.items }
-    requires leaves { IsReached (flow_view flow.now) (node i) }
-    requires lacks { (f : FactOf) → has_fact state.now f ≡ false → Lacks (flow_view flow.now) f i }
-    requires known { (f : FactOf) → has_fact state.now f ≡ true → IsIn f (all_facts (flow_view flow.now)) }
-    requires left { IsLeft (flow_view flow.now) i (has_fact state.now) [] labels.old.items }
+    requires left { IsLeft (flow_view flow.now) i [] labels.old.items }
     ensures labels { OnOk result (AreLabels (flow_view flow.now) labels.new.items) }
     ensures less { OnOk result (weight (all_facts (flow_view flow.now)) labels.new.items ≤ weight (all_facts (flow_view flow.now)) labels.old.items) }
 {
     let point = &flow.points[i];
     for edge in &point.edges {
-        follow(alloc, edge, state, labels)?;
+        follow(alloc, edge, i, labels)?;
     }
     Ok(())
 }
@@ -120,8 +125,7 @@ fn leave(alloc: Global, flow: &Flow, i: usize, labels: &mut Vec<Label>) -> Resul
 {
     let label = &mut labels[i];
     label.pending = false;
-    let state = label.state.copy(alloc)?;
-    follow_all(alloc, flow, i, &state, labels)?;
+    follow_all(alloc, flow, i, labels)?;
     Ok(())
 }
 

@@ -1,5 +1,5 @@
 //! A shortest control path on which a fact is not held.
-ghost use Rattle.std.specs.Prelude.{◌≡◌, ◌+◌, ◌*◌, ◌^◌, ◌<◌, ◌&&◌, not, nat_eq, ℕ, false, replicate, map, length, IfOk, OnOk, IfSome, IfNone};
+ghost use Rattle.std.specs.Prelude.{◌≡◌, ◌+◌, ◌*◌, ◌^◌, ◌<◌, ◌&&◌, not, nat_eq, ℕ, false, replicate, reverse, map, length, IfOk, OnOk, IfSome, IfNone};
 ghost use Rattle.herm_model.specs.Targets.{node};
 ghost use Rattle.herm_model.specs.ControlPaths.{Holds, held_at_start};
 ghost use Rattle.herm_model.specs.laws.FlowLaws.{EdgesDiffer};
@@ -196,6 +196,14 @@ fn find(
     Ok(None)
 }
 
+/// The hops from the last one to the first.
+fn turned(mut hops: Vec<Hop>) -> Vec<Hop>
+    ensures { result.items ≡ reverse hops.items }
+{
+    hops.reverse();
+    hops
+}
+
 /// The hops that lead to the visit at a place.
 fn path_to(alloc: Global, visits: &[Visit], place: usize) -> Result<Vec<Hop>, AllocError>
     requires within { place < length visits.now }
@@ -208,8 +216,7 @@ fn path_to(alloc: Global, visits: &[Visit], place: usize) -> Result<Vec<Hop>, Al
         path.push(link.hop)?;
         at = link.from;
     }
-    path.reverse();
-    Ok(path)
+    Ok(turned(path))
 }
 
 /// A control path to the point on which the fact is not held, none of which is shorter; or none, where it holds there.

@@ -1,3 +1,4 @@
 pub mod Excess
 pub mod Rows
 pub mod Dropping
+pub mod Carried

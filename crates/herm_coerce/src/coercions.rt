@@ -1,9 +1,11 @@
 //! The paths that each edge of a flow finalises.
-ghost use Rattle.std.specs.Prelude.{◌≡◌, ◌∷◌, [], cond, false, map, IfOk, ◌&&◌, nat_lt, length};
+ghost use Rattle.std.specs.Prelude.{◌≡◌, ◌∷◌, [], cond, true, false, map, IfOk, IsTrue, ◌&&◌, nat_lt, length};
 ghost use Rattle.herm_model.specs.Paths as model;
 ghost use Rattle.herm_model.specs.Labels.{label_at};
 ghost use Rattle.herm_model.specs.laws.ExcessLaws.{IsExcess};
-ghost use Rattle.herm_types.specs.View.{path_view};
+ghost use Rattle.herm_model.specs.Lists.{any_pass};
+ghost use Rattle.herm_model.specs.ControlPaths.{held_after_edge};
+ghost use Rattle.herm_types.specs.View.{path_view, fact_view};
 ghost use Rattle.herm_typestate.specs.Facts.{has_fact};
 ghost use Rattle.herm_flow.specs.View.{target_view, edge_view, point_view, flow_view};
 ghost use Rattle.herm_check.specs.View.{labels_view};
@@ -80,7 +82,50 @@ fn beyond(
     }
 }
 
-/// What an edge finalises, where these facts are held before it.
+/// Whether each fact that the edge makes is in the set.
+fn are_made_in(low: &State, makes: &[Fact]) -> bool
+    ensures { IsTrue result → (f : model.Fact) → any_pass (model.same_fact f) (map fact_view makes.now) ≡ true → has_fact low.now f ≡ true }
+{
+    for fact in makes {
+        if !low.holds(fact) {
+            return false;
+        }
+    }
+    true
+}
+
+/// Whether each of the facts, and each that the edge makes, is in the low set. Then all that is held behind the edge is in it. Where
+/// false, all of that may be in it too, since an edge takes facts away.
+fn has_all_behind(low: &State, state: &State, edge: &Edge) -> bool
+    ensures { IsTrue result → (f : model.Fact) → held_after_edge (edge_view edge.now) f (has_fact state.now f) ≡ true → has_fact low.now f ≡ true }
+{
+    if !are_made_in(low, edge.makes.as_slice()) {
+        return false;
+    }
+    state.is_below(low)
+}
+
+/// Whether the label of a point is found to have all that is held behind the edge.
+fn is_carried_to(state: &State, labels: &Labels, edge: &Edge, at: u32) -> bool
+    ensures { IsTrue result → (f : model.Fact) → held_after_edge (edge_view edge.now) f (has_fact state.now f) ≡ true → labels_view labels.now at f ≡ true }
+{
+    let Some(low) = labels.at.as_slice().get(at as usize) else {
+        return false;
+    };
+    has_all_behind(low, state, edge)
+}
+
+/// Whether the label of the target is found to have all that is held behind the edge.
+fn is_carried(state: &State, labels: &Labels, edge: &Edge) -> bool
+    ensures { IsTrue result → (f : model.Fact) → held_after_edge (edge_view edge.now) f (has_fact state.now f) ≡ true → label_at (labels_view labels.now) (target_view edge.now.to) f ≡ true }
+{
+    let Target::Point(at) = edge.to else {
+        return false;
+    };
+    is_carried_to(state, labels, edge, at)
+}
+
+/// What an edge finalises, where these facts are held before it. Where it is found to finalise nothing, no fact is copied.
 fn dropped(
     alloc: Global,
     state: &State,
@@ -89,6 +134,9 @@ fn dropped(
 ) -> Result<Vec<Path>, AllocError>
     ensures { IfOk result (λ paths. IsDropped (labels_view labels.now) (has_fact state.now) (edge_view edge.now) (map path_view paths.items)) }
 {
+    if is_carried(state, labels, edge) {
+        return Ok(Vec::new(alloc));
+    }
     let after = behind(alloc, state, edge)?;
     let paths = beyond(alloc, &after, labels, edge.to)?;
     Ok(paths)
@@ -103,7 +151,7 @@ fn all_dropped(
 ) -> Result<Vec<Vec<Path>>, AllocError>
     ensures { IfOk result (λ found. AreDropped (labels_view labels.now) (has_fact state.now) (map edge_view edges.now) (map (λ e. map path_view e.items) found.items)) }
 {
-    let mut found = Vec::new(alloc);
+    let mut found = Vec::with_capacity(alloc, edges.len())?;
     for edge in edges {
         found.push(dropped(alloc, state, labels, edge)?)?;
     }
@@ -140,7 +188,7 @@ fn edges_dropped(
 ) -> Result<Vec<Vec<Vec<Path>>>, AllocError>
     ensures { IfOk result (λ found. ArePointsDropped (labels_view labels.now) 0 (flow_view flow.now).points (map (λ p. map (λ e. map path_view e.items) p.items) found.items)) }
 {
-    let mut found = Vec::new(alloc);
+    let mut found = Vec::with_capacity(alloc, flow.points.len())?;
     for (at, point) in flow.points.as_slice().iter().enumerate() {
         found.push(dropped_at(alloc, labels, at, point)?)?;
     }

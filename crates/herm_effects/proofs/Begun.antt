@@ -1,5 +1,5 @@
 -- Where the fact that ends those before a fact was pushed, they all were.
-use Rattle.std.proofs.Common.{◌≡◌, ℕ, List, [], ◌∷◌, ◌++◌, flat_map, Bool, true, false, cond, ◌||◌, Option, slice_get, sym, ap, subst, ◌∙◌, ◌⊎◌, inl, inr, append_assoc}
+use Rattle.std.proofs.Common.{◌≡◌, ◌≤◌, ◌<◌, ℕ, length, refl, arith, List, [], ◌∷◌, ◌++◌, flat_map, Bool, true, false, cond, ◌||◌, Option, slice_get, sym, ap, subst, ◌∙◌, ◌⊎◌, inl, inr, append_assoc}
 use Rattle.std.proofs.lemmas.List.{append-nil}
 use Rattle.herm_model.specs.Lists.{IsIn}
 use Rattle.herm_model.specs.Paths.{Path, Fact, init, case, parent}
@@ -79,3 +79,9 @@ module _ (table : TypeTable) where
     pub closing_more : (fs : List Fact) (f : Fact) → Closing fs ++ with_prefixes table variables f ≡ Closing (fs ++ f ∷ [])
     closing_more [] f = sym (append-nil (with_prefixes table variables f))
     closing_more (g ∷ fs) f = append_assoc (with_prefixes table variables g) (Closing fs) (with_prefixes table variables f) ∙ ap (with_prefixes table variables g ++◌) (closing_more fs f)
+
+-- before the value of a part of a variable there is the variable's alone
+pub one-before : (table : TypeTable) (variables : List ℕ) (v : ℕ) (p : List ℕ) → 1 ≤ length p → length p < 2 → prefixes table variables (init (v ∷ p)) ≡ init (v ∷ []) ∷ []
+one-before table variables v [] some few = absurd (omega arith)
+one-before table variables v (i ∷ []) some few = refl
+one-before table variables v (i ∷ j ∷ p) some few = absurd (omega arith)

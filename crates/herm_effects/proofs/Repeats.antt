@@ -1,5 +1,5 @@
 -- Facts that were pushed before are left out.
-use Rattle.std.proofs.Common.{◌≡◌, List, [], ◌∷◌, ◌++◌, Bool, true, false, cond, ◌||◌, refl, sym, ap, ap₂, subst, ◌∙◌, inl, inr, append_assoc}
+use Rattle.std.proofs.Common.{◌≡◌, ◌<◌, ℕ, zero, suc, List, [], ◌∷◌, ◌++◌, length, map, get_or, Bool, true, false, cond, ◌||◌, refl, sym, ap, ap₂, subst, ◌∙◌, inl, inr, append_assoc, arith}
 use Rattle.std.proofs.lemmas.List.{append-nil}
 use Rattle.herm_model.specs.Lists.{any_pass, IsIn}
 use Rattle.herm_model.specs.Paths.{Fact, same_fact}
@@ -53,6 +53,20 @@ pushed_more has more x pushed new facts add is p = record {
     by : (f : Fact) (b : Bool) → has x ≡ b → (same_fact f x || has f) ≡ any_pass (λ g. same_fact g f) (pushed ++ cond b [] (x ∷ []))
     by f true h = sym (held_already has x f h) ∙ (p.tells f ∙ (alone (any_pass (λ g. same_fact g f) pushed) ∙ sym (any-append (λ g. same_fact g f) pushed [])))
     by f false h = ap₂ (λ a b. a || b) (turned f x) (p.tells f) ∙ (either (same_fact x f) (any_pass (λ g. same_fact g f) pushed) ∙ sym (any-append (λ g. same_fact g f) pushed (x ∷ [])))
+
+-- the same where the facts that were pushed are themselves looked through
+pub pushed_once : (pushed new facts : List Fact) (x : Fact) → new ≡ pushed ++ cond (any_pass (λ g. same_fact g x) pushed) [] (x ∷ []) → pushed ≡ without_repeats facts → new ≡ without_repeats (facts ++ x ∷ [])
+pushed_once pushed new facts x is e = is ∙ (ap (λ fs. fs ++ cond (any_pass (λ g. same_fact g x) fs) [] (x ∷ [])) e ∙ sym (repeats-more facts x))
+
+-- a fact at a place that passes the test is among them
+pub one-passes : {X : Type 0} (test : Fact → Bool) (view : X → Fact) (xs : List X) (i : ℕ) (x : X) → i < length xs → x ≡ get_or xs i x → test (view x) ≡ true → any_pass test (map view xs) ≡ true
+one-passes test view [] i x within is h = absurd (omega arith)
+one-passes test view (y ∷ xs) zero x within is h = ap (λ b. b || any_pass test (map view xs)) (ap (λ z. test (view z)) (sym is) ∙ h)
+one-passes test view (y ∷ xs) (suc i) x within is h = ap (λ b. test (view y) || b) (one-passes test view xs i x (omega arith) is h) ∙ ending (test (view y))
+  where
+    ending : (b : Bool) → (b || true) ≡ true
+    ending true = refl
+    ending false = refl
 
 -- what is told to be among facts is one of them
 pub some-in : (f : Fact) (fs : List Fact) → any_pass (λ g. same_fact g f) fs ≡ true → IsIn f fs

@@ -9,29 +9,13 @@ ghost use Rattle.herm_typestate.specs.Facts.{has_fact};
 ghost use Rattle.herm_judge.specs.View.{table_of, variables_of};
 ghost use Rattle.herm_effects.specs.Pushed.{IsPushed, IsBegunAt, IsBegun};
 
+use crate::before::facts_before;
+use crate::few::{are_few, closed_few};
 use crate::paths::{copy, parent_of};
-use crate::present::{push_present, push_room};
 use herm_judge::{Frame, passes_component};
 use herm_types::{Fact, Path};
 use herm_typestate::State;
 use std::alloc::{AllocError, Global};
-
-/// The facts before a fact.
-fn prefixes(alloc: Global, frame: &Frame, fact: &Fact) -> Result<Vec<Fact>, AllocError>
-    ensures { IfOk result (λ v. map fact_view v.items ≡ prefixes (table_of frame.now) (variables_of frame.now) (fact_view fact.now)) }
-{
-    let mut out = Vec::new(alloc);
-    match fact {
-        Fact::Init(p) => {
-            push_room(alloc, frame, p, &mut out)?;
-            Ok(out)
-        }
-        Fact::Case(p, _) => {
-            push_present(alloc, frame, p, &mut out)?;
-            Ok(out)
-        }
-    }
-}
 
 /// Whether a path passes through no component and the set has a value at it.
 fn is_begun_at(frame: &Frame, seen: &State, path: Path) -> bool
@@ -111,7 +95,7 @@ fn push_before(
     if is_begun(alloc, frame, seen, fact)? {
         return Ok(());
     }
-    let before = prefixes(alloc, frame, fact)?;
+    let before = facts_before(alloc, frame, fact)?;
     push_each_new(alloc, seen, before, out)?;
     Ok(())
 }
@@ -134,8 +118,8 @@ fn push_closed(
     Ok(())
 }
 
-/// The facts, each behind those before it and without repeats.
-pub fn closed(alloc: Global, frame: &Frame, facts: Vec<Fact>) -> Result<Vec<Fact>, AllocError>
+/// The facts by a set of those that were pushed, which finds a fact in the time of its path.
+fn closed_by_set(alloc: Global, frame: &Frame, facts: Vec<Fact>) -> Result<Vec<Fact>, AllocError>
     ensures { IfOk result (λ v. map fact_view v.items ≡ table.closed (table_of frame.now) (variables_of frame.now) (map fact_view facts.items)) }
 {
     let mut seen = State::empty(alloc, 0)?;
@@ -144,4 +128,19 @@ pub fn closed(alloc: Global, frame: &Frame, facts: Vec<Fact>) -> Result<Vec<Fact
         push_closed(alloc, frame, &mut seen, fact, &mut out)?;
     }
     Ok(out)
+}
+
+/// The facts, each behind those before it and without repeats.
+pub fn closed(alloc: Global, frame: &Frame, facts: Vec<Fact>) -> Result<Vec<Fact>, AllocError>
+    ensures { IfOk result (λ v. map fact_view v.items ≡ table.closed (table_of frame.now) (variables_of frame.now) (map fact_view facts.items)) }
+{
+    if facts.is_empty() {
+        return Ok(facts);
+    }
+    if are_few(facts.as_slice()) {
+        let found = closed_few(alloc, frame, facts)?;
+        return Ok(found);
+    }
+    let found = closed_by_set(alloc, frame, facts)?;
+    Ok(found)
 }

@@ -20,7 +20,7 @@ use std::alloc::{AllocError, Global};
 fn one(alloc: Global, x: &TypedPath) -> Result<Vec<Path>, AllocError>
     ensures { IfOk result (λ v. map path_view v.items ≡ typed_path_view x.now ∷ []) }
 {
-    let mut out = Vec::new(alloc);
+    let mut out = Vec::with_capacity(alloc, 1)?;
     push_path(alloc, &x.path, &mut out)?;
     Ok(out)
 }
@@ -29,7 +29,7 @@ fn one(alloc: Global, x: &TypedPath) -> Result<Vec<Path>, AllocError>
 fn two(alloc: Global, y: &TypedPath, x: &TypedPath) -> Result<Vec<Path>, AllocError>
     ensures { IfOk result (λ v. map path_view v.items ≡ typed_path_view y.now ∷ typed_path_view x.now ∷ []) }
 {
-    let mut out = Vec::new(alloc);
+    let mut out = Vec::with_capacity(alloc, 2)?;
     push_path(alloc, &y.path, &mut out)?;
     push_path(alloc, &x.path, &mut out)?;
     Ok(out)

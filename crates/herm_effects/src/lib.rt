@@ -6,7 +6,9 @@ ghost use Rattle.herm_types.specs.View.{path_view, fact_view};
 ghost use Rattle.herm_effects.specs.Rows.{needs_at, makes_at, kills_at};
 
 mod arguments;
+mod before;
 mod closed;
+mod few;
 mod gone;
 mod made;
 mod needed;

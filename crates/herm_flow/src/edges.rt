@@ -109,7 +109,7 @@ fn edges_of(
 ) -> Result<Vec<Edge>, AllocError>
     ensures edges { IfOk result (λ v. map edge_view v.items ≡ map (edge_at (table_of frame.now) (variables_of frame.now) form.now) (exits_from (map outcome_view outcomes.now) (map target_view leads.now) (map catch_view catches.now))) }
 {
-    let mut edges = Vec::new(alloc);
+    let mut edges = Vec::with_capacity(alloc, outcomes.len())?;
     let mut taken = 0;
     'each: for outcome in outcomes {
         let n = follow(

@@ -1,5 +1,5 @@
 //! The topmost paths at which one state has values and another has none.
-ghost use Rattle.std.specs.Prelude.{◌≡◌, ◌<◌, [], IfOk, OnOk, length, map};
+ghost use Rattle.std.specs.Prelude.{◌≡◌, ◌<◌, ◌++◌, ◌∷◌, [], IfOk, OnOk, length, map};
 ghost use Rattle.herm_model.specs.Paths.{init};
 ghost use Rattle.herm_model.specs.laws.ExcessLaws.{IsExcess};
 ghost use Rattle.herm_types.specs.View.{path_view};
@@ -11,7 +11,7 @@ ghost use Rattle.herm_typestate.specs.Topmost.{AddTopmost, is_left, is_left_at};
 ghost use Rattle.herm_typestate.specs.Facts.{has_fact};
 
 use crate::state::State;
-use crate::tree::{Tree, is_here, parts_at};
+use crate::tree::{Tree, copy_numbers, is_here, parts_at};
 use herm_base::VarNo;
 use herm_types::Path;
 use std::alloc::{AllocError, Global};
@@ -22,8 +22,18 @@ fn path_of(alloc: Global, steps: &[u32]) -> Result<Path, AllocError>
     ensures { IfOk result (λ p. path_view p ≡ steps.now) }
 {
     let var = VarNo(steps[0]);
-    let parts = Vec::from_slice(alloc, &steps[1..])?;
+    let parts = copy_numbers(alloc, &steps[1..])?;
     Ok(Path { var, parts })
+}
+
+/// Appends the path of these steps.
+fn push_path(alloc: Global, steps: &[u32], out: &mut Vec<Path>) -> Result<(), AllocError>
+    requires { 0 < length steps.now }
+    ensures { OnOk result (map path_view out.new.items ≡ map path_view out.old.items ++ steps.now ∷ []) }
+{
+    let path = path_of(alloc, steps)?;
+    out.push(path)?;
+    Ok(())
 }
 
 /// Whether there is a value in the tree and none in the low trees at its place.
@@ -48,8 +58,7 @@ fn excess_of(
     ensures out { OnOk result (AreSmall (out-Tree tree.now).parts.items → AddTopmost (is_left_at tree.now low.now i) at.old.items (map path_view out.old.items) (map path_view out.new.items)) }
 {
     if is_gone(tree, low, i) {
-        let path = path_of(alloc, at.as_slice())?;
-        out.push(path)?;
+        push_path(alloc, at.as_slice(), out)?;
         return Ok(());
     }
     excess(alloc, tree.parts.as_slice(), parts_at(low, i), at, out)?;

@@ -4,10 +4,12 @@
 mod excess;
 mod facts;
 mod labels;
+mod same;
 mod state;
 mod tree;
 
 pub use labels::Labels;
+pub use same::same_fact;
 pub use state::State;
 
 #[cfg(test)]

@@ -1,5 +1,5 @@
 //! What is known of a value and of its parts.
-ghost use Rattle.std.specs.Prelude.{◌≡◌, [], ◌∷◌, ◌&&◌, ◌||◌, not, false, ℕ, List, length, IfOk, OnOk, OnErr, ◌≤◌, ◌<◌, nat_eq, true};
+ghost use Rattle.std.specs.Prelude.{◌≡◌, [], ◌∷◌, ◌&&◌, ◌||◌, not, false, ℕ, List, length, IfOk, OnOk, OnErr, IsTrue, ◌≤◌, ◌<◌, nat_eq, true};
 ghost use Rattle.herm_model.specs.Paths.{is_at_or_below};
 ghost use Rattle.herm_typestate.specs.Trees.{has_mark, is_marked, same_mark, tree_has, is_mark_of, IsWithin, IsBeyond, Tells};
 ghost use Rattle.herm_model.specs.Lists.{any_pass, all_pass};
@@ -150,13 +150,40 @@ pub fn make(
     }
 }
 
-/// Copies of the trees.
+/// The same numbers. Where there are none they take no memory.
+pub fn copy_numbers(alloc: Global, numbers: &[u32]) -> Result<Vec<u32>, AllocError>
+    ensures { IfOk result (λ copy. copy.items ≡ numbers.now) }
+{
+    if numbers.is_empty() {
+        return Ok(Vec::new(alloc));
+    }
+    let copy = Vec::from_slice(alloc, numbers)?;
+    Ok(copy)
+}
+
+/// Whether at most a value is known, and nothing of its parts.
+fn is_leaf(tree: &Tree) -> bool
+    ensures known { IsTrue result → (out-Tree tree.now).known.items ≡ [] }
+    ensures parts { IsTrue result → (out-Tree tree.now).parts.items ≡ [] }
+{
+    tree.known.is_empty() && tree.parts.is_empty()
+}
+
+/// Copies of the trees. Those without components and parts take no memory of their own.
 pub fn copy(alloc: Global, trees: &[Tree]) -> Result<Vec<Tree>, AllocError>
     ensures { IfOk result (λ copies. (m : Sign) (q : List ℕ) → has_mark copies.items m q ≡ has_mark trees.now m q) }
 {
     let mut copies = Vec::with_capacity(alloc, trees.len())?;
     for tree in trees {
-        let known = Vec::from_slice(alloc, tree.known.as_slice())?;
+        if is_leaf(tree) {
+            copies.push(Tree {
+                here: tree.here,
+                known: Vec::new(alloc),
+                parts: Vec::new(alloc),
+            })?;
+            continue;
+        }
+        let known = copy_numbers(alloc, tree.known.as_slice())?;
         let parts = copy(alloc, tree.parts.as_slice())?;
         copies.push(Tree {
             here: tree.here,

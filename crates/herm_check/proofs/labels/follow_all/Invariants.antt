@@ -1,5 +1,4 @@
 use Rattle.std.proofs.Common.{◌≤◌, map, take}
-use Rattle.herm_typestate.specs.Facts.{has_fact}
 use Rattle.herm_flow.specs.View.{edge_view, flow_view}
 use Rattle.herm_check.specs.Weights.{weight}
 use Rattle.herm_check.specs.Labelled.{all_facts, IsLeft}
@@ -7,6 +6,6 @@ use Rattle.herm_check.proofs.labels.follow_all.Given as goal
 
 abbrev pub invariant-loop-edge : goal.invariant-loop-edge
 invariant-loop-edge l = record {
-  left : IsLeft (flow_view l.flow) l.i (has_fact l.state) (map edge_view (take l.edge-index l.edge-items)) l.labels.items;
+  left : IsLeft (flow_view l.flow) l.i (map edge_view (take l.edge-index l.edge-items)) l.labels.items;
   less : weight (all_facts (flow_view l.flow)) l.labels.items ≤ weight (all_facts (flow_view l.flow)) l.initial.labels.items;
 }

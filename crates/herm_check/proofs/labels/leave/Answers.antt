@@ -1,7 +1,6 @@
 use Rattle.std.proofs.Common.{◌≡◌, true, false, length, refl, sym, ap, ◌∙◌, arith}
 use Rattle.std.proofs.lemmas.Option.{slice_get_read}
 use Rattle.herm_model.specs.Lists.{map_or}
-use Rattle.herm_typestate.specs.Facts.{has_fact}
 use Rattle.herm_check.specs.declared.label.Label.{Label}
 use Rattle.herm_flow.specs.View.{flow_view}
 use Rattle.herm_check.specs.Labelled.{all_facts}
@@ -10,19 +9,12 @@ use Rattle.herm_check.proofs.Counts.{weight-left}
 use Rattle.herm_check.proofs.Starting.{starts}
 use Rattle.herm_check.proofs.labels.leave.Goals as goal
 
-pub follow_all-requires-clause-known : goal.follow_all-requires-clause-known
-follow_all-requires-clause-known c f h =
-    let ls = c.args.labels.now.items in
-    let label = c.index_mut-label.result.now in
-    let old = slice_get_read ls (length ls) c.args.i label refl c.requires.within c.index_mut-label.ensures.value in
-    c.requires.labels.are_true.known c.args.i f (ap (map_or false (λ (l : Label). has_fact l.state f)) old ∙ (sym (c.in_ok-state.ensures f) ∙ h))
-
 pub follow_all-requires-clause-left : goal.follow_all-requires-clause-left
 follow_all-requires-clause-left c =
     let ls = c.args.labels.now.items in
     let label = c.index_mut-label.result.now in
     starts (flow_view c.args.flow.now) ls c.args.i label (record { reached = label.reached; pending = false; state = label.state }) (slice_get_read ls (length ls) c.args.i label refl c.requires.within c.index_mut-label.ensures.value)
-    c.requires.within refl (λ f. refl) (has_fact c.in_ok-state.state) (λ f. c.in_ok-state.ensures f) c.requires.labels
+    c.requires.within refl (λ f. refl) c.requires.reached c.requires.labels
 
 pub returns-clause-less : goal.returns-clause-less
 returns-clause-less c =

@@ -33,4 +33,4 @@ returns c =
     let vs = c.args.visits.now in
     let o = some-at vs c.loop-at.at c.loop-at.invariant.within in
     let last = last-at vs c.loop-at.at o.0 _ None o.1 c.in_default.is in
-    subst (λ xs. IsTrail vs c.args.place (map hop_view xs)) (sym c.reverse.ensures.items) (c.loop-at.invariant.trail [] (first c.loop-at.at o.0 o.1 last))
+    subst (λ xs. IsTrail vs c.args.place (map hop_view xs)) (sym c.turned.ensures) (c.loop-at.invariant.trail [] (first c.loop-at.at o.0 o.1 last))

@@ -5,14 +5,14 @@ use Rattle.herm_typestate.specs.declared.tree.Tree.{out-Tree}
 use Rattle.herm_typestate.specs.Small.{AreSmall}
 use Rattle.herm_typestate.specs.Topmost.{AddTopmost, is_left, is_left_at}
 use Rattle.herm_typestate.proofs.Meets.{past}
-use Rattle.herm_typestate.proofs.Topmost.{add-next, add-same, add-root, map-append}
+use Rattle.herm_typestate.proofs.Topmost.{add-next, add-same, add-root}
 use Rattle.herm_typestate.proofs.Left.{small_parts, none_behind_small, left_up_to, left_at, left_below}
 use Rattle.herm_typestate.proofs.excess.+excess.Goals as goal
 
 pub excess_of-returns-then-is_gone-clause-out : goal.excess_of-returns-then-is_gone-clause-out
 excess_of-returns-then-is_gone-clause-out t c small =
-    add-root (is_left_at c.args.tree.now c.args.low.now c.args.i) c.args.at.now.items (map path_view c.args.out.now.items) (map path_view c.push.new.self.items) (sym c.is_gone.ensures ∙ c.if-is_gone.true)
-    (ap (λ ps. map path_view ps) c.in_ok-push.ensures.items ∙ (map-append path_view c.args.out.now.items (c.in_ok-path.path ∷ []) ∙ ap (λ p. map path_view c.args.out.now.items ++ p ∷ []) (c.in_ok-path.ensures ∙ c.as_slice.ensures.value)))
+    add-root (is_left_at c.args.tree.now c.args.low.now c.args.i) c.args.at.now.items (map path_view c.args.out.now.items) (map path_view c.push_path.new.out.items) (sym c.is_gone.ensures ∙ c.if-is_gone.true)
+    (c.in_ok-push_path.ensures ∙ ap (λ p. map path_view c.args.out.now.items ++ p ∷ []) c.as_slice.ensures.value)
 
 pub excess_of-returns-clause-out : goal.excess_of-returns-clause-out
 excess_of-returns-clause-out t c small =

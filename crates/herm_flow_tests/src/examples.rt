@@ -1,0 +1,34 @@
+//! Definitions with types of every shape, and variables of these types.
+
+/// Stands before each process.
+pub const DEFINITIONS: &str = "\
+definitions example {
+exception e;
+type color = enum { red, green };
+type rec = record { n: integer, s: string };
+type var_t = variant { a: integer, b: rec };
+type tab = table of rec key (n, s);
+type li = inport of integer;
+type lo = outport of li;
+type ask = callmessage (in q: string, inout w: string, out r: integer) raises (e);
+type ask_in = inport of ask;
+type ask_out = outport of ask_in;
+type pi = inport of polymorph;
+type pr = record { p: polymorph, n: integer };
+type pt = table of pr key (n);
+type cv = variant { c: ask };
+type vr = record { v: var_t };
+type pair = callmessage (inout a: rec, out b: string, in c: string, out d: rec);
+type pair_in = inport of pair;
+type pair_out = outport of pair_in;
+}
+";
+
+/// Stands before the statements of a row.
+pub const BEFORE: &str = "\
+process main(start: main_start) { var i: integer, j: integer, s: string, t: string, b: boolean, c: color, r: rec, k: rec, v: var_t, w: var_t, \
+x: tab, li: li, lo: lo, q: ask, ai: ask_in, ao: ask_out, p: polymorph, o: polymorph, pr: pr, pt: pt, cv: cv, vr: vr, po: pair_out; ";
+
+/// Stands behind the statements of a row.
+pub const BEHIND: &str = " }\n\
+process worker(start: li) { }";
