@@ -96,10 +96,17 @@ impl Trace {
         }
     }
 
-    /// An equal text. The bytes of a long one are shared, not copied.
+    /// An equal text. The bytes of a long one are shared, not copied; one of at most 22 bytes takes no memory.
     pub fn again(&self) -> Result<Trace, AllocError>
         ensures same { IfOk result (λ t. t ≡ self.now) }
+        ensures short { length self.now ≤ 22 → IsOk result }
     {
+        let bytes = self.bytes();
+        if bytes.len() <= INLINE {
+            return Ok(Trace {
+                text: Text::Short(short_text(bytes)),
+            });
+        }
         match &self.text {
             Text::Short(short) => Ok(Trace {
                 text: Text::Short(*short),
