@@ -3,3 +3,4 @@ pub mod Splits
 pub mod Relinked
 pub mod Pushed
 pub mod Unlinked
+mod TwoPushed

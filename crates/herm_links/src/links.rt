@@ -144,7 +144,6 @@ impl<T> Links<T> {
     pub fn front(&self, list: ListNo) -> Option<NodeNo>
         requires live { IsLive self.now list.0 }
         ensures node { option_map (λ node. node.0) result ≡ first_node (entries_of self.now list.0) }
-        ensures apart { AreApart self.now }
     {
         let first = self.lists[list.0].first?;
         Some(NodeNo(first))
@@ -168,10 +167,11 @@ impl<T> Links<T> {
         Some(NodeNo(prev))
     }
 
-    /// The value of a node.
+    /// The value of a node. No node stands in two lists, or twice in one.
     pub fn at(&self, node: NodeNo) -> &T
         requires stands { Stands self.now node.0 }
         ensures value { (list : ℕ) (before : List (ℕ × T)) (value : T) (behind : List (ℕ × T)) → IsSplit self.now list before node.0 value behind → result.now ≡ value }
+        ensures apart { AreApart self.now }
     {
         &self.nodes[node.0].value
     }

@@ -33,3 +33,42 @@ fn a_node_taken_out_leaves_the_others(rt: HostRuntime) -> Result<(), Fail> {
     assert_eq!(rt; links.take_front(other), None);
     Ok(())
 }
+
+/// Room for two, a list of 5 and 6, and the first taken out: what is left, from front to end.
+fn left_of_two(alloc: Global) -> Result<(u32, Option<u32>, Option<u32>), AllocError> {
+    let mut links = Links::new(alloc);
+    links.reserve(2)?;
+    let list = links.new_list()?;
+    let five = links.push_back(list, 5);
+    links.push_back(list, 6);
+    let taken = links.unlink(five);
+    let first = links.take_front(list);
+    let second = links.take_front(list);
+    Ok((taken, first, second))
+}
+
+#[test]
+fn of_two_the_second_is_left(rt: HostRuntime) -> Result<(), Fail> {
+    let left = left_of_two(rt.alloc())?;
+    assert_eq!(rt; left, (5, Some(6), None));
+    Ok(())
+}
+
+/// Whether 5 and 6 of a list know each other, with nothing before 5 and behind 6.
+fn know_each_other(alloc: Global) -> Result<bool, AllocError> {
+    let mut links: Links<u32> = Links::new(alloc);
+    links.reserve(2)?;
+    let list = links.new_list()?;
+    let five = links.push_back(list, 5);
+    let six = links.push_back(list, 6);
+    let forward = links.next(five) == Some(six) && links.next(six).is_none();
+    let back = links.prev(six) == Some(five) && links.prev(five).is_none();
+    let values = *links.at(five) == 5 && *links.at(six) == 6;
+    Ok(forward && back && values)
+}
+
+#[test]
+fn two_nodes_know_each_other(rt: HostRuntime) -> Result<(), Fail> {
+    assert!(rt; know_each_other(rt.alloc())?);
+    Ok(())
+}

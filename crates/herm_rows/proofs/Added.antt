@@ -1,16 +1,15 @@
 -- A row is put behind the others, and its node into the index.
-use Rattle.std.specs.Prelude.{◌≡◌, ◌≢◌, ℕ, zero, suc, ◌+◌, ◌<◌, ◌≤◌, ◌⊎◌, Bool, true, false, List, [], ◌∷◌, ◌++◌, length, map, Option, Some, None, Err, slice_get, insert, refl}
-use Rattle.std.specs.List.{list_any}
+use Rattle.std.specs.Prelude.{◌≡◌, ℕ, ◌<◌, ◌≤◌, ◌⊎◌, List, [], ◌∷◌, ◌++◌, length, Some, Err, slice_get, insert, refl}
 use Rattle.std.specs.Cmp.{IsTotalOrder}
-use Rattle.std.specs.Ordering.{is_eq, ordering_reverse}
+use Rattle.std.specs.Ordering.{ordering_reverse}
 use Rattle.std.specs.declared.cmp.Ordering.{Ordering}
-use Rattle.std.specs.declared.cmp.Ordering.TheVariants.{Less, Equal, Greater}
+use Rattle.std.specs.declared.cmp.Ordering.TheVariants.{Less}
 use Rattle.std.proofs.Common.{sym, ◌∙◌, ap, subst, arith, inl, inr, length-append}
 use Rattle.std.proofs.lemmas.List.Edits.{length-insert}
 use Rattle.herm_links.specs.declared.links.NodeNo.{NodeNo}
 use Rattle.herm_rows.specs.Keys.{rows_of, is_key_of, HaveDifferentKeys}
 use Rattle.herm_rows.specs.Nodes.{Has, HasNode, NodesDiffer, IsIndex, IsPlace}
-use Rattle.herm_rows.proofs.Edits.{some-same, StoodBehind, Inserted, insert-cases, insert-there, insert-keeps, push-cases, push-keeps, push-there}
+use Rattle.herm_rows.proofs.Edits.{Inserted, insert-cases, insert-there, insert-keeps, push-cases, push-keeps, push-there}
 use Rattle.herm_rows.proofs.Taken.{none-any}
 use Rattle.herm_rows.proofs.Different.{different-pushed}
 use Rattle.herm_rows.proofs.Found.{none-equal}

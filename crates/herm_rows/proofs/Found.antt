@@ -1,17 +1,15 @@
 -- What the place in the index says of the list of rows.
-use Rattle.std.specs.Prelude.{◌≡◌, ◌≢◌, ℕ, zero, suc, ◌+◌, ◌<◌, ◌≤◌, ◌⊎◌, Bool, true, false, nat_lt, List, [], ◌∷◌, ◌++◌, length, map, Option, Some, None, Ok, Err, option_map, find, slice_get, remove, refl}
-use Rattle.std.specs.List.{list_any}
+use Rattle.std.specs.Prelude.{◌≡◌, ℕ, Bool, true, false, nat_lt, List, Option, Some, None, Err, option_map, find, slice_get, remove, refl}
 use Rattle.std.specs.Ordering.{is_eq}
 use Rattle.std.specs.declared.cmp.Ordering.{Ordering}
 use Rattle.std.specs.declared.cmp.Ordering.TheVariants.{Less, Equal, Greater}
-use Rattle.std.proofs.Common.{sym, ◌∙◌, ap, subst, arith, inl, inr}
+use Rattle.std.proofs.Common.{sym, ◌∙◌, ap}
 use Rattle.std.proofs.lemmas.Option.{slice_get-map}
 use borrow.Author.Tests.{ltb-true, ltb-false}
 use Rattle.herm_links.specs.declared.links.NodeNo.{NodeNo}
-use Rattle.herm_rows.specs.Keys.{rows_of, has_key, is_key_of, HaveDifferentKeys, IsOneKey, without}
-use Rattle.herm_rows.specs.Nodes.{Has, HasNode, NodesDiffer, IsIndex, AllBelow, AllAbove, IsPlace, nodes_without}
-use Rattle.herm_rows.proofs.Edits.{some-same}
-use Rattle.herm_rows.proofs.Taken.{NonePass, none-found, none-any, all-left, one-found, one-any, others-left}
+use Rattle.herm_rows.specs.Keys.{rows_of, has_key, HaveDifferentKeys, IsOneKey, without}
+use Rattle.herm_rows.specs.Nodes.{Has, IsIndex, AllBelow, AllAbove, IsPlace, nodes_without}
+use Rattle.herm_rows.proofs.Taken.{NonePass, all-left, one-found, others-left}
 use Rattle.herm_rows.proofs.Different.{one-alone}
 
 mapped-some : {X Y : Type 0} (f : X → Y) (o : Option X) (y : Y) → option_map f o ≡ Some y

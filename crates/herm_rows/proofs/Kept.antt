@@ -1,5 +1,5 @@
 -- The rows are kept in the first list, and their nodes in the index, through each change.
-use Rattle.std.specs.Prelude.{◌≡◌, ◌≢◌, ℕ, zero, suc, ◌+◌, ◌<◌, ◌≤◌, List, [], ◌∷◌, ◌++◌, length, Option, Some, None, Err, IsSome, IfSome, option_map, slice_get, slice_set, slice_index_or, insert, remove, refl}
+use Rattle.std.specs.Prelude.{◌≡◌, ℕ, zero, suc, ◌+◌, ◌<◌, ◌≤◌, List, [], ◌∷◌, ◌++◌, length, Option, Some, None, Err, IsSome, IfSome, option_map, slice_get, slice_set, slice_index_or, insert, remove, refl}
 use Rattle.std.specs.Cmp.{IsTotalOrder}
 use Rattle.std.specs.declared.cmp.Ordering.{Ordering}
 use Rattle.std.proofs.Common.{sym, ◌∙◌, ap, subst, arith, length-append}
@@ -8,7 +8,7 @@ use Rattle.herm_links.specs.Lists.{LinkedLists, entries_of, IsSplit, Stands, fir
 use Rattle.herm_links.specs.declared.links.NodeNo.{NodeNo}
 use Rattle.herm_links.specs.declared.links.ListNo.{ListNo}
 use Rattle.herm_rows.specs.Keys.{rows_of, HaveDifferentKeys, most_rows}
-use Rattle.herm_rows.specs.Nodes.{Has, HasNode, IsAdded, NodesDiffer, IsIndex, IsPlace, IsMade, AreKept}
+use Rattle.herm_rows.specs.Nodes.{Has, HasNode, NodesDiffer, IsIndex, IsPlace, IsMade, AreKept}
 use Rattle.herm_rows.proofs.Edits.{some-same, split-at, push-there}
 use Rattle.herm_rows.proofs.Searched.{there-first, split-of, stands-of}
 use Rattle.herm_rows.proofs.Added.{index-added, nodes-added, keys-added}

@@ -6,3 +6,4 @@ pub mod Found
 pub mod Added
 pub mod Removed
 pub mod Kept
+pub mod Placed

@@ -1,15 +1,14 @@
 -- A row is taken out, and its node out of the index.
-use Rattle.std.specs.Prelude.{◌≡◌, ◌≢◌, ℕ, zero, suc, ◌+◌, ◌<◌, ◌≤◌, ◌⊎◌, List, [], ◌∷◌, ◌++◌, length, map, Option, Some, None, slice_get, remove, refl}
+use Rattle.std.specs.Prelude.{◌≡◌, ◌≢◌, ℕ, zero, suc, ◌+◌, ◌<◌, List, [], ◌∷◌, length, Some, slice_get, remove, refl}
 use Rattle.std.specs.Cmp.{IsTotalOrder, tied_itself}
 use Rattle.std.specs.declared.cmp.Ordering.{Ordering}
-use Rattle.std.specs.declared.cmp.Ordering.TheVariants.{Less, Equal, Greater}
+use Rattle.std.specs.declared.cmp.Ordering.TheVariants.{Less, Equal}
 use Rattle.std.proofs.Common.{sym, ◌∙◌, ap, subst, arith, inl, inr}
 use Rattle.std.proofs.lemmas.Option.{slice_get_within}
 use Rattle.herm_links.specs.declared.links.NodeNo.{NodeNo}
 use Rattle.herm_rows.specs.Keys.{rows_of, HaveDifferentKeys}
 use Rattle.herm_rows.specs.Nodes.{Has, HasNode, NodesDiffer, IsIndex}
 use Rattle.herm_rows.proofs.Edits.{some-same, Stood, remove-cases, remove-keeps, stood-apart, places}
-use Rattle.herm_rows.proofs.Searched.{one-row}
 use Rattle.herm_rows.proofs.Different.{different-removed}
 use Rattle.herm_rows.proofs.Found.{row-there}
 

@@ -1,7 +1,7 @@
 -- What is found, and what is left, where one element of a list passes a test.
-use Rattle.std.specs.Prelude.{◌≡◌, ◌≢◌, ℕ, zero, suc, ◌+◌, ◌<◌, Bool, true, false, cond, not, ◌||◌, List, [], ◌∷◌, ◌++◌, length, Option, Some, None, find, filter, remove, slice_get, refl}
+use Rattle.std.specs.Prelude.{◌≡◌, ◌≢◌, ℕ, zero, suc, Bool, true, false, cond, not, ◌||◌, List, [], ◌∷◌, Option, Some, None, find, remove, slice_get, refl}
 use Rattle.std.specs.List.{list_any}
-use Rattle.std.proofs.Common.{get_or, ap, sym, ◌∙◌, arith, subst}
+use Rattle.std.proofs.Common.{ap, sym, ◌∙◌, arith}
 use Rattle.herm_rows.specs.Keys.{without}
 
 any-cond : (b c : Bool) → b ≡ false → (b || c) ≡ c

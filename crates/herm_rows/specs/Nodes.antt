@@ -1,5 +1,5 @@
 -- Nodes with a row each, and an index of nodes in the order of their rows' keys.
-use Rattle.std.specs.Prelude.{◌≡◌, ◌≢◌, ℕ, ◌+◌, ◌<◌, ◌≤◌, List, [], ◌∷◌, ◌++◌, length, map, filter, not, Bool, Option, Some, None, Result, Ok, Err, MatchOption, slice_get}
+use Rattle.std.specs.Prelude.{◌≡◌, ℕ, suc, ◌<◌, ◌≤◌, List, [], ◌∷◌, ◌++◌, length, filter, not, Bool, cond, nat_eq, Option, Some, None, option_map, Result, Ok, Err, MatchOption, slice_get}
 use Rattle.std.specs.declared.cmp.Ordering.{Ordering}
 use Rattle.std.specs.declared.cmp.Ordering.TheVariants.{Less, Equal, Greater}
 use Rattle.herm_links.specs.Lists.{LinkedLists, entries_of}
@@ -15,6 +15,16 @@ module _ {R : Type 0} where
   -- the node stands there
   abbrev pub HasNode : List (ℕ × R) → ℕ → Type 0
   HasNode entries node = (row : R) × Has entries node row
+
+  -- the place of a node, and as many as there are for none
+  abbrev pub place_of : List (ℕ × R) → Option ℕ → ℕ
+  place_of [] _ = 0
+  place_of (e ∷ entries) None = suc (place_of entries None)
+  place_of (e ∷ entries) (Some node) = cond (nat_eq e.0 node) 0 (suc (place_of entries (Some node)))
+
+  -- the same of a node as it is told
+  abbrev pub place_at : List (ℕ × R) → Option NodeNo → ℕ
+  place_at entries node = place_of entries (option_map (λ n. n.0) node)
 
   -- a row is put behind the others, with a node that was not there
   abbrev pub IsAdded : List (ℕ × R) → List (ℕ × R) → R → Type 0

@@ -1,5 +1,5 @@
 //! An index of nodes in the order of their rows' keys.
-ghost use Rattle.std.specs.Prelude.{◌≡◌, ◌<◌, ◌≤◌, length, IfOk, IfErr, OnOk, OnErr};
+ghost use Rattle.std.specs.Prelude.{◌≡◌, ◌<◌, ◌≤◌, length, remove, slice_index_or, IfOk, IfErr, OnOk, OnErr};
 ghost use Rattle.herm_links.specs.Lists.{entries_of};
 ghost use Rattle.herm_rows.specs.Keys.{most_rows};
 ghost use Rattle.herm_rows.specs.Nodes.{IsAdded, IsIndex, NodesDiffer, IsPlace, IsMade, AreKept};
@@ -67,6 +67,15 @@ fn make_room<R>(links: &mut Links<R>, list: &mut Option<ListNo>) -> Result<ListN
     let first = links.new_list()?;
     *list = Some(first);
     Ok(first)
+}
+
+/// Takes the node at a place out of the index. The nodes behind it move up.
+pub fn remove(index: &mut Vec<NodeNo>, place: usize) -> NodeNo
+    requires within { place < length index.old.items }
+    ensures value { result ≡ slice_index_or index.old.items place result }
+    ensures items { index.new.items ≡ remove index.old.items place }
+{
+    index.remove(place)
 }
 
 /// Puts a row behind the others, and its node at this place of the index. The row is handed back where memory is wanted.

@@ -3,10 +3,10 @@ ghost use Rattle.std.specs.Prelude.{◌≡◌, ◌+◌, ◌<◌, ◌≤◌, ℕ,
 ghost use Rattle.std.specs.List.{list_any};
 ghost use Rattle.herm_links.specs.Lists.{first_node};
 ghost use Rattle.herm_rows.specs.Keys.{has_key, is_key_of, HaveDifferentKeys, most_rows, rows_of, without};
-ghost use Rattle.herm_rows.specs.Nodes.{Has, HasNode, IsAdded, nodes_without, NodesDiffer};
+ghost use Rattle.herm_rows.specs.Nodes.{Has, HasNode, IsAdded, nodes_without, NodesDiffer, place_at};
 ghost use Rattle.herm_rows.specs.Faults.{refused_row, is_duplicate, is_full};
 
-use crate::index::{place_of_key, place_of_row, put};
+use crate::index::{place_of_key, place_of_row, put, remove};
 use crate::row::Row;
 use herm_links::{Links, ListNo, NodeNo};
 use std::alloc::Global;
@@ -73,6 +73,8 @@ impl<R: Row> Rows<R> {
     /// The first node.
     pub fn first(&self) -> Option<NodeNo>
         ensures node { option_map (λ node. node.0) result ≡ first_node self.now }
+        ensures stands { IfSome result (λ node. HasNode self.now node.0) }
+        ensures place { place_at self.now result ≡ 0 }
     {
         let list = self.list?;
         self.links.front(list)
@@ -82,6 +84,8 @@ impl<R: Row> Rows<R> {
     pub fn after(&self, node: NodeNo) -> Option<NodeNo>
         requires stands { HasNode self.now node.0 }
         ensures node { (before : List (ℕ × R)) (row : R) (behind : List (ℕ × R)) → self.now ≡ before ++ (node.0, row) ∷ behind → option_map (λ node. node.0) result ≡ first_node behind }
+        ensures stands { IfSome result (λ node. HasNode self.now node.0) }
+        ensures place { place_at self.now result ≡ place_at self.now (Some node) + 1 }
     {
         self.links.next(node)
     }
@@ -90,6 +94,7 @@ impl<R: Row> Rows<R> {
     pub fn row(&self, node: NodeNo) -> &R
         requires stands { HasNode self.now node.0 }
         ensures row { Has self.now node.0 result.now }
+        ensures place { slice_get self.now (place_at self.now (Some node)) ≡ Some (node.0, result.now) }
     {
         self.links.at(node)
     }
@@ -168,7 +173,7 @@ impl<R: Row> Rows<R> {
     {
         match place_of_key(&self.links, &self.index, key) {
             Ok(place) => {
-                let node = self.index.remove(place);
+                let node = remove(&mut self.index, place);
                 Some(self.links.unlink(node))
             }
             Err(_) => None,

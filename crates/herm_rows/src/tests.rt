@@ -56,6 +56,15 @@ fn put(town: &mut Rows<House>, number: u16, people: u32) -> (u8, u32) {
     }
 }
 
+/// Inserts a house, once more where memory is wanted.
+fn put_at_last(town: &mut Rows<House>, number: u16, people: u32) -> bool {
+    let (answer, told) = put(town, number, people);
+    if answer == b'm' {
+        return told == people && put(town, number, people).0 == b'i';
+    }
+    answer == b'i'
+}
+
 fn people_at(town: &Rows<House>, number: u16) -> Option<u32> {
     let house = town.find(&(number % 64, number / 64))?;
     Some(house.people)
@@ -74,11 +83,38 @@ fn people_of(alloc: Global, town: &Rows<House>) -> Result<Vec<u32>, AllocError> 
     Ok(all)
 }
 
-fn second(town: &Rows<House>) -> Option<NodeNo> {
-    match town.first() {
-        Some(first) => return town.after(first),
-        None => return None,
-    }
+/// The nodes of the first three rows, and what the second has.
+#[derive(Clone, Copy)]
+struct Nodes {
+    first: NodeNo,
+    second: NodeNo,
+    third: Option<NodeNo>,
+    people: u32,
+}
+
+fn first_nodes(town: &Rows<House>) -> Option<Nodes> {
+    let first = town.first()?;
+    let second = town.after(first)?;
+    let third = town.after(second);
+    let people = town.row(second).people;
+    Some(Nodes {
+        first,
+        second,
+        third,
+        people,
+    })
+}
+
+/// Whether the first and the third node are now the first and the second, with 9 at the second and another row behind it.
+fn are_kept(before: Option<Nodes>, after: Option<Nodes>) -> bool {
+    let (Some(before), Some(after)) = (before, after) else {
+        return false;
+    };
+    before.first == after.first
+        && before.third == Some(after.second)
+        && before.people == 1
+        && after.people == 9
+        && after.third.is_some()
 }
 
 #[test]
@@ -87,12 +123,10 @@ fn a_row_keeps_its_node(rt: HostRuntime) -> Result<(), Fail> {
     for number in [5, 1, 9] {
         assert!(rt; put(&mut town, number, u32::from(number)).0 == b'i');
     }
-    let five = town.first();
+    let before = first_nodes(&town);
     assert_eq!(rt; take(&mut town, 1), Some(1));
-    let nine = second(&town);
     assert!(rt; put(&mut town, 2, 2).0 == b'i');
-    assert!(rt; town.first() == five);
-    assert!(rt; second(&town) == nine);
+    assert!(rt; are_kept(before, first_nodes(&town)));
     assert_eq!(rt;
         people_of(rt.alloc(), &town)?.as_slice(),
         [5, 9, 2].as_slice()
@@ -133,4 +167,20 @@ fn there_are_at_most_4096_rows(rt: HostRuntime) {
     assert_eq!(rt; town.len(), 4096);
     assert_eq!(rt; town.at(100).people, 101);
     assert_eq!(rt; people_at(&town, 4096), Some(3));
+}
+
+#[test]
+fn want_of_memory_changes_nothing(rt: HostRuntime) {
+    let mut town = Rows::new(rt.alloc());
+    for number in 0..20 {
+        assert!(rt; put_at_last(&mut town, number, u32::from(number)));
+    }
+    for number in 0..10 {
+        assert_eq!(rt; take(&mut town, number), Some(u32::from(number)));
+    }
+    for number in 10..20 {
+        assert_eq!(rt; people_at(&town, number), Some(u32::from(number)));
+    }
+    assert_eq!(rt; town.len(), 10);
+    assert_eq!(rt; town.at(9).people, 19);
 }

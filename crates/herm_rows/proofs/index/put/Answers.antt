@@ -1,6 +1,5 @@
-use Rattle.std.specs.Prelude.{◌≡◌, ◌++◌, ◌∷◌, [], Err}
+use Rattle.std.specs.Prelude.{◌++◌, ◌∷◌, [], Err}
 use Rattle.std.proofs.Common.{sym, ◌∙◌, ap, subst}
-use Rattle.herm_links.specs.Lists.{entries_of}
 use Rattle.herm_rows.specs.Nodes.{HasNode, IsPlace}
 use Rattle.herm_rows.proofs.Searched.{stands-of}
 use Rattle.herm_rows.proofs.Kept.{pushed-entries, pushed-has, pushed-back, unlinked-entries, unlinked-row, kept-moved, kept-added, still-made}
