@@ -98,9 +98,13 @@ fn push_places(out: &mut Vec<u8>, places: &[Option<Value>]) -> Result<(), AllocE
 fn push_rows(out: &mut Vec<u8>, table: &Table) -> Result<(), AllocError>
     ensures { OnOk result (out.new.items ≡ out.old.items ++ parts_text (table_parts table.now) []) }
 {
-    'rows: for n in 0..table.len() {
-        push_comma_behind(out, n)?;
-        let Some(row) = table.row_at(n) else {
+    let mut before = b"".as_slice();
+    let mut next = table.first();
+    'rows: while let Some(node) = next {
+        out.extend_from_slice(before)?;
+        before = b",".as_slice();
+        next = table.after(node);
+        let Some(row) = table.row(node) else {
             out.push(b'_')?;
             continue;
         };

@@ -7,9 +7,9 @@ use herm_base::ProcNo;
 /// with a value or empty.
 #[derive(Drop)]
 pub struct CallMsg<V> {
-    pub caller: ProcNo,
-    pub call: u64,
-    pub params: Vec<Option<V>>,
+    pub(crate) caller: ProcNo,
+    pub(crate) call: u64,
+    pub(crate) params: Vec<Option<V>>,
 }
 
 impl<V> CallMsg<V> {

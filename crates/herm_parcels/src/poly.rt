@@ -11,9 +11,9 @@ const GREATEST_DEPTH: u32 = 16;
 /// A polymorph: the type of its content, how deep polymorphs nest in it, itself counted, and the content.
 #[derive(Drop)]
 pub struct Poly<V> {
-    pub tag: TypeNo,
-    pub depth: u32,
-    pub value: Box<V>,
+    pub(crate) tag: TypeNo,
+    pub(crate) depth: u32,
+    pub(crate) value: Box<V>,
 }
 
 /// Why a polymorph was not made, with its content: it would be too deep, or memory is wanted.
@@ -50,7 +50,7 @@ impl<V> Poly<V> {
         self.tag
     }
 
-    /// How deep polymorphs nest, this one counted: from 1 to 16.
+    /// How deep polymorphs nest, this one counted. `new` makes none above 16.
     pub fn depth(&self) -> u32
         ensures depth { result ≡ self.now.depth }
     {

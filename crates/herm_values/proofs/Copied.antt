@@ -12,33 +12,34 @@ use Rattle.herm_model.specs.Statements.{Differ}
 use Rattle.herm_model.specs.Tables.{key_of}
 use Rattle.herm_model.specs.Lists.{IsIn}
 use Rattle.herm_values.specs.Parts.{parts_from, rows_at}
-use Rattle.herm_values.specs.View.{value_view, views_of, table_parts, places_of}
+use Rattle.herm_values.specs.View.{views_of, places_of}
+use Rattle.herm_values.specs.Keyed.{keyed_view, keyed_of, keyed_parts}
 use Rattle.herm_values.specs.Copies.{key_row_view}
 use Rattle.herm_values.specs.Whole.{AllWhole, HasRow, AreKept, IsWholeTable}
 use Rattle.herm_values.specs.declared.scalar.KeyRow.{KeyRow}
 use Rattle.herm_values.specs.declared.value.Value.{Value, Fields, Table as a_table, Call}
 use Rattle.herm_values.specs.declared.value.Table.{Table}
-use Rattle.herm_values.proofs.Seen.{fields_view, table_view, call_view}
+use Rattle.herm_values.proofs.Forgotten.{fields_keyed, table_keyed, call_keyed, equal-places}
 
-pub fields-copied : (v : Value) (x copy : Vec (Option Value) Global) (places : List (Option Value)) → v ≡ Fields x → places ≡ x.items → views_of copy.items ≡ views_of places → value_view (Fields copy) ≡ value_view v
+pub fields-copied : (v : Value) (x copy : Vec (Option Value) Global) (places : List (Option Value)) → v ≡ Fields x → places ≡ x.items → keyed_of copy.items ≡ keyed_of places → keyed_view (Fields copy) ≡ keyed_view v
 fields-copied v x copy places is same equal =
-    fields_view (Fields copy) copy refl
-    ∙ ap (λ os. cell tt model.a_record (parts_from os)) (equal ∙ ap views_of same)
-    ∙ sym (fields_view v x is)
+    fields_keyed (Fields copy) copy refl
+    ∙ ap (λ os. cell [] model.a_record (parts_from os)) (equal ∙ ap keyed_of same)
+    ∙ sym (fields_keyed v x is)
 
-pub table-copied : (v : Value) (x boxed : Box Table Global) (table copied : Table) → v ≡ a_table x → table ≡ x.value → table_parts copied ≡ table_parts table → boxed.value ≡ copied → value_view (a_table boxed) ≡ value_view v
-table-copied v x boxed table copied is same equal held =
-    table_view (a_table boxed) boxed refl
-    ∙ ap (cell tt model.a_table) (ap table_parts held ∙ equal ∙ ap table_parts same)
-    ∙ sym (table_view v x is)
+pub table-copied : (v : Value) (x boxed : Box Table Global) (table copied : Table) → v ≡ a_table x → table ≡ x.value → copied.columns.items ≡ table.columns.items → keyed_parts copied ≡ keyed_parts table → boxed.value ≡ copied → keyed_view (a_table boxed) ≡ keyed_view v
+table-copied v x boxed table copied is same columns equal held =
+    table_keyed (a_table boxed) boxed refl
+    ∙ ap₂ (λ cs ps. cell cs model.a_table ps) (ap (λ (t : Table). t.columns.items) held ∙ columns ∙ ap (λ (t : Table). t.columns.items) same) (ap keyed_parts held ∙ equal ∙ ap keyed_parts same)
+    ∙ sym (table_keyed v x is)
 
-pub call-copied : (v : Value) (x copy : CallMsg Value) (places : List (Option Value)) → v ≡ Call x → copy.caller ≡ x.caller → copy.call ≡ x.call → places ≡ x.params.items → views_of copy.params.items ≡ views_of places → value_view (Call copy) ≡ value_view v
+pub call-copied : (v : Value) (x copy : CallMsg Value) (places : List (Option Value)) → v ≡ Call x → copy.caller ≡ x.caller → copy.call ≡ x.call → places ≡ x.params.items → keyed_of copy.params.items ≡ keyed_of places → keyed_view (Call copy) ≡ keyed_view v
 call-copied v x copy places is by number same equal =
-    call_view (Call copy) copy refl
-    ∙ ap (λ (caller : ProcNo). cell tt (model.a_callmessage caller.number copy.call) (parts_from (views_of copy.params.items))) by
-    ∙ ap (λ n. cell tt (model.a_callmessage x.caller.number n) (parts_from (views_of copy.params.items))) number
-    ∙ ap (λ os. cell tt (model.a_callmessage x.caller.number x.call) (parts_from os)) (equal ∙ ap views_of same)
-    ∙ sym (call_view v x is)
+    call_keyed (Call copy) copy refl
+    ∙ ap (λ (caller : ProcNo). cell [] (model.a_callmessage caller.number copy.call) (parts_from (keyed_of copy.params.items))) by
+    ∙ ap (λ n. cell [] (model.a_callmessage x.caller.number n) (parts_from (keyed_of copy.params.items))) number
+    ∙ ap (λ os. cell [] (model.a_callmessage x.caller.number x.call) (parts_from os)) (equal ∙ ap keyed_of same)
+    ∙ sym (call_keyed v x is)
 
 places-by : (keys : List KeyRow) → places_of keys ≡ map (λ k. k.1) (map key_row_view keys)
 places-by [] = refl
@@ -67,13 +68,13 @@ kept-alike columns rows keys copies e kept = record {
 }
 
 -- a table with columns, keys and rows that stand for the same
-module _ (t copy : Table) (places : List (Option Value)) (columns : copy.columns.items ≡ t.columns.items) (keys : map key_row_view (rows_of copy.keys) ≡ map key_row_view (rows_of t.keys)) (same : places ≡ t.rows.items) (rows : views_of copy.rows.items ≡ views_of places) where
-  pub parts-copied : table_parts copy ≡ table_parts t
-  parts-copied = ap₂ (λ ps os. parts_from (rows_at ps os)) (places-alike (rows_of t.keys) (rows_of copy.keys) keys) (rows ∙ ap views_of same)
+module _ (t copy : Table) (places : List (Option Value)) (columns : copy.columns.items ≡ t.columns.items) (keys : map key_row_view (rows_of copy.keys) ≡ map key_row_view (rows_of t.keys)) (same : places ≡ t.rows.items) (rows : keyed_of copy.rows.items ≡ keyed_of places) where
+  pub parts-copied : keyed_parts copy ≡ keyed_parts t
+  parts-copied = ap₂ (λ ps os. parts_from (rows_at ps os)) (places-alike (rows_of t.keys) (rows_of copy.keys) keys) (rows ∙ ap keyed_of same)
 
   pub table-kept : AllWhole copy.rows.items → IsWholeTable t → IsWholeTable copy
   table-kept whole h = record {
-    kept = subst (λ os. AreKept copy.columns.items (rows_of copy.keys) os) (sym (rows ∙ ap views_of same)) (subst (λ cs. AreKept cs (rows_of copy.keys) (views_of t.rows.items)) (sym columns) (kept-alike t.columns.items (views_of t.rows.items) (rows_of t.keys) (rows_of copy.keys) keys h.kept));
+    kept = subst (λ os. AreKept copy.columns.items (rows_of copy.keys) os) (sym (equal-places places copy.rows.items rows ∙ ap views_of same)) (subst (λ cs. AreKept cs (rows_of copy.keys) (views_of t.rows.items)) (sym columns) (kept-alike t.columns.items (views_of t.rows.items) (rows_of t.keys) (rows_of copy.keys) keys h.kept));
     whole = whole;
   }
 

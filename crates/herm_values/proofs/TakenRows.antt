@@ -75,7 +75,7 @@ module _ (columns : List ℕ) (rows changed : List (Option model.Value)) (key : 
   p = is_keyed key
 
   -- rows at other places stay
-  stay : (ks : List KeyRow) → (IsIn r.place (places_of ks) → ⊥) → AllByRecursion (HasRow columns rows) ks → AllByRecursion (HasRow columns changed) ks
+  pub stay : (ks : List KeyRow) → (IsIn r.place (places_of ks) → ⊥) → AllByRecursion (HasRow columns rows) ks → AllByRecursion (HasRow columns changed) ks
   stay [] apart h = h
   stay (k ∷ ks) apart h = (moved columns rows changed r.place same k (λ e. apart (inl (sym e))) h.0, stay ks (λ x. apart (inr x)) h.1)
 
@@ -87,7 +87,7 @@ module _ (columns : List ℕ) (rows changed : List (Option model.Value)) (key : 
   found-left _ _ (first _ ks t) d h = stay ks d.0 h.1
   found-left _ _ (later k ks _ left t rest) d h = (moved columns rows changed r.place same k (before-apart k ks left rest d.0) h.0, found-left ks left rest d.1 h.1)
 
-  place-is : (i : ℕ) → (i ≡ r.place) ⊎ (i ≡ r.place → ⊥)
+  pub place-is : (i : ℕ) → (i ≡ r.place) ⊎ (i ≡ r.place → ⊥)
   place-is i = elim (nat_eq i r.place) as (λ b. nat_eq i r.place ≡ b → (i ≡ r.place) ⊎ (i ≡ r.place → ⊥)) [ true ↦ λ t. inl (eqb-true i r.place t) | false ↦ λ f. inr (λ e. true≢false (sym (eq-eqb i r.place e) ∙ f)) ] refl
 
   pub kept-left : (ks left : List KeyRow) → IsTaken p ks r left → get_or changed r.place None ≡ None → AreKept columns ks rows → AreKept columns left changed

@@ -1,5 +1,7 @@
 pub mod Copies
+pub mod Keyed
 pub mod Keys
+pub mod Meets
 pub mod Parts
 pub mod View
 pub mod Whole

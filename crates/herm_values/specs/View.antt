@@ -1,6 +1,8 @@
 -- How contracts see values: as trees of cells without names.
-use Rattle.std.specs.Prelude.{ℕ, List, [], ◌∷◌, map, option_map, Option, Some, None, ⊤}
+use Rattle.std.specs.Prelude.{ℕ, List, [], ◌∷◌, map, option_map, Option, Some, None, ⊤, drop, length}
+use Rattle.herm_links.specs.declared.links.NodeNo.{NodeNo}
 use Rattle.herm_rows.specs.Keys.{rows_of}
+use Rattle.herm_rows.specs.Nodes.{place_at}
 use Rattle.herm_model.specs.Values as model
 use Rattle.herm_model.specs.Values.{cell, no_parts, part}
 use Rattle.herm_values.specs.Parts.{parts_from, rows_at}
@@ -64,3 +66,11 @@ row_views t = rows_at (places_of (rows_of t.keys)) (views_of t.rows.items)
 -- the parts that a table has
 abbrev pub table_parts : Table → model.Parts ⊤
 table_parts t = parts_from (row_views t)
+
+-- the rows of a table from a node on, and no rows from none on
+unfoldable pub rows_from : Table → Option NodeNo → List (Option model.Value)
+rows_from t node = drop (place_at t.keys node) (row_views t)
+
+-- how many places for rows the table keeps in memory, with a row or empty
+abbrev pub places_in : Table → ℕ
+places_in t = length t.rows.items

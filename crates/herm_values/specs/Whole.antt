@@ -1,5 +1,5 @@
 -- Values whose depths and tables are right.
-use Rattle.std.specs.Prelude.{◌≡◌, ◌≤◌, ℕ, suc, List, Option, Some, None, get_or, IfSome}
+use Rattle.std.specs.Prelude.{◌≡◌, ◌≤◌, ◌↔◌, ◌⊎◌, ℕ, suc, List, Option, Some, None, get_or, IfSome}
 use Rattle.std.specs.List.{All, AllByRecursion}
 use Rattle.herm_rows.specs.Keys.{rows_of}
 use Rattle.herm_model.specs.Values as model
@@ -58,3 +58,19 @@ AllWhole vs = All (λ o. IfSome o IsWhole) vs
 pub record IsWholeTable (t : Table) : Type 0 where
   pub kept : AreKept t.columns.items (rows_of t.keys) (views_of t.rows.items)
   pub whole : AllWhole t.rows.items
+
+-- the value itself is a row of the table, with all that no view tells
+abbrev pub IsRowOf : Table → Value → Type 0
+IsRowOf t v = (i : ℕ) × (get_or t.rows.items i None ≡ Some v)
+
+-- the rows that the table has are those that it had, and this one
+abbrev pub HasOneMore : Table → Table → Value → Type 0
+HasOneMore old new row = (v : Value) → IsRowOf new v ↔ (IsRowOf old v ⊎ (v ≡ row))
+
+-- the rows that the table has are those that it had, but for this one, where there is one
+abbrev pub HasAllBut : Table → Table → Option Value → Type 0
+HasAllBut old new lost = (v : Value) → (IsRowOf new v → IsRowOf old v) × (IsRowOf old v → IsRowOf new v ⊎ (lost ≡ Some v))
+
+-- the table has the rows that it had
+abbrev pub HasTheSame : Table → Table → Type 0
+HasTheSame old new = (v : Value) → IsRowOf new v ↔ IsRowOf old v

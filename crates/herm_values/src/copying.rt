@@ -1,7 +1,8 @@
 //! Copies of values.
 ghost use Rattle.std.specs.Prelude.{◌≡◌, ◌++◌, ◌∷◌, [], map, IfOk, OnOk};
 ghost use Rattle.herm_rows.specs.Keys.{rows_of};
-ghost use Rattle.herm_values.specs.View.{value_view, key_view, table_parts, views_of};
+ghost use Rattle.herm_values.specs.View.{value_view, key_view};
+ghost use Rattle.herm_values.specs.Keyed.{keyed_view, keyed_parts, keyed_of};
 ghost use Rattle.herm_values.specs.Copies.{key_row_view};
 ghost use Rattle.herm_values.specs.Whole.{IsWhole, AllWhole, IsWholeTable};
 
@@ -47,6 +48,14 @@ fn copy_row(alloc: Global, row: &KeyRow) -> Result<KeyRow, AllocError>
     Ok(KeyRow { key, place })
 }
 
+/// The same fields.
+fn copy_columns(alloc: Global, columns: &[u32]) -> Result<Vec<u32>, AllocError>
+    ensures { IfOk result (λ copy. copy.items ≡ columns.now) }
+{
+    let copy = Vec::from_slice(alloc, columns)?;
+    Ok(copy)
+}
+
 /// Puts a key behind the others. Keys of one table differ and are few, so that memory alone can be wanting.
 fn add_key(keys: &mut Rows<KeyRow>, row: KeyRow) -> Result<(), AllocError>
     ensures { OnOk result (rows_of keys.new ≡ rows_of keys.old ++ row ∷ []) }
@@ -62,19 +71,33 @@ fn copy_keys(alloc: Global, keys: &Rows<KeyRow>) -> Result<Rows<KeyRow>, AllocEr
     ensures { IfOk result (λ ks. map key_row_view (rows_of ks) ≡ map key_row_view (rows_of keys.now)) }
 {
     let mut copies = Rows::new(alloc);
-    'keys: for n in 0..keys.len() {
-        let row = copy_row(alloc, keys.at(n))?;
+    let mut next = keys.first();
+    'keys: while let Some(node) = next {
+        let row = copy_row(alloc, keys.row(node))?;
         add_key(&mut copies, row)?;
+        next = keys.after(node);
     }
     Ok(copies)
 }
 
-/// An equal value. What copies is the caller's business: inports, callmessages and polymorphs are moved in programs, and
-/// never copied.
-#[cycle(copying)]
+/// An equal value, whose tables have the same fields as their keys. What copies is the caller's business: inports,
+/// callmessages and polymorphs are moved in programs, and never copied.
 pub fn copy_of(alloc: Global, v: &Value) -> Result<Value, AllocError>
     requires whole { IsWhole v.now }
     ensures equal { IfOk result (λ copy. value_view copy ≡ value_view v.now) }
+    ensures keyed { IfOk result (λ copy. keyed_view copy ≡ keyed_view v.now) }
+    ensures whole { IfOk result IsWhole }
+{
+    let copy = copy_value(alloc, v)?;
+    Ok(copy)
+}
+
+/// An equal value, whose tables have the same fields as their keys.
+#[cycle(copying)]
+fn copy_value(alloc: Global, v: &Value) -> Result<Value, AllocError>
+    requires whole { IsWhole v.now }
+    ensures equal { IfOk result (λ copy. value_view copy ≡ value_view v.now) }
+    ensures keyed { IfOk result (λ copy. keyed_view copy ≡ keyed_view v.now) }
     ensures whole { IfOk result IsWhole }
 {
     match v {
@@ -90,7 +113,7 @@ pub fn copy_of(alloc: Global, v: &Value) -> Result<Value, AllocError>
             Ok(Value::Fields(copies))
         }
         Value::Case(component, content) => {
-            let inner = copy_of(alloc, content)?;
+            let inner = copy_value(alloc, content)?;
             let content = Box::new(alloc, inner)?;
             Ok(Value::Case(*component, content))
         }
@@ -100,7 +123,7 @@ pub fn copy_of(alloc: Global, v: &Value) -> Result<Value, AllocError>
             Ok(Value::Table(boxed))
         }
         Value::Poly(poly) => {
-            let copy = copy_of(alloc, poly.content())?;
+            let copy = copy_value(alloc, poly.content())?;
             match Poly::new(alloc, poly.tag(), poly.depth(), copy) {
                 Ok(poly) => Ok(Value::Poly(poly)),
                 Err(_) => Err(AllocError),
@@ -119,7 +142,7 @@ pub fn copy_of(alloc: Global, v: &Value) -> Result<Value, AllocError>
 #[cycle(copying)]
 fn copy_places(alloc: Global, places: &[Option<Value>]) -> Result<Vec<Option<Value>>, AllocError>
     requires whole { AllWhole places.now }
-    ensures equal { IfOk result (λ copies. views_of copies.items ≡ views_of places.now) }
+    ensures keyed { IfOk result (λ copies. keyed_of copies.items ≡ keyed_of places.now) }
     ensures whole { IfOk result (λ copies. AllWhole copies.items) }
 {
     let mut copies = Vec::with_capacity(alloc, places.len())?;
@@ -128,7 +151,7 @@ fn copy_places(alloc: Global, places: &[Option<Value>]) -> Result<Vec<Option<Val
             copies.push(None)?;
             continue;
         };
-        let copy = copy_of(alloc, v)?;
+        let copy = copy_value(alloc, v)?;
         copies.push(Some(copy))?;
     }
     Ok(copies)
@@ -138,10 +161,11 @@ fn copy_places(alloc: Global, places: &[Option<Value>]) -> Result<Vec<Option<Val
 #[cycle(copying)]
 fn copy_table(alloc: Global, table: &Table) -> Result<Table, AllocError>
     requires whole { IsWholeTable table.now }
-    ensures equal { IfOk result (λ copy. table_parts copy ≡ table_parts table.now) }
+    ensures columns { IfOk result (λ copy. copy.columns.items ≡ table.now.columns.items) }
+    ensures keyed { IfOk result (λ copy. keyed_parts copy ≡ keyed_parts table.now) }
     ensures whole { IfOk result IsWholeTable }
 {
-    let columns = Vec::from_slice(alloc, table.columns.as_slice())?;
+    let columns = copy_columns(alloc, table.columns.as_slice())?;
     let keys = copy_keys(alloc, &table.keys)?;
     let rows = copy_places(alloc, table.rows.as_slice())?;
     Ok(Table {

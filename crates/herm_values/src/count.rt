@@ -1,5 +1,7 @@
 //! How many cells values have.
-ghost use Rattle.std.specs.Prelude.{◌≡◌, ◌+◌, ◌^◌, min};
+ghost use Rattle.std.specs.Prelude.{◌≡◌, ◌+◌, ◌^◌, min, length};
+ghost use Rattle.herm_model.specs.Values as model;
+ghost use Rattle.herm_model.specs.Finalising.{finalised, pending};
 ghost use Rattle.herm_model.specs.CellNames.{count, count_in};
 ghost use Rattle.herm_values.specs.Parts.{parts_from};
 ghost use Rattle.herm_values.specs.View.{value_view, table_parts, views_of};
@@ -52,15 +54,25 @@ fn cells_in(places: &[Option<Value>]) -> u64
 }
 
 /// How many cells the rows of a table have.
+#[tactic(auto, using(crate::proofs::Walked::walk))]
 #[cycle(cells)]
 fn cells_of_rows(table: &Table) -> u64
     ensures { result ≡ min (count_in (table_parts table.now)) (2 ^ 63) }
 {
     let mut total = 0;
-    'rows: for n in 0..table.len() {
-        if let Some(row) = table.row_at(n) {
+    let mut next = table.first();
+    'rows: while let Some(node) = next {
+        next = table.after(node);
+        if let Some(row) = table.row(node) {
             total = sum(total, cells(row));
         }
     }
     total
 }
+
+/// A law: each cell of a value waits, or is finalised at once where the value is. So what `cells` and `pending` tell of a
+/// value gives how many are.
+#[tactic(auto, using(crate::proofs::Counted::apart))]
+pub fn cells_wait_or_end()
+    ensures counted { (v : model.Value) → length (finalised v) + length (pending v) ≡ count v }
+{}

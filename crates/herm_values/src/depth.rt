@@ -1,5 +1,5 @@
 //! How deep polymorphs nest in values.
-ghost use Rattle.std.specs.Prelude.{◌≡◌, max};
+ghost use Rattle.std.specs.Prelude.{◌≡◌, ◌≤◌, max};
 ghost use Rattle.herm_model.specs.Values.{polymorph_depth, depth_in};
 ghost use Rattle.herm_values.specs.Parts.{parts_from};
 ghost use Rattle.herm_values.specs.View.{value_view, table_parts, views_of};
@@ -7,10 +7,20 @@ ghost use Rattle.herm_values.specs.Whole.{IsWhole, AllWhole, IsWholeTable};
 
 use crate::value::{Table, Value};
 
+/// How deep polymorphs nest in the value: from 0 to 16.
+pub fn poly_depth(v: &Value) -> u32
+    requires whole { IsWhole v.now }
+    ensures depth { result ≡ polymorph_depth (value_view v.now) }
+    ensures few { result ≤ 16 }
+{
+    let depth = depth_of(v);
+    depth
+}
+
 /// How deep polymorphs nest in the value. What a polymorph has told once is not looked at again.
 #[tactic(auto, using(crate::proofs::Seen::layers))]
 #[cycle(depths)]
-pub fn poly_depth(v: &Value) -> u32
+fn depth_of(v: &Value) -> u32
     requires whole { IsWhole v.now }
     ensures depth { result ≡ polymorph_depth (value_view v.now) }
 {
@@ -20,7 +30,7 @@ pub fn poly_depth(v: &Value) -> u32
         Value::Text(_) => 0,
         Value::Tag(_) => 0,
         Value::Fields(fields) => greatest_depth(fields.as_slice()),
-        Value::Case(_, component) => poly_depth(component),
+        Value::Case(_, component) => depth_of(component),
         Value::Table(table) => greatest_row_depth(table),
         Value::Poly(poly) => poly.depth(),
         Value::Call(call) => greatest_depth(call.params()),
@@ -39,23 +49,25 @@ fn greatest_depth(places: &[Option<Value>]) -> u32
     let mut depth = 0;
     'places: for held in places {
         if let Some(v) = held {
-            depth = poly_depth(v).max(depth);
+            depth = depth_of(v).max(depth);
         }
     }
     depth
 }
 
 /// The greatest depth in the rows of a table.
-#[tactic(auto, using(crate::proofs::Seen::layers))]
+#[tactic(auto, using(crate::proofs::Walked::walk))]
 #[cycle(depths)]
 fn greatest_row_depth(table: &Table) -> u32
     requires whole { IsWholeTable table.now }
     ensures depth { result ≡ depth_in (table_parts table.now) }
 {
     let mut depth = 0;
-    'rows: for n in 0..table.len() {
-        if let Some(row) = table.row_at(n) {
-            depth = poly_depth(row).max(depth);
+    let mut next = table.first();
+    'rows: while let Some(node) = next {
+        next = table.after(node);
+        if let Some(row) = table.row(node) {
+            depth = depth_of(row).max(depth);
         }
     }
     depth

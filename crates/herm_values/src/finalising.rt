@@ -45,14 +45,16 @@ fn pending_in(places: &[Option<Value>]) -> usize
 }
 
 /// How many the rows of a table have.
-#[tactic(auto, using(crate::proofs::Seen::layers))]
+#[tactic(auto, using(crate::proofs::Walked::walk))]
 #[cycle(pending)]
 fn pending_in_rows(table: &Table) -> usize
     ensures { result ≡ min (length (pending_in (table_parts table.now))) usize.MAX }
 {
     let mut total: usize = 0;
-    'rows: for n in 0..table.len() {
-        if let Some(row) = table.row_at(n) {
+    let mut next = table.first();
+    'rows: while let Some(node) = next {
+        next = table.after(node);
+        if let Some(row) = table.row(node) {
             total = total.saturating_add(pending(row));
         }
     }
@@ -111,15 +113,17 @@ fn put_places(places: &[Option<Value>], work: &mut Work)
 }
 
 /// Puts what waits in the rows of a table on the work list.
-#[tactic(auto, using(crate::proofs::Seen::layers))]
+#[tactic(auto, using(crate::proofs::Walked::walk))]
 #[cycle(finalising)]
 fn put_rows(table: &Table, work: &mut Work)
     requires room { length (pending_in (table_parts table.now)) ≤ spare work.old }
     ensures waiting { waiting work.new ≡ waiting work.old ++ pending_in (table_parts table.now) }
     ensures spare { spare work.new + length (pending_in (table_parts table.now)) ≡ spare work.old }
 {
-    'rows: for n in 0..table.len() {
-        if let Some(row) = table.row_at(n) {
+    let mut next = table.first();
+    'rows: while let Some(node) = next {
+        next = table.after(node);
+        if let Some(row) = table.row(node) {
             put_pending(row, work);
         }
     }

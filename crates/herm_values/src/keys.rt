@@ -13,6 +13,7 @@ use std::alloc::{AllocError, Global};
 /// What stands at a place, if there is something.
 pub fn held_at(places: &[Option<Value>], place: u32) -> Option<&Value>
     ensures held { option_map (λ v. value_view v.now) result ≡ get_or (views_of places.now) place None }
+    ensures itself { option_map (λ v. v.now) result ≡ get_or places.now place None }
     ensures whole { AllWhole places.now → IfSome result (λ v. IsWhole v.now) }
 {
     match places.get(place as usize) {
@@ -23,7 +24,7 @@ pub fn held_at(places: &[Option<Value>], place: u32) -> Option<&Value>
 
 /// What a row has at a field.
 #[tactic(auto, using(crate::proofs::Seen::layers))]
-fn field_at(row: &Value, column: u32) -> Option<&Value>
+pub fn field_at(row: &Value, column: u32) -> Option<&Value>
     ensures { option_map (λ v. value_view v.now) result ≡ part_at column (inside (Some (value_view row.now))) }
 {
     match row {

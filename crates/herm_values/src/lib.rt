@@ -4,6 +4,7 @@
 mod copying;
 mod count;
 mod depth;
+mod facts;
 mod finalising;
 mod keys;
 mod places;
@@ -13,8 +14,9 @@ mod value;
 mod work;
 
 pub use copying::copy_of;
-pub use count::cells;
+pub use count::{cells, cells_wait_or_end};
 pub use depth::poly_depth;
+pub use facts::meets;
 pub use finalising::{finalise, pending};
 pub use scalar::{KeyRow, Scalar};
 pub use value::{Table, Value};

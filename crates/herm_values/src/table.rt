@@ -1,12 +1,13 @@
 //! Tables: rows with different keys, in the order of their insertion.
-ghost use Rattle.std.specs.Prelude.{◌≡◌, ◌≤◌, ◌<◌, [], length, Some, None, IfSome, IfErr, OnOk, OnErr, get_or, option_map, nat_le};
+ghost use Rattle.std.specs.Prelude.{◌≡◌, ◌≤◌, ◌<◌, ◌+◌, max, [], true, length, Some, None, IfSome, IfErr, OnOk, OnErr, drop, get_or, option_map, nat_le, slice_get};
 ghost use Rattle.herm_rows.specs.Keys.{most_rows};
 ghost use Rattle.herm_rows.specs.Faults.{refused_row};
+ghost use Rattle.herm_rows.specs.Nodes.{HasNode};
 ghost use Rattle.herm_model.specs.Values.{part, no_parts, part_at, joined, size};
-ghost use Rattle.herm_model.specs.Tables.{key_of, has_key};
+ghost use Rattle.herm_model.specs.Tables.{key_of, has_key, has_distinct_keys};
 ghost use Rattle.herm_values.specs.Keys.{row_with, without_key, Answers};
-ghost use Rattle.herm_values.specs.View.{value_view, key_view, row_views, table_parts, views_of};
-ghost use Rattle.herm_values.specs.Whole.{IsWhole, IsWholeTable};
+ghost use Rattle.herm_values.specs.View.{value_view, key_view, row_views, rows_from, table_parts, views_of, places_in};
+ghost use Rattle.herm_values.specs.Whole.{IsWhole, IsWholeTable, IsRowOf, HasOneMore, HasTheSame, HasAllBut};
 ghost use Rattle.herm_values.specs.declared.value.Value.{size-Value};
 ghost use Rattle.herm_values.specs.declared.value.Table.{size-Table};
 
@@ -14,6 +15,7 @@ use crate::keys::{held_at, key_of};
 use crate::places::{exchange, make_place, put_row};
 use crate::scalar::{KeyRow, Scalar};
 use crate::value::{Table, Value};
+use herm_links::NodeNo;
 use herm_rows::{InsertFault, Rows};
 use std::alloc::Global;
 
@@ -31,17 +33,53 @@ impl Table {
         }
     }
 
-    /// The number of rows.
+    /// The number of rows. Those of a whole table have different keys.
     pub fn len(&self) -> usize
         ensures number { result ≡ length (row_views self.now) }
+        ensures few { length (row_views self.now) ≤ most_rows }
+        ensures different { IsWholeTable self.now → has_distinct_keys self.now.columns.items (table_parts self.now) ≡ true }
     {
         self.keys.len()
     }
 
-    /// The row at a place in the order of insertion. A whole table has one at each.
+    /// The node of the first row.
+    pub fn first(&self) -> Option<NodeNo>
+        ensures rows { rows_from self.now result ≡ row_views self.now }
+        ensures stands { IfSome result (λ node. HasNode self.now.keys node.0) }
+    {
+        self.keys.first()
+    }
+
+    /// The node of the row behind this one's.
+    pub fn after(&self, node: NodeNo) -> Option<NodeNo>
+        requires stands { HasNode self.now.keys node.0 }
+        ensures rows { rows_from self.now result ≡ drop 1 (rows_from self.now (Some node)) }
+        ensures stands { IfSome result (λ node. HasNode self.now.keys node.0) }
+    {
+        self.keys.after(node)
+    }
+
+    /// The row of a node. A whole table has one at each.
+    pub fn row(&self, node: NodeNo) -> Option<&Value>
+        requires stands { HasNode self.now.keys node.0 }
+        ensures row { slice_get (rows_from self.now (Some node)) 0 ≡ Some (option_map (λ v. value_view v.now) result) }
+        ensures row_itself { IfSome result (λ v. IsRowOf self.now v.now) }
+        ensures whole { IsWholeTable self.now → IfSome result (λ v. IsWhole v.now) }
+        ensures smaller { IfSome result (λ v. size-Value v.now < size-Table self.now) }
+    {
+        let place = self.keys.row(node).place;
+        match self.rows.get(place as usize) {
+            Some(row) => row.as_ref(),
+            None => None,
+        }
+    }
+
+    /// The row at a place in the order of insertion. A whole table has one at each. It goes from row to row: who reads all
+    /// rows goes by `first` and `after`.
     pub fn row_at(&self, n: usize) -> Option<&Value>
         requires place { n < length (row_views self.now) }
         ensures row { option_map (λ v. value_view v.now) result ≡ get_or (row_views self.now) n None }
+        ensures row_itself { IfSome result (λ v. IsRowOf self.now v.now) }
         ensures whole { IsWholeTable self.now → IfSome result (λ v. IsWhole v.now) }
         ensures smaller { IfSome result (λ v. size-Value v.now < size-Table self.now) }
     {
@@ -64,6 +102,7 @@ impl Table {
         requires place { n < length (row_views self.now) }
         requires whole { IsWholeTable self.now }
         ensures row { part_at n (table_parts self.now) ≡ Some (value_view result.now) }
+        ensures row_itself { IsRowOf self.now result.now }
         ensures row_whole { IsWhole result.now }
     {
         self.row_at(n).unwrap()
@@ -73,13 +112,15 @@ impl Table {
     pub fn find(&self, key: &Vec<Scalar>) -> Option<&Value>
         requires whole { IsWholeTable self.now }
         ensures row { option_map (λ v. value_view v.now) result ≡ row_with self.now.columns.items (key_view key.now.items) (table_parts self.now) }
+        ensures row_itself { IfSome result (λ v. IsRowOf self.now v.now) }
         ensures row_whole { IfSome result (λ v. IsWhole v.now) }
     {
         let found = self.keys.find(key)?;
         held_at(self.rows.as_slice(), found.place)
     }
 
-    /// Puts a row behind the others.
+    /// Puts a row behind the others. The place of a removed row is used again, so a table keeps at most one place more
+    /// than its greatest number of rows.
     pub fn insert(&mut self, row: Value) -> Result<(), InsertFault<Value>>
         requires whole { IsWholeTable self.old }
         requires row { IsWhole row }
@@ -88,6 +129,9 @@ impl Table {
         ensures unchanged { OnErr result (table_parts self.new ≡ table_parts self.old) }
         ensures handed_back { IfErr result (λ fault. refused_row fault ≡ row) }
         ensures columns { self.new.columns ≡ self.old.columns }
+        ensures row_itself { OnOk result (HasOneMore self.old self.new row) }
+        ensures rows_themselves { OnErr result (HasTheSame self.old self.new) }
+        ensures places { places_in self.new ≤ max (places_in self.old) (length (row_views self.old) + 1) }
         ensures whole { IsWholeTable self.new }
     {
         let key = match key_of(*self.columns.allocator(), self.columns.as_slice(), &row) {
@@ -115,6 +159,9 @@ impl Table {
         ensures row { option_map value_view result ≡ row_with self.old.columns.items (key_view key.now.items) (table_parts self.old) }
         ensures others { table_parts self.new ≡ without_key self.old.columns.items (key_view key.now.items) (table_parts self.old) }
         ensures columns { self.new.columns ≡ self.old.columns }
+        ensures row_itself { IfSome result (λ v. IsRowOf self.old v) }
+        ensures rows_themselves { HasAllBut self.old self.new result }
+        ensures places { places_in self.new ≡ places_in self.old }
         ensures whole { IsWholeTable self.new }
         ensures row_whole { IfSome result IsWhole }
     {

@@ -1,11 +1,12 @@
-//! Values by hand: counts, finalising and copies, and a table.
-ghost use Rattle.std.specs.Prelude.{IfOk};
+//! Values by hand: counts, finalising and copies, tables, and facts.
+ghost use Rattle.std.specs.Prelude.{IfOk, IfSome};
 ghost use Rattle.herm_values.specs.Whole.{IsWhole, IsWholeTable};
 
 use super::*;
-use herm_base::{PortNo, ProcNo, TypeNo};
-use herm_parcels::{CallMsg, Poly};
+use herm_base::{PortNo, ProcNo, TypeNo, VarNo};
+use herm_parcels::{CallMsg, Poly, PolyFault};
 use herm_rows::InsertFault;
+use herm_types::{Fact, Path};
 use std::alloc::{AllocError, Global};
 use std::test::Fail;
 
@@ -104,18 +105,31 @@ fn row(alloc: Global, n: i64) -> Result<Value, AllocError>
     Ok(Value::Fields(fields))
 }
 
-/// Whether a row with this number is inserted, and no duplicate.
-fn is_put(alloc: Global, table: &mut Table, n: i64) -> Result<bool, AllocError>
+/// Says in a letter what an insertion of a row with this number answers: inserted, duplicate or full.
+fn put(alloc: Global, table: &mut Table, n: i64) -> Result<u8, AllocError>
     requires { IsWholeTable table.old }
     ensures { IsWholeTable table.new }
 {
     let row = row(alloc, n)?;
     match table.insert(row) {
-        Ok(()) => Ok(true),
-        Err(InsertFault::Duplicate(_)) => Ok(false),
-        Err(InsertFault::Full(_)) => Err(AllocError),
+        Ok(()) => Ok(b'i'),
+        Err(InsertFault::Duplicate(_)) => Ok(b'd'),
+        Err(InsertFault::Full(_)) => Ok(b'f'),
         Err(InsertFault::Memory(_)) => Err(AllocError),
     }
+}
+
+/// Whether rows with the numbers from 0 on are inserted, so many.
+fn are_put(alloc: Global, table: &mut Table, count: i64) -> Result<bool, AllocError>
+    requires { IsWholeTable table.old }
+    ensures { IsWholeTable table.new }
+{
+    'rows: for n in 0..count {
+        if put(alloc, table, n)? != b'i' {
+            return Ok(false);
+        }
+    }
+    Ok(true)
 }
 
 /// Whether there was a row with this number, which is removed.
@@ -150,20 +164,154 @@ fn is_number(row: &Value, n: i64) -> bool {
     }
 }
 
+/// A table whose key is the first field.
+fn empty_table(alloc: Global) -> Result<Table, AllocError>
+    ensures { IfOk result IsWholeTable }
+{
+    let mut columns = Vec::new(alloc);
+    columns.push(0)?;
+    Ok(Table::new(alloc, columns))
+}
+
 #[test]
 fn rows_keep_the_order_of_their_insertion(rt: HostRuntime) -> Result<(), Fail> {
-    let mut columns = Vec::new(rt.alloc());
-    columns.push(0)?;
-    let mut table = Table::new(rt.alloc(), columns);
-    assert!(rt; is_put(rt.alloc(), &mut table, 1)?);
-    assert!(rt; is_put(rt.alloc(), &mut table, 2)?);
-    assert!(rt; is_put(rt.alloc(), &mut table, 3)?);
+    let mut table = empty_table(rt.alloc())?;
+    assert!(rt; put(rt.alloc(), &mut table, 1)? == b'i');
+    assert!(rt; put(rt.alloc(), &mut table, 2)? == b'i');
+    assert!(rt; put(rt.alloc(), &mut table, 3)? == b'i');
     assert!(rt; is_taken(rt.alloc(), &mut table, 2)?);
-    assert!(rt; is_put(rt.alloc(), &mut table, 2)?);
-    assert!(rt; !is_put(rt.alloc(), &mut table, 3)?);
+    assert!(rt; put(rt.alloc(), &mut table, 2)? == b'i');
+    assert!(rt; put(rt.alloc(), &mut table, 3)? == b'd');
     assert!(rt; is_at(&table, 0, 1));
     assert!(rt; is_at(&table, 1, 3));
     assert!(rt; is_at(&table, 2, 2));
-    assert!(rt; table.len() == 3);
+    assert!(rt; table.len() == 3 && table.rows.len() <= 4);
+    Ok(())
+}
+
+#[test]
+fn one_row_too_many_is_refused_behind_a_duplicate(rt: HostRuntime) -> Result<(), Fail> {
+    let mut table = empty_table(rt.alloc())?;
+    assert!(rt; are_put(rt.alloc(), &mut table, 4096)?);
+    assert!(rt; put(rt.alloc(), &mut table, 4096)? == b'f');
+    assert!(rt; put(rt.alloc(), &mut table, 17)? == b'd');
+    assert!(rt; is_taken(rt.alloc(), &mut table, 17)?);
+    assert!(rt; put(rt.alloc(), &mut table, 4096)? == b'i');
+    assert!(rt; table.len() == 4096 && table.rows.len() <= 4097);
+    Ok(())
+}
+
+/// The value in a polymorph, or nothing where it would be too deep.
+fn wrapped(alloc: Global, v: Value) -> Result<Option<Value>, AllocError>
+    requires { IsWhole v }
+    ensures { IfOk result (λ outer. IfSome outer IsWhole) }
+{
+    let depth = poly_depth(&v);
+    if depth > 16 {
+        return Err(AllocError);
+    }
+    match Poly::new(alloc, TypeNo(3), depth + 1, v) {
+        Ok(poly) => Ok(Some(Value::Poly(poly))),
+        Err(PolyFault::Deep(_)) => Ok(None),
+        Err(PolyFault::Memory(_)) => Err(AllocError),
+    }
+}
+
+/// A number in so many polymorphs, or nothing where they would be too deep.
+fn nested(alloc: Global, count: u32) -> Result<Option<Value>, AllocError>
+    ensures { IfOk result (λ outer. IfSome outer IsWhole) }
+{
+    let mut v = Value::Int(7);
+    'polymorphs: for _ in 0..count {
+        match wrapped(alloc, v)? {
+            Some(outer) => v = outer,
+            None => return Ok(None),
+        }
+    }
+    Ok(Some(v))
+}
+
+#[test]
+fn polymorphs_nest_sixteen_deep(rt: HostRuntime) -> Result<(), Fail> {
+    assert!(rt; nested(rt.alloc(), 17)?.is_none());
+    let deepest = nested(rt.alloc(), 16)?;
+    let Some(v) = deepest else {
+        assert!(rt; false);
+        return Ok(());
+    };
+    assert!(rt; poly_depth(&v) == 16 && counts(&v, 17, 0));
+    let copy = copy_of(rt.alloc(), &v)?;
+    assert!(rt; poly_depth(&copy) == 16 && counts(&copy, 17, 0));
+    Ok(())
+}
+
+/// The path of these numbers, the first of which is the variable.
+fn path(alloc: Global, numbers: &[u32]) -> Result<Path, AllocError> {
+    match numbers.split_first() {
+        Some((var, parts)) => Ok(Path {
+            var: VarNo(*var),
+            parts: Vec::from_slice(alloc, parts)?,
+        }),
+        None => Err(AllocError),
+    }
+}
+
+/// The facts of a text: paths of letters, `a` for 0, each with a blank behind it for an init, or the figure of the component.
+fn facts(alloc: Global, text: &str) -> Result<Vec<Fact>, AllocError> {
+    let mut facts = Vec::new(alloc);
+    let mut numbers: Vec<u32> = Vec::new(alloc);
+    'letters: for byte in text.as_bytes() {
+        match *byte {
+            b' ' => facts.push(Fact::Init(path(alloc, numbers.as_slice())?))?,
+            figure @ b'0'..=b'9' => facts.push(Fact::Case(
+                path(alloc, numbers.as_slice())?,
+                (figure - b'0') as u32,
+            ))?,
+            letter => {
+                numbers.push(letter.saturating_sub(b'a') as u32)?;
+                continue;
+            }
+        }
+        numbers = Vec::new(alloc);
+    }
+    Ok(facts)
+}
+
+/// Whether the value has exactly the facts of this text.
+fn has_just(alloc: Global, v: &Value, text: &str) -> Result<bool, AllocError> {
+    let facts = facts(alloc, text)?;
+    Ok(meets(v, facts.as_slice()))
+}
+
+/// A record of a number, nothing, a callmessage with port 4 and nothing, and a variant in a variant.
+fn record_with_variant(alloc: Global) -> Result<Value, AllocError> {
+    let call = message(alloc)?;
+    let inner = Value::Case(1, Box::new(alloc, Value::Bool(true))?);
+    let outer = Value::Case(2, Box::new(alloc, inner)?);
+    let mut fields = Vec::new(alloc);
+    fields.push(Some(Value::Int(3)))?;
+    fields.push(None)?;
+    fields.push(Some(call))?;
+    fields.push(Some(outer))?;
+    Ok(Value::Fields(fields))
+}
+
+#[test]
+fn a_value_meets_exactly_what_it_has(rt: HostRuntime) -> Result<(), Fail> {
+    let alloc = rt.alloc();
+    let v = record_with_variant(alloc)?;
+    assert!(rt; has_just(alloc, &v, "a aa ac aca ad ")?);
+    assert!(rt; has_just(alloc, &v, "ad adc1a aca ac aa ad2")?);
+    assert!(rt; !has_just(alloc, &v, "a aa ac ad ")?);
+    assert!(rt; !has_just(alloc, &v, "a aa aca ad ")?);
+    assert!(rt; !has_just(alloc, &v, "aa ac aca ad ")?);
+    assert!(rt; !has_just(alloc, &v, "a aa ab ac aca ad ")?);
+    assert!(rt; !has_just(alloc, &v, "a aa ac aca ad adc ")?);
+    assert!(rt; !has_just(alloc, &v, "a aa ac aca ad b ")?);
+    assert!(rt; !has_just(alloc, &v, "a aa ac aca ad ad1")?);
+    assert!(rt; !has_just(alloc, &v, "a aa ac aca ad adb1")?);
+    assert!(rt; !has_just(alloc, &v, "a aa ac aca ad aa0")?);
+    assert!(rt; !has_just(alloc, &v, "")?);
+    assert!(rt; has_just(alloc, &Value::Int(0), "a ")?);
     Ok(())
 }

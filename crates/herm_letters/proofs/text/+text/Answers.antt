@@ -3,6 +3,8 @@ use Rattle.herm_model.specs.Values.{a_callmessage}
 use Rattle.herm_model.specs.Texts.{parts_text, opening}
 use Rattle.herm_values.specs.Parts.{parts_from}
 use Rattle.herm_values.specs.View.{value_view, views_of, table_parts}
+use Rattle.std.proofs.lemmas.List.{append-nil}
+use Rattle.herm_values.proofs.Walked.{none-rows}
 use Rattle.herm_letters.proofs.Joined.{place_text}
 use Rattle.herm_letters.proofs.Layers.{fields_text, table_text, call_text}
 use Rattle.herm_letters.proofs.Written.{around, place_written}
@@ -37,3 +39,9 @@ push_text-returns-in_ok-push-in-Call t c =
     ∙ ap (λ call. c.args.out.now.items ++ (opening (a_callmessage c.in-Call.call.caller.number call) ++ (parts_text (parts_from (views_of c.params.result.now)) [] ++ 41 ∷ []))) c.call.ensures.call
     ∙ ap (λ xs. c.args.out.now.items ++ (opening (a_callmessage c.in-Call.call.caller.number c.in-Call.call.call) ++ (parts_text (parts_from (views_of xs)) [] ++ 41 ∷ []))) c.params.ensures.params
     ∙ ap (c.args.out.now.items ++◌) (sym (call_text _ _ c.in-Call.is))
+
+pub push_rows-returns : goal.push_rows-returns
+push_rows-returns t c =
+    sym (append-nil c.rows.out.items)
+    ∙ ap (λ rows. c.rows.out.items ++ parts_text (parts_from rows) c.rows.before.now) (sym (none-rows c.args.table.now c.rows.next c.in_default.is))
+    ∙ c.rows.invariant.written

@@ -1,4 +1,8 @@
-use Rattle.std.proofs.Common.{rules}
+use Rattle.std.proofs.Common.{rules, ◌++◌, sym, ap, ◌∙◌}
+use Rattle.std.proofs.lemmas.List.{append-nil}
+use Rattle.herm_model.specs.Finalising.{pending_in}
+use Rattle.herm_values.specs.Parts.{parts_from}
+use Rattle.herm_values.proofs.Walked.{none-rows}
 use Rattle.herm_values.specs.declared.value.Value.{the_lemmas}
 use Rattle.herm_values.proofs.Finalised.{fields-wait, rows-wait, params-wait, call-waiting}
 use Rattle.herm_values.specs.Works.{waiting, spare}
@@ -15,3 +19,9 @@ put_pending-put_places-requires-in-Call t c = (search (rules, the_lemmas), param
 
 pub put_pending-returns-in-Call-clause-waiting : goal.put_pending-returns-in-Call-clause-waiting
 put_pending-returns-in-Call-clause-waiting t c = call-waiting c.args.v.now c.in-Call.call c.params.result.now (waiting c.args.work.now) (waiting c.put.new.self) (waiting c.put_places-in-Call.new.work) c.caller.result c.call.result c.in-Call.is c.params.ensures.params c.caller.ensures.caller c.call.ensures.call c.put.ensures.waiting c.put_places-in-Call.ensures.waiting
+
+pub put_rows-returns-clause-waiting : goal.put_rows-returns-clause-waiting
+put_rows-returns-clause-waiting t c =
+    sym (append-nil (waiting c.rows.work))
+    ∙ ap (λ rows. waiting c.rows.work ++ pending_in (parts_from rows)) (sym (none-rows c.args.table.now c.rows.next c.in_default.is))
+    ∙ c.rows.invariant.items

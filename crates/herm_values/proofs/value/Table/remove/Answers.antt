@@ -4,6 +4,7 @@ use Rattle.herm_values.specs.View.{value_view, views_of}
 use Rattle.herm_values.specs.Whole.{AreKept}
 use Rattle.herm_values.proofs.KeyedRows.{named}
 use Rattle.herm_values.proofs.Tables.{none-found, none-left, row-found, row-there, others-kept, others-named, within-there}
+use Rattle.herm_values.proofs.VeryRows.{all-but, read-among, none-lost}
 use Rattle.herm_values.proofs.value.Table.remove.Goals as goal
 
 pub returns-in_err-found-clause-row : goal.returns-in_err-found-clause-row
@@ -31,3 +32,12 @@ returns-clause-whole c = record {
 
 pub returns-clause-row_whole : goal.returns-clause-row_whole
 returns-clause-row_whole c = c.exchange.ensures.given c.requires.whole.whole
+
+pub returns-clause-row_itself : goal.returns-clause-row_itself
+returns-clause-row_itself c = read-among c.args.self.now.rows.items c.in_ok-found.found.place c.exchange.result c.exchange.ensures.old
+
+pub returns-clause-rows_themselves : goal.returns-clause-rows_themselves
+returns-clause-rows_themselves c = all-but c.args.self.now.rows.items c.exchange.new.rows.items c.in_ok-found.found.place c.exchange.result c.exchange.ensures.old c.exchange.ensures.put c.exchange.ensures.others
+
+pub returns-clause-places : goal.returns-clause-places
+returns-clause-places c = c.exchange.ensures.places
