@@ -1,9 +1,10 @@
 -- The laws of sound states for the source machine of a checked program.
-use Rattle.std.proofs.Common.{◌≡◌, ℕ, List, Some, refl}
-use Rattle.herm_model.specs.Values.{Name}
+use Rattle.std.proofs.Common.{◌≡◌, ℕ, List, Some, refl, sym, subst}
+use Rattle.herm_model.specs.Values.{Name, Kind}
 use Rattle.herm_system.specs.Sound.{IsSoundWith, IsSoundFor}
 use Rattle.herm_system.specs.Systems.{System, numbered_from_one, start}
 use Rattle.herm_source.specs.Instance.{source, IsSoundIn}
+use Rattle.herm_source.specs.Checked.{IsChecked}
 use Rattle.herm_source.specs.Modules.{Program, Modules}
 use Rattle.herm_source.specs.States.{State}
 use Rattle.herm_source.specs.laws.SoundProcesses.{IsSoundProcess}
@@ -11,7 +12,9 @@ use Rattle.herm_runs.proofs.Events.{run-stamped}
 use Rattle.herm_runs.proofs.SuitsRuns.{sound-states-suit, sound-runs-suit}
 use Rattle.herm_source.proofs.instance.SourceLooks.{source-looks-at-held, accepted-share-types}
 use Rattle.herm_source.proofs.reached.RunsReach.{IsAtReached, stays-reached, along-finds}
-use Rattle.herm_sound.proofs.KeptSound.{steps-keep-sound, steps-keep-types}
+use Rattle.herm_sound.specs.SoundBeside.{IsSoundBesideWith, IsSoundBeside}
+use Rattle.herm_sound.specs.SoundMachines.{KeepsSound}
+use Rattle.herm_sound.proofs.KeptSound.{steps-keep-sound, steps-keep-types, cells-are-all}
 use Rattle.herm_sound.proofs.StepsStaySo.{events-keep-all}
 use Rattle.herm_sound.proofs.OpeningSound.{opening-is-sound, runs-are-sound, states-along}
 use Rattle.herm_sound.proofs.NotStuck.{none-is-stuck}
@@ -21,7 +24,7 @@ use Rattle.herm_sound.proofs.ClosedOnce.{ports-close-once}
 use Rattle.herm_sound.proofs.RoundsReachEnd.{events-are-bounded, rounds-suffice}
 use Rattle.herm_checked.specs.laws.CheckedRuns.{IsSoundAndReached, SoundWithReach, CheckedStepsKeepSound, CheckedStepsKeepTypes, AcceptedStepsReach, CheckedEventsSuit, CheckedRunsSuit, CheckedOpeningIsSound, CheckedRunsAreSound, CheckedStatesAlong, CheckedNoneIsStuck, CheckedActionsAreDoneOnce, CheckedRunsEnd, CheckedRunsAreDescribed, CheckedReportsDescribe}
 use Rattle.herm_checked.proofs.CallNumbers.{source-numbers-calls}
-use Rattle.herm_checked.proofs.SourceKeeps.{source-keeps-sound}
+use Rattle.herm_checked.proofs.SourceKeeps.{source-keeps-sound, none-beside}
 use Rattle.herm_checked.proofs.SourceBegins.{source-begins-sound, source-goes-on, source-keeps-limits}
 
 with-within : (modules : Modules) (Is Within : State Name → Type 0) (s : System (State Name)) (types : List ℕ) → ((p : ℕ) (x : State Name) → numbered_from_one p s.processes ≡ Some x → Within x)
@@ -60,12 +63,33 @@ module _ (program : Program) (modules : Modules) (s : System (State Name)) where
 pub sound-with-reach : SoundWithReach
 sound-with-reach program modules s = (to-reached program modules s, from-reached program modules s)
 
+-- the source machine has no values but its cells
+module _ (exceptions : ℕ) (program : Program) (modules : Modules) (checked : IsChecked exceptions program modules) where
+  abbrev keeps : KeepsSound (source modules) (IsSoundProcess program modules)
+  keeps = source-keeps-sound exceptions program modules checked
+
+  abbrev WithBeside : (State Name → List (ℕ × Kind)) → List ℕ → System (State Name) → Type 0
+  WithBeside beside types s = IsSoundBesideWith (source modules) (IsSoundProcess program modules) beside types s
+
+  beside-types : (types : List ℕ) (s : System (State Name)) → IsSoundWith (source modules) (IsSoundProcess program modules) types s → WithBeside (keeps).beside types s
+  beside-types types s sound =
+      subst (λ beside. WithBeside beside types s) (sym (none-beside exceptions program modules checked)) ((cells-are-all (source modules) (IsSoundProcess program modules) types s).0 sound)
+
+  to-beside : (s : System (State Name)) → IsSoundAndReached program modules s → IsSoundBeside (source modules) (IsSoundProcess program modules) (keeps).beside s
+  to-beside s both = let sound = from-reached program modules s both in (sound.0, beside-types sound.0 s sound.1)
+
+  from-beside : (s : System (State Name)) → IsSoundBeside (source modules) (IsSoundProcess program modules) (keeps).beside s → IsSoundAndReached program modules s
+  from-beside s both = to-reached program modules s (both.0, both.1.sound)
+
 pub checked-steps : CheckedStepsKeepSound
 checked-steps exceptions program modules checked e s m is both =
-    to-reached program modules m.system (steps-keep-sound (source modules) (IsSoundProcess program modules) (source-keeps-sound exceptions program modules checked) e s m is (from-reached program modules s both))
+    from-beside exceptions program modules checked m.system
+    (steps-keep-sound (source modules) (IsSoundProcess program modules) (source-keeps-sound exceptions program modules checked) e s m is (to-beside exceptions program modules checked s both))
 
 pub checked-types : CheckedStepsKeepTypes
-checked-types exceptions program modules checked = steps-keep-types (source modules) (IsSoundProcess program modules) (source-keeps-sound exceptions program modules checked)
+checked-types exceptions program modules checked e s m is types sound =
+    let kept = steps-keep-types (source modules) (IsSoundProcess program modules) (source-keeps-sound exceptions program modules checked) e s m is types (beside-types exceptions program modules checked types s sound) in
+    (kept.0, kept.1.sound)
 
 pub accepted-reach : AcceptedStepsReach
 accepted-reach program modules accepted formed e s m is reached =
@@ -74,11 +98,11 @@ accepted-reach program modules accepted formed e s m is reached =
 
 pub checked-opening : CheckedOpeningIsSound
 checked-opening exceptions program modules checked limits argument texts =
-    to-reached program modules _ (opening-is-sound (source modules) (IsSoundProcess program modules) (source-keeps-sound exceptions program modules checked) (source-begins-sound exceptions program modules checked) limits argument texts)
+    from-beside exceptions program modules checked _ (opening-is-sound (source modules) (IsSoundProcess program modules) (source-keeps-sound exceptions program modules checked) (source-begins-sound exceptions program modules checked) limits argument texts)
 
 pub checked-runs : CheckedRunsAreSound
 checked-runs exceptions program modules checked limits argument events r texts e =
-    to-reached program modules r.system (runs-are-sound (source modules) (IsSoundProcess program modules) (source-keeps-sound exceptions program modules checked) (source-begins-sound exceptions program modules checked) limits argument events r texts e)
+    from-beside exceptions program modules checked r.system (runs-are-sound (source modules) (IsSoundProcess program modules) (source-keeps-sound exceptions program modules checked) (source-begins-sound exceptions program modules checked) limits argument events r texts e)
 
 pub checked-suit : CheckedEventsSuit
 checked-suit exceptions program modules checked = sound-states-suit (source modules) (IsSoundIn modules) (source-looks-at-held modules (accepted-share-types program modules checked.accepted))
@@ -90,7 +114,7 @@ checked-runs-suit exceptions program modules checked limits argument events text
 
 pub checked-along : CheckedStatesAlong
 checked-along exceptions program modules checked limits argument journal s texts along =
-    let both = to-reached program modules s (states-along (source modules) (IsSoundProcess program modules) (source-keeps-sound exceptions program modules checked) (source-begins-sound exceptions program modules checked) limits argument journal s texts along) in
+    let both = from-beside exceptions program modules checked s (states-along (source modules) (IsSoundProcess program modules) (source-keeps-sound exceptions program modules checked) (source-begins-sound exceptions program modules checked) limits argument journal s texts along) in
     (both.0, along-finds program modules limits argument journal s checked.accepted (λ process h. ((checked.typed).modules process h).blocks) along both.0)
 
 pub checked-none : CheckedNoneIsStuck

@@ -21,7 +21,7 @@ use Rattle.herm_source.proofs.instance.SourceLaws.{source-keeps-numbers, source-
 use Rattle.herm_source.proofs.placed.KeptStanding.{checked-processes-keep-standing}
 use Rattle.herm_source.proofs.sound.GoingOn.{checked-processes-go-on}
 use Rattle.herm_source.proofs.sound.SoundProcesses.{stay-sound}
-use Rattle.herm_sound.specs.Standing.{at_type, StandsAt, AllStand, typed_places, typed_coming, typed_made, typed_going}
+use Rattle.herm_sound.specs.Standing.{at_type, StandsAt, AllStand, cells_alone, typed_places, typed_coming, typed_made, typed_going}
 use Rattle.herm_sound.specs.SoundMachines.{HasFor, KeepsStanding, StaysSound, KeepsSound}
 use Rattle.herm_checked.proofs.CallMoves.{local-moves, answer-moves, begin-closed}
 
@@ -76,19 +76,24 @@ module _ (exceptions : ℕ) (program : Program) (modules : Modules) (checked : I
     same-going (to_answer caller call r) a = refl
     same-going w a = refl
 
-    pub source-keeps-standing : KeepsStanding (source modules) first new (IsSoundProcess program modules) ports calls
+    pub source-keeps-standing : KeepsStanding (source modules) first new (IsSoundProcess program modules) cells_alone ports calls
     source-keeps-standing =
         let keeps = checked-processes-keep-standing exceptions program modules checked ports calls in
         record {
-          begins = λ code number port n x e all.
-              to-all (typed_places (source modules) x) (typed_places (source modules) x) refl (keeps.begins code number port n x e (from-all (at_type (an_inport port) (first code)) (at_type (an_inport port) (first code)) refl all));
-          local_steps = λ x y is e all.
-              to-all (typed_places (source modules) y) (typed_places (source modules) y) refl (keeps.local_steps x y e is (from-all (typed_places (source modules) x) (typed_places (source modules) x) refl all));
-          answers = λ x y w at a is wanted h suits e all comes makes.
+          begins = λ code number port n x e all. (
+            to-all (typed_places (source modules) x) (typed_places (source modules) x) refl (keeps.begins code number port n x e (from-all (at_type (an_inport port) (first code)) (at_type (an_inport port) (first code)) refl all)),
+            λ t n h. absurd h,
+          );
+          local_steps = λ x y is e all beside. (
+            to-all (typed_places (source modules) y) (typed_places (source modules) y) refl (keeps.local_steps x y e is (from-all (typed_places (source modules) x) (typed_places (source modules) x) refl all)),
+            λ t n h. absurd h,
+          );
+          answers = λ x y w at a is wanted h suits e all beside comes makes.
               let both = keeps.answers x y w at a wanted h suits e is (from-all (typed_places (source modules) x) (typed_places (source modules) x) refl all)
               (from-all (standing.typed_coming modules x at a) (typed_coming (source modules) x at a) (same-coming x at a) comes)
               (from-all (standing.typed_made modules x y a) (typed_made (source modules) first new x y a) (same-made x y a) makes) in (
                 to-all (typed_places (source modules) y) (typed_places (source modules) y) refl both.0,
+                λ t n h. absurd h,
                 to-all (standing.typed_going modules.types ports calls w a) (typed_going modules.types ports calls w a) (same-going w a) both.1,
               );
         }
@@ -110,7 +115,7 @@ module _ (exceptions : ℕ) (program : Program) (modules : Modules) (checked : I
 
   pub has-for : (x : State Name) (w : CellWant Name) → wants.HasFor modules x w → HasFor (source modules) first new x w
   has-for x new_port h = h
-  has-for x (new_process code) h = (h.0, h.1, h.2, begins-there code h.0 h.1)
+  has-for x (new_process code) h = (h.0, h.1, h.2, λ number port n. begins-there code h.0 h.1 number (cell n (an_inport port) no_parts))
   has-for x (to_put n m) h = h
   has-for x (to_take ports) h = h.1
   has-for x (to_close n) h = h.1
@@ -134,6 +139,7 @@ module _ (exceptions : ℕ) (program : Program) (modules : Modules) (checked : I
   source-keeps-sound = record {
     first_type = first;
     new_type = new;
+    beside = cells_alone;
     numbers = source-keeps-numbers modules;
     ledger = source-keeps-ledger modules;
     counts = source-keeps-counts;
@@ -141,3 +147,8 @@ module _ (exceptions : ℕ) (program : Program) (modules : Modules) (checked : I
     wants = λ x w is wanted. has-for x w ((checked-processes-go-on exceptions program modules checked).places x w is wanted);
     standing = source-keeps-standing;
   }
+
+  -- it has no values but its cells
+  pub none-beside : (source-keeps-sound).beside ≡ cells_alone
+  unfolding source-keeps-sound
+  none-beside = refl

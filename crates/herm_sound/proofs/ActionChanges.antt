@@ -151,9 +151,9 @@ module _ {P : Type 0} (machine : Machine Name P) (Is : P → Type 0) (keeps : Ke
         suits = suits;
         has = λ want e. subst (λ w. HasFor machine keeps.first_type keeps.new_type x w × Answers w a) (some-injective e) (has, answers);
         comes = λ more calls all. act-comes ports s sound p x parts.is more calls w place h a act parts.at.1 has all;
-        stands = λ more calls all comes makes.
-            let both = (keeps.standing more calls).answers x y w (number_of place) a before parts.want.1 answers suits does all comes makes in
-            (both.0, λ want e. subst (λ w. AllStand machine.types more calls (typed_going machine.types more calls w a)) (some-injective e) both.1);
+        stands = λ more calls all beside comes makes.
+            let both = (keeps.standing more calls).answers x y w (number_of place) a before parts.want.1 answers suits does all beside comes makes in
+            (both.0, both.1, λ want e. subst (λ w. AllStand machine.types more calls (typed_going machine.types more calls w a)) (some-injective e) both.2);
       }
     where
       went : (w : CellWant Name) (a : CellAction Name) (before : List (Port (Cell Name))) (n : ℕ) (d : Cell Name) → ((o : Port (Cell Name)) × (slice_get before n ≡ Some o) × IsIn d (left_in o)) ⊎ IsPut w a n d

@@ -15,12 +15,13 @@ use Rattle.herm_journal.specs.Stamps.{entry_behind}
 use Rattle.herm_journal.specs.Messages.{CellReply, CellWant, CellAction}
 use Rattle.herm_system.specs.Machines.{OpenCall, Machine}
 use Rattle.herm_system.specs.Kinds.{unfinalised, has_open, replies_of, is_callmessage_of}
-use Rattle.herm_system.specs.Sound.{one_if, IsSoundWith, IsSoundFor}
+use Rattle.herm_system.specs.Sound.{one_if, IsSoundWith}
 use Rattle.herm_system.specs.Summary.{how_many}
 use Rattle.herm_system.specs.Systems.{System, Moved, Event, steps, acts, Run, run, run_on, step, start, opening, with_entry, set_process, number_of, numbered_from_one, main_port, opening_name}
 use Rattle.herm_runs.specs.Counting.{kinds_made, kinds_ended}
 use Rattle.herm_runs.proofs.ActionParts.{action-parts, step-parts}
 use Rattle.herm_runs.proofs.Stands.{IsNew}
+use Rattle.herm_sound.specs.SoundBeside.{IsSoundBeside}
 use Rattle.herm_sound.specs.SoundMachines.{CallMoves, KeepsSound, BeginsSound, NumbersCalls}
 use Rattle.herm_sound.specs.laws.SoundLaws.{is_answer_to, answers_call, is_hear_of, hears_call, replies_to, CallsAreAnsweredOnce}
 use Rattle.herm_sound.proofs.Acted.{Holding, IsAct, port_made, port_refused, process_made, process_refused, placed, came_back, taken, closed, answered, heard, acted}
@@ -287,12 +288,12 @@ module _ {P : Type 0} (machine : Machine Name P) (Is : P → Type 0) (keeps : Ke
     change-once : AreOnce (record { system = t; journal = journal })
     change-once = record { once = once-kept; opened = opened-kept; heard = heard-kept; fresh = fresh-kept; absent = absent-kept; below = below-kept }
 
-  event-once : (e : Event) (r : Run P) (m : Moved P) → step machine e r.system ≡ Some m → IsSoundFor machine Is r.system → AreOnce r → AreOnce (record { system = m.system; journal = with_entry r.journal e m.done })
+  event-once : (e : Event) (r : Run P) (m : Moved P) → step machine e r.system ≡ Some m → IsSoundBeside machine Is keeps.beside r.system → AreOnce r → AreOnce (record { system = m.system; journal = with_entry r.journal e m.done })
   event-once (steps p) r m e sound so =
       let parts = step-parts machine p r.system m e in
-      let change = local-change machine Is keeps sound.0 r.system sound.1 p parts.state parts.left.0 parts.is parts.left.1 in
+      let change = local-change machine Is keeps sound.0 r.system sound.1.sound p parts.state parts.left.0 parts.is parts.left.1 in
       subst (λ (m : Moved P). AreOnce (record { system = m.system; journal = with_entry r.journal (steps p) m.done })) parts.moved
-      (change-once sound.0 r sound.1 so (set_process p parts.left.0 r.system) p parts.state parts.left.0 None 0 (make_port None) change (numbers.local_steps parts.state parts.left.0 parts.left.1)
+      (change-once sound.0 r sound.1.sound so (set_process p parts.left.0 r.system) p parts.state parts.left.0 None 0 (make_port None) change (numbers.local_steps parts.state parts.left.0 parts.left.1)
       (λ k m call does opened. none-not_some (ap placed_of does)) r.journal (λ q k. omega arith) (λ q k. omega arith))
     where
       placed_of : CellAction Name → Option ℕ
@@ -302,27 +303,27 @@ module _ {P : Type 0} (machine : Machine Name P) (Is : P → Type 0) (keeps : Ke
       let s = r.system in
       let parts = action-parts machine p place s m e in
       let a = parts.did.0 in
-      let change = action-change machine Is keeps sound.0 s sound.1 p place m parts in
+      let change = action-change machine Is keeps sound.0 s sound.1.sound p place m parts in
       let act = acted p parts.want.0 place parts.at.0 a parts.there parts.did.1 in
       subst (λ (m : Moved P). AreOnce (record { system = m.system; journal = with_entry r.journal (acts p place) m.done })) parts.moved
-      (change-once sound.0 r sound.1 so parts.makes.0 p parts.state parts.left.0 (Some parts.want.0) (number_of place) a change (numbers.answers parts.state parts.left.0 (number_of place) a parts.left.1)
+      (change-once sound.0 r sound.1.sound so parts.makes.0 p parts.state parts.left.0 (Some parts.want.0) (number_of place) a change (numbers.answers parts.state parts.left.0 (number_of place) a parts.left.1)
       (λ k m call does opened. numbers.opens parts.state parts.left.0 (number_of place) k m call (ap (machine.answered parts.state (number_of place)) (sym does) ∙ parts.left.1) opened)
       (r.journal ++ entry_behind r.journal p place (recorded a) ∷ [])
       (λ q k. omega (arith, one-entry r.journal q k p place a, act-answering p q k parts.want.0 place parts.at.0 a act))
       (λ q k. omega (arith, one-heard r.journal q k p place a, act-hearing p q k parts.want.0 place parts.at.0 a act)))
 
-  once-along : (events : List Event) (r t : Run P) → run machine events r ≡ Some t → IsSoundFor machine Is r.system → AreOnce r → AreOnce t
+  once-along : (events : List Event) (r t : Run P) → run machine events r ≡ Some t → IsSoundBeside machine Is keeps.beside r.system → AreOnce r → AreOnce t
   once-along [] r t e sound so = subst AreOnce (some-injective e) so
   once-along (e ∷ events) r t is sound so =
       let b = chain-some (run machine events) (run_on machine e r) t is in
       let m = map-some _ (step machine e r.system) b.0 b.1 in
-      once-along events b.0 t b.2 (subst (λ (r : Run P). IsSoundFor machine Is r.system) m.2 (steps-keep-sound machine Is keeps e r.system m.0 m.1 sound)) (subst AreOnce m.2 (event-once e r m.0 m.1 sound so))
+      once-along events b.0 t b.2 (subst (λ (r : Run P). IsSoundBeside machine Is keeps.beside r.system) m.2 (steps-keep-sound machine Is keeps e r.system m.0 m.1 sound)) (subst AreOnce m.2 (event-once e r m.0 m.1 sound so))
 
-  first-once : (limits : Limits) (argument : Text) (first : P) → machine.begin machine.main 1 main_port ≡ Some first → IsSoundFor machine Is (opening machine limits argument) → AreOnce (start machine limits argument)
+  first-once : (limits : Limits) (argument : Text) (first : P) → machine.begin machine.main 1 main_port ≡ Some first → IsSoundBeside machine Is keeps.beside (opening machine limits argument) → AreOnce (start machine limits argument)
   first-once limits argument first is sound = record {
     once = λ q k. no-calls q k;
     opened = λ q k. omega (arith, ap one_if (none-open q k (numbered_from_one q (opening machine limits argument).processes) refl));
-    heard = λ q k. omega (arith, sound.1.calls.answers q k, ap one_if (none-open q k (numbered_from_one q (opening machine limits argument).processes) refl));
+    heard = λ q k. omega (arith, sound.1.sound.calls.answers q k, ap one_if (none-open q k (numbered_from_one q (opening machine limits argument).processes) refl));
     fresh = λ q k z is' le. refl;
     absent = λ q k is'. refl;
     below = λ q z call is' opened. none-not_some (sym (closed-first q z is') ∙ opened);
@@ -343,7 +344,7 @@ module _ {P : Type 0} (machine : Machine Name P) (Is : P → Type 0) (keeps : Ke
       none-open q k (Some z) e = open-with machine (opening machine limits argument) q z None k e (closed-first q z e)
 
       no-calls : (q k : ℕ) → 0 + callmessages (opening machine limits argument) q k ≤ 1
-      no-calls q k = omega (arith, sound.1.calls.answers q k, at-most-one (has_open machine (opening machine limits argument) q k))
+      no-calls q k = omega (arith, sound.1.sound.calls.answers q k, at-most-one (has_open machine (opening machine limits argument) q k))
         where
           at-most-one : (b : Bool) → one_if b ≤ 1
           at-most-one true = omega arith

@@ -16,7 +16,7 @@ use Rattle.herm_runs.specs.Counting.{IsOfWaiting, kinds_made, kinds_ended}
 use Rattle.herm_runs.proofs.Numbered.{set-found_from_one}
 use Rattle.herm_runs.proofs.Stands.{IsNew}
 use Rattle.herm_runs.proofs.SystemLedger.{total-from_one}
-use Rattle.herm_sound.specs.Standing.{StandsAt, AllStand, typed_places, typed_coming, typed_made, typed_going}
+use Rattle.herm_sound.specs.Standing.{StandsAt, AllStand, OutportsStand, typed_places, typed_coming, typed_made, typed_going}
 use Rattle.herm_sound.specs.SoundMachines.{CallMoves, HasFor, KeepsSound}
 use Rattle.herm_sound.proofs.Places.{QueuedFrom, same-queued}
 use Rattle.herm_sound.proofs.Counted.{of_process, unfinalised-parts}
@@ -72,9 +72,9 @@ module _ {P : Type 0} (machine : Machine Name P) (Is : P → Type 0) (keeps : Ke
     pub suits : Suits machine x at a
     pub has : (want : CellWant Name) → w ≡ Some want → HasFor machine keeps.first_type keeps.new_type x want × Answers want a
     pub comes : (more : List ℕ) (calls : ℕ → ℕ → Option ℕ) → AllPlaced machine ports (StandsAt machine.types more calls) s → AllStand machine.types more calls (typed_coming machine x at a)
-    pub stands : (ports : List ℕ) (calls : ℕ → ℕ → Option ℕ) → AllStand machine.types ports calls (typed_places machine x) → AllStand machine.types ports calls (typed_coming machine x at a)
-        → AllStand machine.types ports calls (typed_made machine keeps.first_type keeps.new_type x y a)
-        → AllStand machine.types ports calls (typed_places machine y) × ((want : CellWant Name) → w ≡ Some want → AllStand machine.types ports calls (typed_going machine.types ports calls want a))
+    pub stands : (ports : List ℕ) (calls : ℕ → ℕ → Option ℕ) → AllStand machine.types ports calls (typed_places machine x) → OutportsStand machine.types ports (keeps.beside x)
+        → AllStand machine.types ports calls (typed_coming machine x at a) → AllStand machine.types ports calls (typed_made machine keeps.first_type keeps.new_type x y a)
+        → AllStand machine.types ports calls (typed_places machine y) × OutportsStand machine.types ports (keeps.beside y) × ((want : CellWant Name) → w ≡ Some want → AllStand machine.types ports calls (typed_going machine.types ports calls want a))
 
   -- a local step
   module _ (ports : List ℕ) (s : System P) (sound : IsSoundWith machine Is ports s) where
@@ -105,7 +105,9 @@ module _ {P : Type 0} (machine : Machine Name P) (Is : P → Type 0) (keeps : Ke
           suits = tt;
           has = λ want e. none-not_some e;
           comes = λ more calls all t k h. absurd h;
-          stands = λ ports calls all comes makes. ((keeps.standing ports calls).local_steps x y before does all, λ want e. none-not_some e);
+          stands = λ ports calls all beside comes makes.
+              let both = (keeps.standing ports calls).local_steps x y before does all beside in
+              (both.0, both.1, λ want e. none-not_some e);
         }
       where
         first : (q : ℕ) (z : P) → ((p ≡ q) × (y ≡ z)) ⊎ (numbered_from_one q s.processes ≡ Some z) → ((p ≡ q) × (y ≡ z)) ⊎ ((numbered_from_one q s.processes ≡ Some z) ⊎ IsNew machine x (make_port None) s q z)

@@ -13,12 +13,13 @@ use Rattle.herm_journal.specs.Stamps.{entry_behind}
 use Rattle.herm_journal.specs.Messages.{CellWant, CellAction}
 use Rattle.herm_system.specs.Machines.{OpenCall, Machine, inport_of}
 use Rattle.herm_system.specs.Kinds.{is_inport_of}
-use Rattle.herm_system.specs.Sound.{one_if, IsSoundFor}
+use Rattle.herm_system.specs.Sound.{one_if}
 use Rattle.herm_system.specs.Summary.{how_many}
 use Rattle.herm_system.specs.Systems.{System, Moved, Event, steps, acts, Run, run, run_on, step, start, with_made, with_entry, set_process, set_holding, number_of}
 use Rattle.herm_runs.specs.Counting.{kinds_made, kinds_ended}
 use Rattle.herm_runs.proofs.ActionParts.{action-parts, step-parts}
 use Rattle.herm_runs.proofs.Numbered.{lengths-stay, more-length}
+use Rattle.herm_sound.specs.SoundBeside.{IsSoundBeside}
 use Rattle.herm_sound.specs.SoundMachines.{KeepsSound, BeginsSound}
 use Rattle.herm_sound.specs.laws.SoundLaws.{is_close, closes, PortsCloseOnce}
 use Rattle.herm_sound.proofs.Acted.{Holding, IsAct, port_made, port_refused, process_made, process_refused, placed, came_back, taken, closed, answered, heard, acted}
@@ -128,7 +129,7 @@ module _ {P : Type 0} (machine : Machine Name P) (Is : P → Type 0) (keeps : Ke
       by true e = ap one_if (sym e ∙ ap (λ c. same_place place (port n) && c) (recorded-close a))
       by false e = ap one_if (sym e ∙ ap (λ c. same_place place (port n) && c) (recorded-close a))
 
-  once-kept : (n : ℕ) (e : Event) (r : Run P) (m : Moved P) → step machine e r.system ≡ Some m → IsSoundFor machine Is r.system → IsOnce n r → IsOnce n (record { system = m.system; journal = with_entry r.journal e m.done })
+  once-kept : (n : ℕ) (e : Event) (r : Run P) (m : Moved P) → step machine e r.system ≡ Some m → IsSoundBeside machine Is keeps.beside r.system → IsOnce n r → IsOnce n (record { system = m.system; journal = with_entry r.journal e m.done })
   once-kept n (steps p) r m e sound once =
       let parts = step-parts machine p r.system m e in
       subst (λ (m : Moved P). IsOnce n (record { system = m.system; journal = with_entry r.journal (steps p) m.done })) parts.moved once
@@ -139,22 +140,22 @@ module _ {P : Type 0} (machine : Machine Name P) (Is : P → Type 0) (keeps : Ke
       let w = parts.want.0 in
       let h = parts.at.0 in
       let act = acted p w place h a parts.there parts.did.1 in
-      let change = action-change machine Is keeps sound.0 s sound.1 p place m parts in
-      let ready = to-close-open machine Is keeps sound.0 s sound.1 parts.makes.0 p parts.state parts.left.0 (Some w) (number_of place) a change in
+      let change = action-change machine Is keeps sound.0 s sound.1.sound p place m parts in
+      let ready = to-close-open machine Is keeps sound.0 s sound.1.sound parts.makes.0 p parts.state parts.left.0 (Some w) (number_of place) a change in
       let s1 = set_process p parts.left.0 (set_holding place (after a h) s) in
       let lengths = (lengths-stay place (after a h) s).1 in
-      let last = act-number machine s sound.1.numbers p w place h a act parts.at.1 in
+      let last = act-number machine s sound.1.sound.numbers p w place h a act parts.at.1 in
       let made = made-unmade machine parts.state parts.left.0 n a s1 parts.makes.0 parts.makes.1 (λ i e. last i e ∙ sym lengths) in
       let same = same-unmade n s1.ports s.ports lengths in
       subst (λ (m : Moved P). IsOnce n (record { system = m.system; journal = with_entry r.journal (acts p place) m.done })) parts.moved
       (omega (arith, one-entry r.journal n p place a, act-closing p n w place h a act, change.opens ready n, made, same, once))
 
-  once-along : (n : ℕ) (events : List Event) (r t : Run P) → run machine events r ≡ Some t → IsSoundFor machine Is r.system → IsOnce n r → IsOnce n t
+  once-along : (n : ℕ) (events : List Event) (r t : Run P) → run machine events r ≡ Some t → IsSoundBeside machine Is keeps.beside r.system → IsOnce n r → IsOnce n t
   once-along n [] r t e sound once = subst (IsOnce n) (some-injective e) once
   once-along n (e ∷ events) r t is sound once =
       let b = chain-some (run machine events) (run_on machine e r) t is in
       let m = map-some _ (step machine e r.system) b.0 b.1 in
-      once-along n events b.0 t b.2 (subst (λ (r : Run P). IsSoundFor machine Is r.system) m.2 (steps-keep-sound machine Is keeps e r.system m.0 m.1 sound))
+      once-along n events b.0 t b.2 (subst (λ (r : Run P). IsSoundBeside machine Is keeps.beside r.system) m.2 (steps-keep-sound machine Is keeps e r.system m.0 m.1 sound))
       (subst (IsOnce n) m.2 (once-kept n e r m.0 m.1 sound once))
 
   first-once : (n : ℕ) (limits : Limits) (argument : Text) → IsOnce n (start machine limits argument)

@@ -11,7 +11,7 @@ use Rattle.herm_system.specs.Systems.{System, numbered_from_one}
 use Rattle.herm_system.specs.Kinds.{kinds_by, typed_of, typed_list, typed_cells, replies_of}
 use Rattle.herm_system.specs.Sound.{IsSoundWith}
 use Rattle.herm_runs.proofs.Stands.{IsNew}
-use Rattle.herm_sound.specs.Standing.{at_type, StandsAt, AllStand, typed_places, typed_made, typed_going}
+use Rattle.herm_sound.specs.Standing.{at_type, StandsAt, AllStand, OutportsStand, typed_places, typed_made, typed_going}
 use Rattle.herm_sound.specs.SoundMachines.{CallMoves, KeepsSound}
 use Rattle.herm_sound.proofs.MadeSystems.{made_port}
 use Rattle.herm_sound.proofs.Changes.{IsChange, made_type, new_types, WentTo, AnsweredTo}
@@ -110,24 +110,6 @@ module _ {P : Type 0} (machine : Machine Name P) (Is : P → Type 0) (keeps : Ke
             own-stands c.0 moves c.1 t k c.2
         by a made moves = λ t k member. absurd member
 
-    -- the process itself, and what goes out
-    own : AllStand machine.types more calls_by (typed_places machine y) × ((want : CellWant Name) → w ≡ Some want → AllStand machine.types more calls_by (typed_going machine.types more calls_by want a))
-    own = change.stands more calls_by (placed-before.held p x change.was) (change.comes more calls_by placed-before) made-stand
-
-    born-stands : (q : ℕ) (z : P) → IsNew machine x a s q z → AllStand machine.types more calls_by (typed_places machine z)
-    born-stands q z new =
-        (keeps.standing more calls_by).begins new.module_number (new.made).0 (new.made).1 (machine.number x, machine.serial x) z new.is
-        (one-stands (an_inport (new.made).1) (keeps.first_type new.module_number)
-        (λ t types. port-stands t (new.made).1 (ap made_port new.does) (ap (made_type machine Is keeps x) new.does ∙ types)))
-
-    held-stand : (q : ℕ) (z : P) → numbered_from_one q u.processes ≡ Some z → AllStand machine.types more calls_by (typed_places machine z)
-    held-stand q z is = by (change.found q z is)
-      where
-        by : ((p ≡ q) × (y ≡ z)) ⊎ ((numbered_from_one q s.processes ≡ Some z) ⊎ IsNew machine x a s q z) → AllStand machine.types more calls_by (typed_places machine z)
-        by (inl e) = subst (λ z. AllStand machine.types more calls_by (typed_places machine z)) e.1 own.0
-        by (inr (inl e)) = placed-before.held q z e
-        by (inr (inr new)) = born-stands q z new
-
     -- a reply that goes out to a call that is open
     pub answered-call : (q : ℕ) (z : P) (call : OpenCall) (r : ℕ × CellReply Name) → numbered_from_one q s.processes ≡ Some z → machine.open_call z ≡ Some call → w ≡ Some (to_answer q r.0 r.1)
         → (r.1 ≡ gone) ⊎ ((t : ℕ) × (call.call_type ≡ Some t) × (calls_by q r.0 ≡ Some t) × IsReplyTo machine.types (Some t) r.1)
@@ -142,45 +124,76 @@ module _ {P : Type 0} (machine : Machine Name P) (Is : P → Type 0) (keeps : Ke
             let one : c.1 ≡ call = some-injective (sym c.3 ∙ ap machine.open_call same ∙ opened) in
             inr (h.0, ap (λ (call : OpenCall). call.call_type) (sym one) ∙ c.5, lifted h.0 (a_callmessage q r.0) (of-call machine s q c.0 c.1 r.0 h.0 c.2 c.3 c.4 c.5), h.2)
 
-    reply-stands : (q : ℕ) (z : P) (call : OpenCall) (r : ℕ × CellReply Name) → numbered_from_one q s.processes ≡ Some z → machine.open_call z ≡ Some call → w ≡ Some (to_answer q r.0 r.1)
-        → AllStand machine.types more calls_by (typed_list machine.types (types_of_reply machine.types call.call_type r.1) (cells_in r.1))
-    reply-stands q z call r is opened wants t k member = by (answered-call q z call r is opened wants)
-      where
-        by : (r.1 ≡ gone) ⊎ ((t : ℕ) × (call.call_type ≡ Some t) × (calls_by q r.0 ≡ Some t) × IsReplyTo machine.types (Some t) r.1) → Stands t k
-        by (inl e) = absurd (subst (λ (v : CellReply Name). IsIn (t, k) (typed_list machine.types (types_of_reply machine.types call.call_type v) (cells_in v))) e member)
-        by (inr h) =
-            own.1 (to_answer q r.0 r.1) wants t k
-            (in-some (λ t. typed_list machine.types (types_of_reply machine.types (Some t) r.1) (cells_in r.1)) (t, k) (calls_by q r.0) h.0 h.2
-            (subst (λ o. IsIn (t, k) (typed_list machine.types (types_of_reply machine.types o r.1) (cells_in r.1))) h.1 member))
+    -- in a sound state the outports beside cells stand too
+    module _ (beside : (q : ℕ) (z : P) → numbered_from_one q s.processes ≡ Some z → OutportsStand machine.types ports (keeps.beside z)) where
+      beside-before : (q : ℕ) (z : P) → numbered_from_one q s.processes ≡ Some z → OutportsStand machine.types more (keeps.beside z)
+      beside-before q z is t n member = let h = beside q z is t n member in (h.0, h.1, got-more ports (new_types machine Is keeps x a) n h.0 h.2)
 
-    waiting-stand : (q : ℕ) (z : P) (call : OpenCall) (r : ℕ × CellReply Name) → numbered_from_one q u.processes ≡ Some z → machine.open_call z ≡ Some call → IsIn r (replies_of u q)
-        → AllStand machine.types more calls_by (typed_list machine.types (types_of_reply machine.types call.call_type r.1) (cells_in r.1))
-    waiting-stand q z call r is opened member = by (calls-before machine Is keeps ports s sound u p x y w at a change q z call is opened) (change.answers q r member)
-      where
-        by : WasOpen machine Is keeps ports s sound u p x y w at a change q z call → IsIn r (replies_of s q) ⊎ AnsweredTo w a q r
-            → AllStand machine.types more calls_by (typed_list machine.types (types_of_reply machine.types call.call_type r.1) (cells_in r.1))
-        by (inl h) (inl before) = placed-before.waiting q h.0 call r h.1 h.2 before
-        by (inl h) (inr e) = reply-stands q h.0 call r h.1 h.2 e.0
-        by (inr h) (inl before) = absurd (no-replies machine Is keeps ports s sound p x change.was h.2 r (subst (λ q. IsIn r (replies_of s q)) (sym h.0) before))
-        by (inr h) (inr e) = none-not_some (ap is_put (sym e.1 ∙ h.3.2))
+      -- the process itself, and what goes out
+      own : AllStand machine.types more calls_by (typed_places machine y) × OutportsStand machine.types more (keeps.beside y) × ((want : CellWant Name) → w ≡ Some want → AllStand machine.types more calls_by (typed_going machine.types more calls_by want a))
+      own = change.stands more calls_by (placed-before.held p x change.was) (beside-before p x change.was) (change.comes more calls_by placed-before) made-stand
 
-    queued-stand : (n t v : ℕ) (q : Port (Cell Name)) (m : Cell Name) → slice_get more n ≡ Some t → message_of_port machine.types t ≡ Some v → slice_get u.ports n ≡ Some q → IsIn m (left_in q)
-        → AllStand machine.types more calls_by (typed_of machine.types v m)
-    queued-stand n t v q m types of there member = by (change.messages n q m there member)
-      where
-        by : ((o : Port (Cell Name)) × (slice_get s.ports n ≡ Some o) × IsIn m (left_in o)) ⊎ WentTo w a n m → AllStand machine.types more calls_by (typed_of machine.types v m)
-        by (inl o) =
-            let t0 = there-too ports s.ports n o.0 sound.ports.types o.1 in
-            let same : t0.0 ≡ t = some-injective (sym (got-more ports (new_types machine Is keeps x a) n t0.0 t0.1) ∙ types) in
-            placed-before.queued n t v o.0 m (t0.1 ∙ ap (λ t. Some t) same) of o.1 o.2
-        by (inr e) = λ j k h.
-            let going = subst (λ a. AllStand machine.types more calls_by (typed_going machine.types more calls_by (to_put n m) a)) e.1.1 (own.1 (to_put n m) e.0) in
-            going j k
-            (in-some (λ t. list_of (λ v. typed_of machine.types v m) (message_of_port machine.types t)) (j, k) (slice_get more n) t types
-            (in-some (λ v. typed_of machine.types v m) (j, k) (message_of_port machine.types t) v of h))
+      born-stands : (q : ℕ) (z : P) → IsNew machine x a s q z → AllStand machine.types more calls_by (typed_places machine z) × OutportsStand machine.types more (keeps.beside z)
+      born-stands q z new =
+          (keeps.standing more calls_by).begins new.module_number (new.made).0 (new.made).1 (machine.number x, machine.serial x) z new.is
+          (one-stands (an_inport (new.made).1) (keeps.first_type new.module_number)
+          (λ t types. port-stands t (new.made).1 (ap made_port new.does) (ap (made_type machine Is keeps x) new.does ∙ types)))
 
-    pub placed-behind : AllPlaced machine more Stands u
-    placed-behind = record { held = held-stand; waiting = waiting-stand; queued = queued-stand }
+      held-stand : (q : ℕ) (z : P) → numbered_from_one q u.processes ≡ Some z → AllStand machine.types more calls_by (typed_places machine z)
+      held-stand q z is = by (change.found q z is)
+        where
+          by : ((p ≡ q) × (y ≡ z)) ⊎ ((numbered_from_one q s.processes ≡ Some z) ⊎ IsNew machine x a s q z) → AllStand machine.types more calls_by (typed_places machine z)
+          by (inl e) = subst (λ z. AllStand machine.types more calls_by (typed_places machine z)) e.1 own.0
+          by (inr (inl e)) = placed-before.held q z e
+          by (inr (inr new)) = (born-stands q z new).0
 
-    pub all-behind : (t : ℕ) (k : Kind) → IsIn (t, k) (typed_cells machine more u) → Stands t k
-    all-behind = placed-all machine more u Stands placed-behind
+      pub beside-stand : (q : ℕ) (z : P) → numbered_from_one q u.processes ≡ Some z → OutportsStand machine.types more (keeps.beside z)
+      beside-stand q z is = by (change.found q z is)
+        where
+          by : ((p ≡ q) × (y ≡ z)) ⊎ ((numbered_from_one q s.processes ≡ Some z) ⊎ IsNew machine x a s q z) → OutportsStand machine.types more (keeps.beside z)
+          by (inl e) = subst (λ z. OutportsStand machine.types more (keeps.beside z)) e.1 own.1
+          by (inr (inl e)) = beside-before q z e
+          by (inr (inr new)) = (born-stands q z new).1
+
+      reply-stands : (q : ℕ) (z : P) (call : OpenCall) (r : ℕ × CellReply Name) → numbered_from_one q s.processes ≡ Some z → machine.open_call z ≡ Some call → w ≡ Some (to_answer q r.0 r.1)
+          → AllStand machine.types more calls_by (typed_list machine.types (types_of_reply machine.types call.call_type r.1) (cells_in r.1))
+      reply-stands q z call r is opened wants t k member = by (answered-call q z call r is opened wants)
+        where
+          by : (r.1 ≡ gone) ⊎ ((t : ℕ) × (call.call_type ≡ Some t) × (calls_by q r.0 ≡ Some t) × IsReplyTo machine.types (Some t) r.1) → Stands t k
+          by (inl e) = absurd (subst (λ (v : CellReply Name). IsIn (t, k) (typed_list machine.types (types_of_reply machine.types call.call_type v) (cells_in v))) e member)
+          by (inr h) =
+              own.2 (to_answer q r.0 r.1) wants t k
+              (in-some (λ t. typed_list machine.types (types_of_reply machine.types (Some t) r.1) (cells_in r.1)) (t, k) (calls_by q r.0) h.0 h.2
+              (subst (λ o. IsIn (t, k) (typed_list machine.types (types_of_reply machine.types o r.1) (cells_in r.1))) h.1 member))
+
+      waiting-stand : (q : ℕ) (z : P) (call : OpenCall) (r : ℕ × CellReply Name) → numbered_from_one q u.processes ≡ Some z → machine.open_call z ≡ Some call → IsIn r (replies_of u q)
+          → AllStand machine.types more calls_by (typed_list machine.types (types_of_reply machine.types call.call_type r.1) (cells_in r.1))
+      waiting-stand q z call r is opened member = by (calls-before machine Is keeps ports s sound u p x y w at a change q z call is opened) (change.answers q r member)
+        where
+          by : WasOpen machine Is keeps ports s sound u p x y w at a change q z call → IsIn r (replies_of s q) ⊎ AnsweredTo w a q r
+              → AllStand machine.types more calls_by (typed_list machine.types (types_of_reply machine.types call.call_type r.1) (cells_in r.1))
+          by (inl h) (inl before) = placed-before.waiting q h.0 call r h.1 h.2 before
+          by (inl h) (inr e) = reply-stands q h.0 call r h.1 h.2 e.0
+          by (inr h) (inl before) = absurd (no-replies machine Is keeps ports s sound p x change.was h.2 r (subst (λ q. IsIn r (replies_of s q)) (sym h.0) before))
+          by (inr h) (inr e) = none-not_some (ap is_put (sym e.1 ∙ h.3.2))
+
+      queued-stand : (n t v : ℕ) (q : Port (Cell Name)) (m : Cell Name) → slice_get more n ≡ Some t → message_of_port machine.types t ≡ Some v → slice_get u.ports n ≡ Some q → IsIn m (left_in q)
+          → AllStand machine.types more calls_by (typed_of machine.types v m)
+      queued-stand n t v q m types of there member = by (change.messages n q m there member)
+        where
+          by : ((o : Port (Cell Name)) × (slice_get s.ports n ≡ Some o) × IsIn m (left_in o)) ⊎ WentTo w a n m → AllStand machine.types more calls_by (typed_of machine.types v m)
+          by (inl o) =
+              let t0 = there-too ports s.ports n o.0 sound.ports.types o.1 in
+              let same : t0.0 ≡ t = some-injective (sym (got-more ports (new_types machine Is keeps x a) n t0.0 t0.1) ∙ types) in
+              placed-before.queued n t v o.0 m (t0.1 ∙ ap (λ t. Some t) same) of o.1 o.2
+          by (inr e) = λ j k h.
+              let going = subst (λ a. AllStand machine.types more calls_by (typed_going machine.types more calls_by (to_put n m) a)) e.1.1 (own.2 (to_put n m) e.0) in
+              going j k
+              (in-some (λ t. list_of (λ v. typed_of machine.types v m) (message_of_port machine.types t)) (j, k) (slice_get more n) t types
+              (in-some (λ v. typed_of machine.types v m) (j, k) (message_of_port machine.types t) v of h))
+
+      pub placed-behind : AllPlaced machine more Stands u
+      placed-behind = record { held = held-stand; waiting = waiting-stand; queued = queued-stand }
+
+      pub all-behind : (t : ℕ) (k : Kind) → IsIn (t, k) (typed_cells machine more u) → Stands t k
+      all-behind = placed-all machine more u Stands placed-behind

@@ -8,7 +8,7 @@ use Rattle.herm_journal.proofs.Rising.{same-true}
 use Rattle.herm_journal.specs.PlaceStates.{after}
 use Rattle.herm_journal.specs.Entries.{Place, port, reply_cell, book, same_place}
 use Rattle.herm_journal.specs.Messages.{CellWant, CellAction}
-use Rattle.herm_system.specs.Machines.{Machine, Standing, is_local, is_acting, inport_of}
+use Rattle.herm_system.specs.Machines.{Machine, Standing, is_local, is_acting}
 use Rattle.herm_system.specs.Sound.{IsSoundWith}
 use Rattle.herm_system.specs.Systems.{System, Moved, steps, acts, step, numbered_from_one, places_for, done_at, done_in, holding_at, set_holding, set_process, with_made, number_of, can, can_be_done, standing, stands}
 use Rattle.herm_runs.proofs.ActionParts.{action-of, step-of}
@@ -48,7 +48,7 @@ module _ {P : Type 0} (machine : Machine Name P) (Is : P → Type 0) (keeps : Ke
   made-there x p w place h a (port_made b n e) has s = (_, refl)
   made-there x p w place h a (port_refused b e) has s = (_, refl)
   made-there x p w place h a (process_made code b made e) has s =
-      let z = has.3 made.0 (inport_of machine made.1 x) in (_, ap (option_map _) z.1)
+      let z = has.3 made.0 made.1 (machine.number x, machine.serial x) in (_, ap (option_map _) z.1)
   made-there x p w place h a (process_refused code b e) has s = (_, refl)
   made-there x p w place h a (placed n m q k) has s = (_, refl)
   made-there x p w place h a (came_back n m q k) has s = (_, refl)

@@ -14,11 +14,12 @@ use Rattle.herm_system.specs.Ledger.{HasLedger}
 use Rattle.herm_system.specs.Summary.{how_many}
 use Rattle.herm_system.specs.Systems.{System, Run, run, run_on, step, start, opening, opening_name, main_port, console_port, first_message, numbered_from_one}
 use Rattle.herm_system.specs.Kinds.{kinds_of, typed_of, replies_of, unfinalised, has_open, is_open_port, is_inport_of, is_callmessage_of}
-use Rattle.herm_system.specs.Sound.{one_if, console_type, IsNumbered, IsSoundWith, IsSoundFor}
+use Rattle.herm_system.specs.Sound.{one_if, console_type, IsNumbered, IsSoundWith}
 use Rattle.herm_runs.specs.Counting.{IsOfWaiting}
 use Rattle.herm_runs.proofs.Numbered.{opening-numbered, numbered-once}
 use Rattle.herm_runs.proofs.SystemLedger.{opening-balance}
-use Rattle.herm_sound.specs.Standing.{at_type, StandsAt, AllStand, typed_places}
+use Rattle.herm_sound.specs.Standing.{at_type, StandsAt, AllStand, OutportsStand, typed_places}
+use Rattle.herm_sound.specs.SoundBeside.{IsSoundBeside}
 use Rattle.herm_sound.specs.SoundMachines.{KeepsSound, BeginsSound}
 use Rattle.herm_sound.specs.laws.SoundLaws.{OpeningIsSound, RunsKeepSound, RunsAreSound, StatesAlongAreSound}
 use Rattle.herm_sound.proofs.Counted.{unfinalised-parts}
@@ -115,8 +116,8 @@ module _ {P : Type 0} (machine : Machine Name P) (Is : P → Type 0) (keeps : Ke
     abbrev Stands : ℕ → Kind → Type 0
     Stands = StandsAt machine.types ports (λ caller call. None)
 
-    held-stand : (t : ℕ) (k : Kind) → IsIn (t, k) (typed_places machine first) → Stands t k
-    held-stand = (keeps.standing ports (λ caller call. None)).begins machine.main 1 1 (opening_name 1) first is-first
+    first-stands : AllStand machine.types ports (λ caller call. None) (typed_places machine first) × OutportsStand machine.types ports (keeps.beside first)
+    first-stands = (keeps.standing ports (λ caller call. None)).begins machine.main 1 1 (opening_name 1) first is-first
         (subst (λ o. AllStand machine.types ports (λ caller call. None) (at_type (an_inport 1) o)) (sym begins.types) one)
       where
         one : AllStand machine.types ports (λ caller call. None) ((begins.port_type, an_inport 1) ∷ [])
@@ -135,7 +136,7 @@ module _ {P : Type 0} (machine : Machine Name P) (Is : P → Type 0) (keeps : Ke
 
     placed : AllPlaced machine ports Stands opened
     placed = record {
-      held = λ q z is. of-first (λ z. (t : ℕ) (k : Kind) → IsIn (t, k) (typed_places machine z) → Stands t k) held-stand q z is;
+      held = λ q z is. of-first (λ z. (t : ℕ) (k : Kind) → IsIn (t, k) (typed_places machine z) → Stands t k) first-stands.0 q z is;
       waiting = λ q z call r is opens member t k h. absurd (no-reply q r member);
       queued = queued-stand;
     }
@@ -164,22 +165,24 @@ module _ {P : Type 0} (machine : Machine Name P) (Is : P → Type 0) (keeps : Ke
           numbers = numbers;
         }
 
-    sound-opening : IsSoundFor machine Is (opening machine limits argument)
-    sound-opening = subst (IsSoundFor machine Is) (sym same-opening) (ports, opened-sound)
+    sound-opening : IsSoundBeside machine Is keeps.beside (opening machine limits argument)
+    sound-opening =
+        subst (IsSoundBeside machine Is keeps.beside) (sym same-opening)
+        (ports, record { sound = opened-sound; stands = of-first (λ z. OutportsStand machine.types ports (keeps.beside z)) first-stands.1 })
 
-  pub opening-is-sound : OpeningIsSound machine Is
+  pub opening-is-sound : OpeningIsSound machine Is keeps.beside
   opening-is-sound limits argument texts = sound-opening limits argument texts
 
-pub runs-keep-sound : {P : Type 0} (machine : Machine Name P) (Is : P → Type 0) → KeepsSound machine Is → RunsKeepSound machine Is
-runs-keep-sound machine Is keeps [] r t e sound = subst (λ (r : Run _). IsSoundFor machine Is r.system) (some-injective e) sound
+pub runs-keep-sound : {P : Type 0} (machine : Machine Name P) (Is : P → Type 0) → (keeps : KeepsSound machine Is) → RunsKeepSound machine Is keeps.beside
+runs-keep-sound machine Is keeps [] r t e sound = subst (λ (r : Run _). IsSoundBeside machine Is keeps.beside r.system) (some-injective e) sound
 runs-keep-sound machine Is keeps (e ∷ events) r t is sound =
     let b = chain-some (run machine events) (run_on machine e r) t is in
     let m = map-some _ (step machine e r.system) b.0 b.1 in
-    runs-keep-sound machine Is keeps events b.0 t b.2 (subst (λ (r : Run _). IsSoundFor machine Is r.system) m.2 (steps-keep-sound machine Is keeps e r.system m.0 m.1 sound))
+    runs-keep-sound machine Is keeps events b.0 t b.2 (subst (λ (r : Run _). IsSoundBeside machine Is keeps.beside r.system) m.2 (steps-keep-sound machine Is keeps e r.system m.0 m.1 sound))
 
 module _ {P : Type 0} (machine : Machine Name P) (Is : P → Type 0) (keeps : KeepsSound machine Is) (begins : BeginsSound machine keeps.first_type) where
-  pub runs-are-sound : RunsAreSound machine Is
+  pub runs-are-sound : RunsAreSound machine Is keeps.beside
   runs-are-sound limits argument events r texts e = runs-keep-sound machine Is keeps events (start machine limits argument) r e (opening-is-sound machine Is keeps begins limits argument texts)
 
-  pub states-along : StatesAlongAreSound machine Is
+  pub states-along : StatesAlongAreSound machine Is keeps.beside
   states-along limits argument journal s texts along = runs-are-sound limits argument along.3.0 _ texts along.3.1

@@ -6,10 +6,10 @@ use Rattle.herm_model.proofs.Lists.{found-in}
 use Rattle.herm_model.proofs.Options.{some-injective, none-not_some}
 use Rattle.herm_system.specs.Machines.{Machine, is_local, is_acting}
 use Rattle.herm_system.specs.Rounds.{Round, rounds, turns, turn, after_turn, first_place, place_or_book}
-use Rattle.herm_system.specs.Sound.{IsSoundFor}
 use Rattle.herm_system.specs.Systems.{System, Moved, Event, steps, acts, Run, run, run_on, step, start, places_for, done_in, stands, with_entry}
 use Rattle.herm_runs.proofs.Events.{run-joined}
 use Rattle.herm_runs.proofs.RoundsEnd.{rounds-final}
+use Rattle.herm_sound.specs.SoundBeside.{IsSoundBeside}
 use Rattle.herm_sound.specs.SoundMachines.{KeepsSound, BeginsSound, GoesOn, KeepsLimits}
 use Rattle.herm_sound.specs.laws.SoundLaws.{most_events, EventsAreBounded, RoundsSuffice}
 use Rattle.herm_sound.proofs.BoundedEvents.{events-bounded}
@@ -31,23 +31,23 @@ found-there {X} test (z ∷ xs) x h e = by (test z) refl h (λ h. found-there te
 
 module _ {P : Type 0} (machine : Machine Name P) (Is : P → Type 0) (keeps : KeepsSound machine Is) (goes : GoesOn machine Is) where
   -- the next event of a process, if it has one, is there
-  turn-there : (s : System P) (p : ℕ) (e : Event) → IsSoundFor machine Is s → turn machine s p ≡ Some e → (m : Moved P) × (step machine e s ≡ Some m)
+  turn-there : (s : System P) (p : ℕ) (e : Event) → IsSoundBeside machine Is keeps.beside s → turn machine s p ≡ Some e → (m : Moved P) × (step machine e s ≡ Some m)
   turn-there s p e sound is = by (stands is_local machine s p) (stands is_acting machine s p) refl refl is
     where
       acting : stands is_acting machine s p ≡ true → (m : Moved P) × (step machine (acts p (place_or_book (first_place machine s p))) s ≡ Some m)
       acting stood =
-          let w = wanted-there machine Is keeps goes s sound.0 sound.1 p stood in
+          let w = wanted-there machine Is keeps goes s sound.0 sound.1.sound p stood in
           let found = found-there (λ place. is_some (done_in w.1 s place)) (places_for p w.1) w.2 w.5 w.6 in
           let first : first_place machine s p ≡ Some found.0 =
           ap (option_and_then (λ x. option_and_then (λ w. find (λ place. is_some (done_in w s place)) (places_for p w)) (machine.wanted x))) w.3
           ∙ ap (option_and_then (λ w. find (λ place. is_some (done_in w s place)) (places_for p w))) w.4
           ∙ found.1 in
           let passes = found-in (λ place. is_some (done_in w.1 s place)) found.0 (places_for p w.1) found.1 in
-          let m = acts-there machine Is keeps goes s sound.0 sound.1 p stood w.0 w.1 found.0 w.3 w.4 (among-places found.0 (places_for p w.1) passes.0) passes.1 in
+          let m = acts-there machine Is keeps goes s sound.0 sound.1.sound p stood w.0 w.1 found.0 w.3 w.4 (among-places found.0 (places_for p w.1) passes.0) passes.1 in
           (m.0, ap (λ o. step machine (acts p (place_or_book o)) s) first ∙ m.1)
 
       by : (a b : Bool) → stands is_local machine s p ≡ a → stands is_acting machine s p ≡ b → cond a (Some (steps p)) (cond b (Some (acts p (place_or_book (first_place machine s p)))) None) ≡ Some e → (m : Moved P) × (step machine e s ≡ Some m)
-      by true b a-is b-is is = subst (λ e. (m : Moved P) × (step machine e s ≡ Some m)) (some-injective is) (steps-there machine Is keeps goes s sound.0 sound.1 p a-is)
+      by true b a-is b-is is = subst (λ e. (m : Moved P) × (step machine e s ≡ Some m)) (some-injective is) (steps-there machine Is keeps goes s sound.0 sound.1.sound p a-is)
       by false true a-is b-is is = subst (λ e. (m : Moved P) × (step machine e s ≡ Some m)) (some-injective is) (acting b-is)
       by false false a-is b-is is = none-not_some is
 
@@ -57,7 +57,7 @@ module _ {P : Type 0} (machine : Machine Name P) (Is : P → Type 0) (keeps : Ke
     leads : run machine events r.run ≡ Some t.run
     moved : t.moved ≡ true → (r.moved ≡ true) ⊎ (1 ≤ length events)
 
-  one-turn : (r : Round P) (p : ℕ) → IsSoundFor machine Is r.run.system → (t : Round P) × (after_turn machine (turn machine r.run.system p) r ≡ Some t) × IsTurned r t
+  one-turn : (r : Round P) (p : ℕ) → IsSoundBeside machine Is keeps.beside r.run.system → (t : Round P) × (after_turn machine (turn machine r.run.system p) r ≡ Some t) × IsTurned r t
   one-turn r p sound = by (turn machine r.run.system p) refl
     where
       by : (o : Option Event) → turn machine r.run.system p ≡ o → (t : Round P) × (after_turn machine o r ≡ Some t) × IsTurned r t
@@ -90,7 +90,7 @@ module _ {P : Type 0} (machine : Machine Name P) (Is : P → Type 0) (keeps : Ke
       later (inl e) = first (a.moved e)
       later (inr h) = inr (omega (arith, h, joined-length a.events b.events))
 
-  turns-there : (n p : ℕ) (r : Round P) → IsSoundFor machine Is r.run.system → (t : Round P) × (turns n machine p r ≡ Some t) × IsTurned r t
+  turns-there : (n p : ℕ) (r : Round P) → IsSoundBeside machine Is keeps.beside r.run.system → (t : Round P) × (turns n machine p r ≡ Some t) × IsTurned r t
   turns-there zero p r sound = (r, refl, record { events = []; leads = refl; moved = λ e. inl e })
   turns-there (suc n) p r sound =
       let one = one-turn r p sound in
@@ -98,7 +98,7 @@ module _ {P : Type 0} (machine : Machine Name P) (Is : P → Type 0) (keeps : Ke
       (rest.0, ap (λ o. elim o [ None ↦ None | Some next ↦ turns n machine (suc p) next ]) one.1 ∙ rest.1, both-turned r one.0 rest.0 one.2 rest.2)
 
   module _ (most : ℕ) (first : Run P) (bounded : (events : List Event) (r : Run P) → run machine events first ≡ Some r → length events ≤ most) where
-    rounds-there : (n : ℕ) (events : List Event) (r : Run P) → run machine events first ≡ Some r → suc most ≤ length events + n → IsSoundFor machine Is r.system → (t : Run P) × (rounds n machine r ≡ Some t)
+    rounds-there : (n : ℕ) (events : List Event) (r : Run P) → run machine events first ≡ Some r → suc most ≤ length events + n → IsSoundBeside machine Is keeps.beside r.system → (t : Run P) × (rounds n machine r ≡ Some t)
     rounds-there zero events r is enough sound = absurd (omega (arith, bounded events r is, enough))
     rounds-there (suc n) events r is enough sound =
         let round = turns-there r.system.book.limits.processes 1 (record { run = r; moved = false }) sound in
@@ -109,7 +109,7 @@ module _ {P : Type 0} (machine : Machine Name P) (Is : P → Type 0) (keeps : Ke
         some-made t k e (inl no_more) = absurd (true≢false (sym no_more))
         some-made t k e (inr h) = h
 
-        by : ((events : List Event) (u : Run P) → run machine events first ≡ Some u → suc most ≤ length events + n → IsSoundFor machine Is u.system → (t : Run P) × (rounds n machine u ≡ Some t))
+        by : ((events : List Event) (u : Run P) → run machine events first ≡ Some u → suc most ≤ length events + n → IsSoundBeside machine Is keeps.beside u.system → (t : Run P) × (rounds n machine u ≡ Some t))
             → (t : Round P) (k : IsTurned (record { run = r; moved = false }) t) → (b : Bool) → t.moved ≡ b → (u : Run P) × (elim (t.moved) [ false ↦ Some t.run | true ↦ rounds n machine t.run ] ≡ Some u)
         by next t k false e = (t.run, ap (λ b. elim b [ false ↦ Some t.run | true ↦ rounds n machine t.run ]) e)
         by next t k true e =

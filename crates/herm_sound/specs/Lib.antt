@@ -1,3 +1,4 @@
 pub mod Standing
 pub mod SoundMachines
+pub mod SoundBeside
 pub mod laws

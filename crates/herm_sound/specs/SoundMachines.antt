@@ -3,7 +3,7 @@ use Rattle.std.specs.Prelude.{◌≡◌, ◌⊎◌, ◌<◌, ◌≤◌, ℕ, suc
 use Rattle.herm_model.specs.Lists.{IsIn}
 use Rattle.herm_model.specs.Calls.{led_to}
 use Rattle.herm_model.specs.Typed.{is_text}
-use Rattle.herm_model.specs.Values.{Name, a_callmessage, an_inport, an_outport, Cell, cell, no_parts}
+use Rattle.herm_model.specs.Values.{Name, Kind, a_callmessage, an_inport, an_outport, Cell, cell, no_parts}
 use Rattle.herm_journal.specs.Actions.{gone, new_port, new_process, to_put, to_take, to_close, to_answer, to_hear, put, hear}
 use Rattle.herm_journal.specs.Entries.{Text}
 use Rattle.herm_journal.specs.Messages.{CellWant, CellAction, is_inport, message_of_port, IsMessage, IsReplyTo}
@@ -14,7 +14,7 @@ use Rattle.herm_system.specs.Sound.{console_type}
 use Rattle.herm_system.specs.Suiting.{Answers, Suits}
 use Rattle.herm_runs.specs.Counting.{KeepsCounts}
 use Rattle.herm_runs.specs.laws.ProcessLaws.{KeepsNumbers, KeepsLedger}
-use Rattle.herm_sound.specs.Standing.{at_type, AllStand, typed_places, typed_coming, typed_made, typed_going}
+use Rattle.herm_sound.specs.Standing.{at_type, AllStand, OutportsStand, typed_places, typed_coming, typed_made, typed_going}
 
 module _ {P : Type 0} (machine : Machine Name P) where
   -- An open call is opened by a message that is placed, closed by a reply that is heard, and by nothing else.
@@ -33,7 +33,7 @@ module _ {P : Type 0} (machine : Machine Name P) where
     abbrev pub HasFor : P → CellWant Name → Type 0
     HasFor x new_port = (t : ℕ) × (new_type x ≡ Some t) × IsTrue (is_inport (slice_get machine.types t))
     HasFor x (new_process code) =
-        (t : ℕ) × (first_type code ≡ Some t) × IsTrue (is_inport (slice_get machine.types t)) × ((number : ℕ) (port : Cell Name) → (z : P) × (machine.begin code number port ≡ Some z))
+        (t : ℕ) × (first_type code ≡ Some t) × IsTrue (is_inport (slice_get machine.types t)) × ((number port : ℕ) (n : Name) → (z : P) × (machine.begin code number (cell n (an_inport port) no_parts) ≡ Some z))
     HasFor x (to_put n m) =
         (t u : ℕ) × IsIn (t, an_outport n) (typed_places machine x) × (option_and_then led_to (slice_get machine.types t) ≡ Some u) × IsMessage machine.types u m
     HasFor x (to_take ports) = (n : ℕ) → IsIn n ports → (t : ℕ) × (machine.port_type x n ≡ Some t) × IsIn (t, an_inport n) (typed_places machine x)
@@ -42,17 +42,18 @@ module _ {P : Type 0} (machine : Machine Name P) where
         (IsIn (a_callmessage caller call) (kinds_by machine x) × (r ≡ gone)) ⊎ ((t : ℕ) × IsIn (t, a_callmessage caller call) (typed_places machine x) × IsReplyTo machine.types (Some t) r)
     HasFor x to_hear = (call : OpenCall) × (machine.open_call x ≡ Some call)
 
-    -- Where ports and the callmessages of calls have these types: a process begins with its cells at places of their types where its port
-    -- is of its module's type. So it stays along local steps, and along each answer to what it wants, where what comes in suits and
-    -- stands so, and what it makes; and what goes out stands so too.
-    pub record KeepsStanding (Is : P → Type 0) (ports : List ℕ) (calls : ℕ → ℕ → Option ℕ) : Type 0 where
+    -- Where ports and the callmessages of calls have these types: a process begins with its cells, and the outports among the values that
+    -- it has beside them, at places of their types where its port is of its module's type. So it stays along local steps, and along each
+    -- answer to what it wants, where what comes in suits and stands so, and what it makes; and what goes out stands so too.
+    pub record KeepsStanding (Is : P → Type 0) (beside : P → List (ℕ × Kind)) (ports : List ℕ) (calls : ℕ → ℕ → Option ℕ) : Type 0 where
       pub begins : (code number port : ℕ) (n : Name) (x : P) → machine.begin code number (cell n (an_inport port) no_parts) ≡ Some x
-          → AllStand machine.types ports calls (at_type (an_inport port) (first_type code)) → AllStand machine.types ports calls (typed_places machine x)
-      pub local_steps : (x y : P) → Is x → machine.local_step x ≡ Some y → AllStand machine.types ports calls (typed_places machine x) → AllStand machine.types ports calls (typed_places machine y)
+          → AllStand machine.types ports calls (at_type (an_inport port) (first_type code)) → AllStand machine.types ports calls (typed_places machine x) × OutportsStand machine.types ports (beside x)
+      pub local_steps : (x y : P) → Is x → machine.local_step x ≡ Some y → AllStand machine.types ports calls (typed_places machine x) → OutportsStand machine.types ports (beside x)
+          → AllStand machine.types ports calls (typed_places machine y) × OutportsStand machine.types ports (beside y)
       pub answers : (x y : P) (want : CellWant Name) (at : ℕ) (a : CellAction Name) → Is x → machine.wanted x ≡ Some want → Answers want a → Suits machine x at a → machine.answered x at a ≡ Some y
-          → AllStand machine.types ports calls (typed_places machine x) → AllStand machine.types ports calls (typed_coming machine x at a)
+          → AllStand machine.types ports calls (typed_places machine x) → OutportsStand machine.types ports (beside x) → AllStand machine.types ports calls (typed_coming machine x at a)
           → AllStand machine.types ports calls (typed_made machine first_type new_type x y a)
-          → AllStand machine.types ports calls (typed_places machine y) × AllStand machine.types ports calls (typed_going machine.types ports calls want a)
+          → AllStand machine.types ports calls (typed_places machine y) × OutportsStand machine.types ports (beside y) × AllStand machine.types ports calls (typed_going machine.types ports calls want a)
 
   -- What is sound within a process holds of each that begins with the inport of a port, and stays along local steps and along each
   -- answer to what it wants, where what comes in suits. A process begins with no call open, and calls open and close as they may.
@@ -64,15 +65,17 @@ module _ {P : Type 0} (machine : Machine Name P) where
 
   -- A machine of which each step of a system keeps a sound state sound.
   pub record KeepsSound (Is : P → Type 0) : Type 0 where
-    -- the types of the ports of modules, and of the inport that a process makes next
+    -- the types of the ports of modules, and of the inport that a process makes next; and the values that a process has beside its cells,
+    -- with the types of their places
     pub first_type : ℕ → Option ℕ
     pub new_type : P → Option ℕ
+    pub beside : P → List (ℕ × Kind)
     pub numbers : KeepsNumbers machine
     pub ledger : KeepsLedger machine
     pub counts : KeepsCounts machine Is
     pub processes : StaysSound Is
     pub wants : (x : P) (want : CellWant Name) → Is x → machine.wanted x ≡ Some want → HasFor first_type new_type x want
-    pub standing : (ports : List ℕ) (calls : ℕ → ℕ → Option ℕ) → KeepsStanding first_type new_type Is ports calls
+    pub standing : (ports : List ℕ) (calls : ℕ → ℕ → Option ℕ) → KeepsStanding first_type new_type Is beside ports calls
 
   -- A system begins with a process of main, whose port is of an inport type of which the first message with a text is one, with its
   -- cells at places of their types; and the console's type is an inport type. Language reference, "Opening state".

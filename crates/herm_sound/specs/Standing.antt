@@ -26,6 +26,15 @@ module _ (types : TypeTable) (ports : List ℕ) (calls : ℕ → ℕ → Option 
   abbrev pub AllStand : List (ℕ × Kind) → Type 0
   AllStand xs = (t : ℕ) (k : Kind) → IsIn (t, k) xs → StandsAt t k
 
+-- Of values that are no cells only outports are of ports: each stands at a place whose type leads to its port's.
+-- Language reference, "Sound states".
+abbrev pub OutportsStand : TypeTable → (ports : List ℕ) → List (ℕ × Kind) → Type 0
+OutportsStand types ports xs = (t n : ℕ) → IsIn (t, an_outport n) xs → (u : ℕ) × (option_and_then led_to (slice_get types t) ≡ Some u) × (slice_get ports n ≡ Some u)
+
+-- a process that has no values but its cells
+abbrev pub cells_alone : {P : Type 0} → P → List (ℕ × Kind)
+cells_alone x = []
+
 -- What goes out with an action: a message that is placed, or a reply, each cell with the type of its place.
 abbrev pub typed_going : TypeTable → (ports : List ℕ) → (calls : ℕ → ℕ → Option ℕ) → CellWant Name → CellAction Name → List (ℕ × Kind)
 typed_going types ports calls (to_put n m) (put (Some number) m') = list_of (λ t. list_of (λ u. typed_of types u m) (message_of_port types t)) (slice_get ports n)

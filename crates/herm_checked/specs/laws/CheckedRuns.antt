@@ -1,5 +1,5 @@
 -- What is claimed of the runs of checked programs: of typed programs and their accepted modules, with a text as argument.
-use Rattle.std.specs.Prelude.{◌≡◌, ◌↔◌, ℕ, List, Some, IsTrue}
+use Rattle.std.specs.Prelude.{◌≡◌, ◌↔◌, ◌++◌, ℕ, List, Some, IsTrue}
 use Rattle.herm_model.specs.Typed.{is_text}
 use Rattle.herm_model.specs.Values.{Name}
 use Rattle.herm_journal.specs.PlaceStates.{Limits}
@@ -12,7 +12,7 @@ use Rattle.herm_system.specs.Reports.{IsAlong, Report, IsReportOf}
 use Rattle.herm_system.specs.RunTexts.{queues, Asked, plainly, text_of_run}
 use Rattle.herm_system.specs.Statuses.{status_of}
 use Rattle.herm_system.specs.Summary.{counts}
-use Rattle.herm_system.specs.Sound.{IsSoundFor}
+use Rattle.herm_system.specs.Sound.{IsSoundWith, IsSoundFor}
 use Rattle.herm_runs.specs.laws.DiaryLaws.{EventSuits, SuitsAlong}
 use Rattle.herm_source.specs.AcceptedRuns.{AreAccepted, FindsNeeds, Describes}
 use Rattle.herm_source.specs.Checked.{IsChecked}
@@ -21,7 +21,7 @@ use Rattle.herm_source.specs.Modules.{Program, Modules}
 use Rattle.herm_source.specs.States.{State}
 use Rattle.herm_source.specs.laws.NeedsLaws.{HasWellFormedBodies, StandsReached}
 use Rattle.herm_source.specs.laws.SoundProcesses.{IsSoundProcess}
-use Rattle.herm_sound.specs.laws.SoundLaws.{StepsKeepTypes, GoOnFrom, ClosesOpenPorts, AnswersOpenCalls, PortsCloseOnce, CallsAreAnsweredOnce, EventsAreBounded, RoundsSuffice}
+use Rattle.herm_sound.specs.laws.SoundLaws.{GoOnFrom, ClosesOpenPorts, AnswersOpenCalls, PortsCloseOnce, CallsAreAnsweredOnce, EventsAreBounded, RoundsSuffice}
 
 -- A sound state in which each process stands where a control path leads.
 abbrev pub IsSoundAndReached : Program → Modules → System (State Name) → Type 0
@@ -41,7 +41,8 @@ CheckedStepsKeepSound = OfChecked (λ program modules. (e : Event) (s : System (
 
 -- The types of the ports stay, and those of new ports come behind them.
 abbrev pub CheckedStepsKeepTypes : Type 0
-CheckedStepsKeepTypes = OfChecked (λ program modules. StepsKeepTypes (source modules) (IsSoundProcess program modules))
+CheckedStepsKeepTypes = OfChecked (λ program modules. (e : Event) (s : System (State Name)) (m : Moved (State Name)) → step (source modules) e s ≡ Some m
+    → (types : List ℕ) → IsSoundWith (source modules) (IsSoundProcess program modules) types s → (new : List ℕ) × IsSoundWith (source modules) (IsSoundProcess program modules) (types ++ new) m.system)
 
 -- Behind an event of any state of accepted modules, sound or not, each process stands where a control path leads, if each did before.
 -- Language reference, "Control paths".

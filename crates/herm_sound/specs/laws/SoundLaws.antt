@@ -1,8 +1,8 @@
 -- What is claimed of sound states, over any machine.
-use Rattle.std.specs.Prelude.{◌≡◌, ◌+◌, ◌*◌, ◌≤◌, ◌<◌, ◌&&◌, ◌++◌, ℕ, suc, max, List, Bool, true, false, nat_eq, length, Some, is_some, IsTrue}
+use Rattle.std.specs.Prelude.{◌≡◌, ◌↔◌, ◌+◌, ◌*◌, ◌≤◌, ◌<◌, ◌&&◌, ◌++◌, ℕ, suc, max, List, Bool, true, false, nat_eq, length, Some, is_some, IsTrue}
 use Rattle.herm_model.specs.Lists.{IsIn, any_pass}
 use Rattle.herm_model.specs.Typed.{is_text}
-use Rattle.herm_model.specs.Values.{Name, Cell}
+use Rattle.herm_model.specs.Values.{Name, Kind, Cell}
 use Rattle.herm_journal.specs.Actions.{Action, to_take, to_hear, close, answer, hear}
 use Rattle.herm_journal.specs.PlaceStates.{Limits}
 use Rattle.herm_journal.specs.Entries.{Text, Place, port, reply_cell, same_place, Entry}
@@ -16,6 +16,8 @@ use Rattle.herm_system.specs.Kinds.{unfinalised, replies_of, is_callmessage_of, 
 use Rattle.herm_system.specs.Reports.{IsAlong, IsSoOfAll}
 use Rattle.herm_system.specs.Sound.{one_if, IsNumbered, IsSoundWith, IsSoundFor}
 use Rattle.herm_system.specs.Summary.{how_many}
+use Rattle.herm_sound.specs.Standing.{cells_alone}
+use Rattle.herm_sound.specs.SoundBeside.{IsSoundBesideWith, IsSoundBeside}
 
 -- A state is one of these. So is said any property of states, by the type of those that have it.
 abbrev pub IsAmong : {J P : Type 0} → (J → P) → P → Type 0
@@ -107,29 +109,35 @@ module _ {P : Type 0} (machine : Machine Name P) where
   abbrev pub RoundsSuffice : Type 0
   RoundsSuffice = (limits : Limits) (argument : Text) → IsTrue (is_text argument) → 1 ≤ limits.processes → (t : Run P) × (rounds (suc (most_events limits)) machine (start machine limits argument) ≡ Some t) × IsFinal machine t.system
 
-module _ {P : Type 0} (machine : Machine Name P) (Is : P → Type 0) where
-  -- What an event leaves of a sound state is a sound state. Language reference, "Sound states".
+module _ {P : Type 0} (machine : Machine Name P) (Is : P → Type 0) (beside : P → List (ℕ × Kind)) where
+  -- What an event leaves of a sound state is a sound state, with the values that processes have beside their cells.
+  -- Language reference, "Sound states".
   abbrev pub StepsKeepSound : Type 0
-  StepsKeepSound = (e : Event) (s : System P) (m : Moved P) → step machine e s ≡ Some m → IsSoundFor machine Is s → IsSoundFor machine Is m.system
+  StepsKeepSound = (e : Event) (s : System P) (m : Moved P) → step machine e s ≡ Some m → IsSoundBeside machine Is beside s → IsSoundBeside machine Is beside m.system
 
   -- The types of the ports stay, and those of new ports come behind them.
   abbrev pub StepsKeepTypes : Type 0
-  StepsKeepTypes = (e : Event) (s : System P) (m : Moved P) → step machine e s ≡ Some m → (types : List ℕ) → IsSoundWith machine Is types s → (new : List ℕ) × IsSoundWith machine Is (types ++ new) m.system
+  StepsKeepTypes = (e : Event) (s : System P) (m : Moved P) → step machine e s ≡ Some m → (types : List ℕ) → IsSoundBesideWith machine Is beside types s → (new : List ℕ) × IsSoundBesideWith machine Is beside (types ++ new) m.system
 
   -- So is what a list of events leaves.
   abbrev pub RunsKeepSound : Type 0
-  RunsKeepSound = (events : List Event) (r t : Run P) → run machine events r ≡ Some t → IsSoundFor machine Is r.system → IsSoundFor machine Is t.system
+  RunsKeepSound = (events : List Event) (r t : Run P) → run machine events r ≡ Some t → IsSoundBeside machine Is beside r.system → IsSoundBeside machine Is beside t.system
 
   -- The state at the start is sound, with any text as the argument. Language reference, "Opening state".
   abbrev pub OpeningIsSound : Type 0
-  OpeningIsSound = (limits : Limits) (argument : Text) → IsTrue (is_text argument) → IsSoundFor machine Is (opening machine limits argument)
+  OpeningIsSound = (limits : Limits) (argument : Text) → IsTrue (is_text argument) → IsSoundBeside machine Is beside (opening machine limits argument)
 
   -- So each state that events lead to is sound, and each along a journal.
   abbrev pub RunsAreSound : Type 0
-  RunsAreSound = (limits : Limits) (argument : Text) (events : List Event) (r : Run P) → IsTrue (is_text argument) → run machine events (start machine limits argument) ≡ Some r → IsSoundFor machine Is r.system
+  RunsAreSound = (limits : Limits) (argument : Text) (events : List Event) (r : Run P) → IsTrue (is_text argument) → run machine events (start machine limits argument) ≡ Some r → IsSoundBeside machine Is beside r.system
 
   abbrev pub StatesAlongAreSound : Type 0
-  StatesAlongAreSound = (limits : Limits) (argument : Text) (journal : List Entry) (s : System P) → IsTrue (is_text argument) → IsAlong machine (opening machine limits argument) journal s → IsSoundFor machine Is s
+  StatesAlongAreSound = (limits : Limits) (argument : Text) (journal : List Entry) (s : System P) → IsTrue (is_text argument) → IsAlong machine (opening machine limits argument) journal s → IsSoundBeside machine Is beside s
+
+module _ {P : Type 0} (machine : Machine Name P) (Is : P → Type 0) where
+  -- Where processes have no values but their cells, a sound state is one with nothing beside.
+  abbrev pub CellsAreAll : Type 0
+  CellsAreAll = (types : List ℕ) (s : System P) → IsSoundWith machine Is types s ↔ IsSoundBesideWith machine Is cells_alone types s
 
   -- In a sound state no process is stuck. Language reference, "Sound states".
   abbrev pub NoneIsStuck : Type 0
