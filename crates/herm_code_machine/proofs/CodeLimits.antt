@@ -1,5 +1,5 @@
 -- A process of code counts its steps and actions, and makes none beyond its limit.
-use Rattle.std.proofs.Common.{◌≡◌, ◌≤◌, ◌<◌, ℕ, zero, suc, List, [], ◌∷◌, Bool, true, false, cond, not, Option, Some, None, option_and_then, slice_get, refl, sym, ap, subst, ◌∙◌, arith}
+use Rattle.std.proofs.Common.{◌≡◌, ◌≤◌, ◌<◌, ℕ, zero, suc, List, [], ◌∷◌, Bool, true, false, cond, not, Option, Some, None, slice_get, refl, sym, ap, subst, ◌∙◌, arith}
 use Rattle.std.specs.Prelude.{nat_lt, IsTrue, drop, ⊤}
 use Rattle.std.proofs.lemmas.Bool.Decides.{nat_tests}
 use mathlib.Core.Bool.{false≢true}
@@ -8,10 +8,10 @@ use Rattle.herm_model.specs.Values.{Name, Cell, Value}
 use Rattle.herm_model.proofs.Options.{none-not_some, some-injective, chain-some}
 use Rattle.herm_journal.specs.Messages.{CellAction}
 use Rattle.herm_forms.specs.Exchanges
-use Rattle.herm_forms.specs.Frames.{Frame, Completion, goes, stays, stuck, counted_step, counted_action}
+use Rattle.herm_forms.specs.Frames.{Frame, Completion, goes, stays, stuck, counted_action}
 use Rattle.herm_forms.proofs.KeptBodies.{IsKept}
 use Rattle.herm_forms.proofs.KeptBodies
-use Rattle.herm_system.specs.Machines.{Standing, ended, out_of_steps, local, to_act, greatest_actions, is_local, is_acting}
+use Rattle.herm_system.specs.Machines.{Standing, local, to_act, greatest_actions, is_local, is_acting}
 use Rattle.herm_sound.specs.SoundMachines.{KeepsLimits}
 use Rattle.herm_instructions.specs.Instructions.{Instruction, Const, Load}
 use Rattle.herm_instructions.specs.Images.{instruction_at}
@@ -19,7 +19,8 @@ use Rattle.herm_instructions.specs.Actions.{is_step, is_action}
 use Rattle.herm_code_machine.specs.ReadyCode.{ReadyCode, ReadyImage}
 use Rattle.herm_code_machine.specs.CodeActions.{code_settles, code_hears}
 use Rattle.herm_code_machine.specs.CodeStates.{Position, at_index, at_end, at_end_by, CodeState, first_frame}
-use Rattle.herm_code_machine.specs.Pieces.{Piece, Met, is_operand, piece_by, piece_at, action_from, action_of, stack_before_action}
+use Rattle.herm_instructions.specs.Pieces.{is_operand}
+use Rattle.herm_code_machine.specs.Pieces.{Piece, Met, piece_by, piece_at, action_from, action_of, stack_before_action}
 use Rattle.herm_code_machine.specs.CodeSteps.{CodeNext, an_item, a_reply, an_action, a_local_piece, nothing, met_at, by_action, by_piece, by_met, call_or_piece, item_or, code_next, counted_if, within_steps, ready_for, code_ready, step_next, worked, settled_action, settle_next}
 use Rattle.herm_code_machine.specs.CodeInstance.{own_name, code_at, ready_if, code_machine}
 use Rattle.herm_code_machine.proofs.RunsKeep.{AllOf, KeepsFrames, is-next, is-settled}
@@ -44,17 +45,17 @@ keeps c n m = record {
 }
 
 -- a piece without an action begins with a step
-not-operand : (types : TypeTable) (i : Instruction) → is_action types i ≡ true → is_operand i ≡ false
+pub not-operand : (types : TypeTable) (i : Instruction) → is_action types i ≡ true → is_operand i ≡ false
 not-operand types (Const k) h = absurd (false≢true h)
 not-operand types (Load p) h = absurd (false≢true h)
 not-operand types i h = refl
 
-first-dropped : {X : Type 0} (xs : List X) (i : ℕ) (x : X) → slice_get xs i ≡ Some x → (more : List X) × (drop i xs ≡ x ∷ more)
+pub first-dropped : {X : Type 0} (xs : List X) (i : ℕ) (x : X) → slice_get xs i ≡ Some x → (more : List X) × (drop i xs ≡ x ∷ more)
 first-dropped [] i x is = none-not_some is
 first-dropped (y ∷ ys) zero x is = (ys, ap (λ z. z ∷ ys) (some-injective is))
 first-dropped (y ∷ ys) (suc i) x is = first-dropped ys i x is
 
-action-there : (types : TypeTable) (i : Instruction) (more : List Instruction) (n : ℕ) → is_action types i ≡ true → action_from types (i ∷ more) n ≡ Some (record { index = n; instruction = i })
+pub action-there : (types : TypeTable) (i : Instruction) (more : List Instruction) (n : ℕ) → is_action types i ≡ true → action_from types (i ∷ more) n ≡ Some (record { index = n; instruction = i })
 action-there types i more n h =
     ap (λ (b : Bool). cond b (action_from types more (suc n)) (cond (is_action types i) (Some (record { index = n; instruction = i })) None)) (not-operand types i h)
     ∙ ap (λ (b : Bool). cond b (Some (record { index = n; instruction = i })) None) h

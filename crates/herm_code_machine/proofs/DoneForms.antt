@@ -1,35 +1,34 @@
 -- Instructions do what forms do.
-use Rattle.std.proofs.Common.{◌≡◌, ℕ, List, [], ◌∷◌, map, Bool, true, false, cond, eq-eqb, Option, Some, None, option_and_then, slice_get, refl, sym, ap, ap₂, ◌∙◌}
+use Rattle.std.proofs.Common.{◌≡◌, ℕ, List, [], ◌∷◌, map, Bool, cond, eq-eqb, Option, Some, None, option_and_then, slice_get, refl, sym, ap, ap₂, ◌∙◌}
 use Rattle.herm_model.specs.Paths.{Path}
-use Rattle.herm_model.specs.Types.{type_at}
 use Rattle.herm_model.specs.Expressions.{Expression, Atom}
 use Rattle.herm_model.specs.Outcomes.{ok}
 use Rattle.herm_model.specs.Statements.{Form, Arm}
 use Rattle.herm_model.specs.Values.{Scalar, Cell, Parts, parts_of, read_at, Value}
 use Rattle.herm_journal.specs.Actions
-use Rattle.herm_journal.specs.Messages.{CellAction}
-use Rattle.herm_forms.specs.Acts.{act, new_value, key_at, wants, settle, given_back}
+use Rattle.herm_forms.specs.Acts.{act, new_value, key_at, given_back}
 use Rattle.herm_forms.specs.Callmessages as callmessages
-use Rattle.herm_forms.specs.Evaluate.{Evaluated, gives, evaluate, key_values}
-use Rattle.herm_forms.specs.Excess.{excess_over_full, excess_over_declared}
+use Rattle.herm_forms.specs.Evaluate.{gives, evaluate, key_values}
+use Rattle.herm_forms.specs.Excess.{excess_over_full}
 use Rattle.herm_forms.specs.Exchanges
 use Rattle.herm_forms.specs.Forms
 use Rattle.herm_forms.specs.Forms.{rows_for, next_row}
 use Rattle.herm_forms.specs.Frames.{Name, Frame, Completion, goes, if_there, reading, copying_parts}
-use Rattle.herm_instructions.specs.Instructions.{Choice, Instruction, Store, JumpFalse, Remove, Get, LoopNext, Send, Select, ReturnBy}
+use Rattle.herm_instructions.specs.Instructions.{Choice}
 use Rattle.herm_code_machine.specs.ReadyCode.{ReadyCode}
-use Rattle.herm_code_machine.specs.Stacks.{Effect, leaving, Popped, pop, scalars_of, with_popped, with_key_of, with_key}
-use Rattle.herm_code_machine.specs.Effects.{effect, start_loop, next_of_loop}
-use Rattle.herm_code_machine.specs.CodeActions.{kept_parameters, code_wants, code_settles}
-use Rattle.herm_code_machine.specs.laws.InstructionLaws.{after_ok, arm_of, DoForms, InstructionsDoForms}
+use Rattle.herm_code_machine.specs.Stacks.{Effect, leaving, pop, scalars_of, with_popped, with_key_of, with_key}
+use Rattle.herm_code_machine.specs.Effects.{next_of_loop}
+use Rattle.herm_code_machine.specs.CodeActions.{kept_parameters}
+use Rattle.herm_instructions.specs.Effects.{arm_of}
+use Rattle.herm_code_machine.specs.laws.InstructionLaws.{after_ok, DoForms, InstructionsDoForms}
 use Rattle.herm_code_machine.specs.laws.SoundLaws.{InstructionsKeepSound}
 
 -- the targets and ports of choices are those of the arms
-targets-same : (choices : List Choice) → map (λ (a : Choice). a.target) choices ≡ map (λ (a : Arm). a.target) (map arm_of choices)
+pub targets-same : (choices : List Choice) → map (λ (a : Choice). a.target) choices ≡ map (λ (a : Arm). a.target) (map arm_of choices)
 targets-same [] = refl
 targets-same (a ∷ choices) = ap (a.target ∷◌) (targets-same choices)
 
-ports-same : (choices : List Choice) → map (λ (a : Choice). a.port) choices ≡ map (λ (a : Arm). a.port) (map arm_of choices)
+pub ports-same : (choices : List Choice) → map (λ (a : Choice). a.port) choices ≡ map (λ (a : Arm). a.port) (map arm_of choices)
 ports-same [] = refl
 ports-same (a ∷ choices) = ap (a.port ∷◌) (ports-same choices)
 

@@ -7,5 +7,8 @@ pub mod known
 pub mod balanced
 pub mod renamed
 pub mod instance
+pub mod sound
 pub mod CodeLimits
 pub mod TrimmedExcess
+pub mod ExpressionValues
+pub mod CodeCalls

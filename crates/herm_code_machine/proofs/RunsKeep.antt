@@ -11,7 +11,7 @@ use Rattle.herm_instructions.specs.Instructions.{Instruction, End, EndBy}
 use Rattle.herm_instructions.specs.Images.{instruction_at}
 use Rattle.herm_code_machine.specs.ReadyCode.{ReadyCode}
 use Rattle.herm_code_machine.specs.Effects.{effect}
-use Rattle.herm_code_machine.specs.CodeStates.{Position, at_index, at_end, at_end_by, CodeState, leads, stack_behind, state_behind, ended_at, done_instruction, begins_piece, on_by, on_from, run_on, to_next_piece}
+use Rattle.herm_code_machine.specs.CodeStates.{Position, at_index, at_end, at_end_by, CodeState, leads, stack_after, state_behind, ended_at, done_instruction, begins_piece, on_by, on_from, run_on, to_next_piece}
 use Rattle.herm_code_machine.specs.CodeSteps.{settled}
 
 -- a completion's frame is so, if it has one
@@ -31,7 +31,7 @@ module _ {N : Type 0} (name : Name → N) (c : ReadyCode) (On : List Value → T
   abbrev pub Stays : CodeState N → CodeState N → Type 0
   Stays s t = Is t.frame × On t.stack × (t.module_number ≡ s.module_number)
 
-  behind-stack : (o : Outcome) (stack : List Value) → On stack → On (stack_behind o stack)
+  behind-stack : (o : Outcome) (stack : List Value) → On stack → On (stack_after o stack)
   behind-stack ok stack h = h
   behind-stack is_true stack h = h
   behind-stack is_false stack h = h
@@ -43,7 +43,7 @@ module _ {N : Type 0} (name : Name → N) (c : ReadyCode) (On : List Value → T
 
   pub is-behind : (s t : CodeState N) (i : ℕ) (instruction : Instruction) (stack : List Value) (r : Completion N) → On stack → AllOf Is r → state_behind c s i instruction stack r ≡ Some t → Stays s t
   is-behind s t i instruction stack (goes o b) h e is =
-      let m = map-some (λ j. record { module_number = s.module_number; position = at_index j; stack = stack_behind o stack; frame = b }) (leads c i instruction o) t is in
+      let m = map-some (λ j. record { module_number = s.module_number; position = at_index j; stack = stack_after o stack; frame = b }) (leads c i instruction o) t is in
       subst (Stays s) m.2 (e, behind-stack o stack h, refl)
   is-behind s t i instruction stack (stays b) h e is = subst (Stays s) (some-injective is) (e, h, refl)
   is-behind s t i instruction stack stuck h e is = none-not_some is

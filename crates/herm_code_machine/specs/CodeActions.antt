@@ -1,5 +1,5 @@
 -- What an instruction that is an action wants, and what its answer leaves.
-use Rattle.std.specs.Prelude.{ℕ, suc, List, [], ◌∷◌, map, filter, flat_map, not, Option, Some, None, option_and_then, slice_get}
+use Rattle.std.specs.Prelude.{ℕ, List, [], ◌∷◌, map, filter, flat_map, not, Option, Some, None, option_and_then, slice_get}
 use Rattle.herm_model.specs.Lists.{any_pass}
 use Rattle.herm_model.specs.Paths.{Path, same_path}
 use Rattle.herm_model.specs.Types.{Mode, by_in, by_inout, by_out, Raised}
@@ -16,6 +16,7 @@ use Rattle.herm_forms.specs.Callmessages.{Composed}
 use Rattle.herm_forms.specs.Excess.{excess_over_full}
 use Rattle.herm_forms.specs.Acts.{given_back, given_at}
 use Rattle.herm_instructions.specs.Instructions.{Argument, of_in, of_inout, of_out, Choice, Instruction, New, Send, Receive, Select, Call, Return, ReturnBy, Create}
+use Rattle.herm_instructions.specs.Operands.{count_inputs}
 use Rattle.herm_code_machine.specs.ReadyCode.{ReadyCode}
 use Rattle.herm_code_machine.specs.Stacks.{Effect, leaving, no_effect, Popped, pop, parts_from, with_popped}
 
@@ -24,13 +25,6 @@ abbrev pub mode_of : Argument → Mode
 mode_of of_in = by_in
 mode_of (of_inout p) = by_inout
 mode_of (of_out p) = by_out
-
--- how many values the arguments have on the stack
-abbrev pub inputs_in : List Argument → ℕ
-inputs_in [] = 0
-inputs_in (of_in ∷ arguments) = suc (inputs_in arguments)
-inputs_in (of_inout p ∷ arguments) = inputs_in arguments
-inputs_in (of_out p ∷ arguments) = inputs_in arguments
 
 -- the paths of the arguments of mode inout, of mode out, and of both, in order
 abbrev pub inouts : List Argument → List Path
@@ -71,7 +65,7 @@ composed_of name c arguments inputs b =
     callmessages.compose name (map mode_of arguments) (parts_from inputs) (flat_map (λ p. excess_over_full c.scope p b) (inouts arguments)) (inouts arguments) b
 
 abbrev pub called : {N : Type 0} → (Name → N) → ReadyCode → List Argument → List Value → Frame N → Option (Composed N)
-called name c arguments stack b = option_and_then (λ (p : Popped). composed_of name c arguments p.values b) (pop (inputs_in arguments) stack)
+called name c arguments stack b = option_and_then (λ (p : Popped). composed_of name c arguments p.values b) (pop (count_inputs arguments) stack)
 
 -- the paths of the parameters at these places of the callmessage at a path
 abbrev pub kept_parameters : ReadyCode → Path → List ℕ → List Path
@@ -102,7 +96,7 @@ code_settles name c (Send x o trim) stack at action b = leaving stack (Exchanges
 code_settles name c (Receive x i) stack at action b = leaving stack (Exchanges.receive x action b)
 code_settles name c (Select choices) stack at action b = leaving stack (Exchanges.select (targets_of_choices choices) (ports_of_choices choices) at action b)
 code_settles name c (Call o arguments keeps) stack at action b =
-    with_popped (λ (p : Popped). leaving p.rest (callmessages.call (composed_of name c arguments p.values b) (outs arguments) action)) (pop (inputs_in arguments) stack)
+    with_popped (λ (p : Popped). leaving p.rest (callmessages.call (composed_of name c arguments p.values b) (outs arguments) action)) (pop (count_inputs arguments) stack)
 code_settles name c (Return m) stack at action b = leaving stack (callmessages.return (given_back c.scope (given_at c.scope m) b) m action)
 code_settles name c (ReturnBy m e kept) stack at action b = leaving stack (callmessages.return (given_back c.scope (kept_parameters c m kept) b) m action)
 code_settles name c (Create o n) stack at action b = leaving stack (Exchanges.create name o action b)

@@ -1,20 +1,24 @@
 -- What is sound within one process of code: its values, its stack and its slots against the label of its position.
-use Rattle.std.specs.Prelude.{ℕ, List, [], ◌∷◌, drop, Option, Some, None, IsTrue, IsFalse, ⊤, ◌≡◌, slice_get}
+use Rattle.std.specs.Prelude.{ℕ, List, [], ◌∷◌, map, drop, Option, Some, None, IsTrue, IsFalse, ⊤, ◌≡◌}
 use Rattle.herm_model.specs.Lists.{IsIn, list_of, any_pass}
 use Rattle.herm_model.specs.Paths.{Path, Fact, path_of, is_at_or_below}
+use Rattle.herm_model.specs.Statements.{Differ}
 use Rattle.herm_model.specs.Types.{TypeTable}
 use Rattle.herm_model.specs.FactsOfValues.{HasExactly}
 use Rattle.herm_model.specs.Finalising.{waits}
 use Rattle.herm_model.specs.Typed.{HaveTypes, Fits, many}
-use Rattle.herm_model.specs.Values.{Name, Cell, cell, no_parts, gap, part}
+use Rattle.herm_model.specs.Values.{Name, Kind, Cell, cell, no_parts, gap, part}
 use Rattle.herm_journal.specs.Messages.{AreFull}
 use Rattle.herm_forms.specs.Frames.{Loop}
-use Rattle.herm_system.specs.Sound.{IsSoundFor}
+use Rattle.herm_system.specs.Kinds.{typed_list}
+use Rattle.herm_sound.specs.SoundBeside.{IsSoundBeside}
 use Rattle.herm_system.specs.Systems.{System}
 use Rattle.herm_instructions.specs.Instructions.{Instruction, Call}
+use Rattle.herm_instructions.specs.Images.{Image}
 use Rattle.herm_instructions.specs.Labels.{Slot, Label}
-use Rattle.herm_code_machine.specs.ReadyCode.{ReadyCode, ReadyImage}
-use Rattle.herm_code_machine.specs.CodeActions.{inputs_in, inouts}
+use Rattle.herm_code_machine.specs.ReadyCode.{ReadyCode, ReadyImage, labelled_image}
+use Rattle.herm_instructions.specs.Operands.{count_inputs}
+use Rattle.herm_code_machine.specs.CodeActions.{inouts}
 use Rattle.herm_code_machine.specs.CodeStates.{at_index, CodeState}
 use Rattle.herm_code_machine.specs.Pieces.{Met}
 use Rattle.herm_code_machine.specs.CodeSteps.{met_at}
@@ -28,7 +32,7 @@ lent_by (Call o arguments keeps) = inouts arguments
 lent_by _ = []
 
 abbrev pub inputs_of : Instruction → ℕ
-inputs_of (Call o arguments keeps) = inputs_in arguments
+inputs_of (Call o arguments keeps) = count_inputs arguments
 inputs_of _ = 0
 
 abbrev pub IsCall : Instruction → Type 0
@@ -72,8 +76,8 @@ WaitsAlone (cell n k (gap ps)) = ⊥
 WaitsAlone (cell n k (part c ps)) = ⊥
 
 -- A process of code stands at a piece that has a label, or at an end. It has values exactly where the facts of its label say, each of its type; its stack has full
--- values of the label's types, and its slots are the label's, with full rows; a call is open only at a call; and the work list has
--- inports and callmessages alone. Code reference, "Sound states of code".
+-- values of the label's types, and its slots are the label's, with full rows, and no two of one number; a call is open only at a call; and
+-- the work list has inports and callmessages alone. Code reference, "Sound states of code".
 pub record IsLocallySoundCode {N : Type 0} (c : ReadyCode) (s : CodeState N) : Type 0 where
   pub stands : IsAtPiece c s.position
   pub label : (i : ℕ) → s.position ≡ at_index i → (l : Label) × (c.label i ≡ Some l)
@@ -81,6 +85,7 @@ pub record IsLocallySoundCode {N : Type 0} (c : ReadyCode) (s : CodeState N) : T
   pub types : HaveTypes c.scope.types c.scope.variables s.frame.variables
   pub stack : AreFull c.scope.types (stack_types c s) s.stack
   pub slots : AreSlots c.scope.types (slots_at c s) s.frame.loops
+  pub slots_differ : Differ (map (λ (l : Loop N). l.statement) s.frame.loops)
   pub call : (k : ℕ) → s.frame.call ≡ Some k → (m : Met) × (met_at c s.position ≡ Some m) × IsCall m.instruction
   pub work : (item : Cell N) → IsIn item s.frame.work → WaitsAlone item
 
@@ -88,5 +93,11 @@ pub record IsLocallySoundCode {N : Type 0} (c : ReadyCode) (s : CodeState N) : T
 abbrev pub IsSoundCodeIn : ReadyImage → CodeState Name → Type 0
 IsSoundCodeIn image s = (c : ReadyCode) → code_at image s ≡ Some c → IsLocallySoundCode c s
 
-abbrev pub IsSoundCode : ReadyImage → System (CodeState Name) → Type 0
-IsSoundCode image s = IsSoundFor (code_machine image) (IsSoundCodeIn image) s
+-- The values on the stack, with the types of their places: what a process has beside its cells.
+abbrev pub typed_stack : ReadyImage → CodeState Name → List (ℕ × Kind)
+typed_stack image s = list_of (λ c. typed_list image.types (stack_types c s) s.stack) (code_at image s)
+
+-- A sound state of an image whose code is good: with the labels of good code, and outports on stacks at places of their types.
+-- Code reference, "Sound states of code".
+abbrev pub IsSoundCode : Image → (main : ℕ) → System (CodeState Name) → Type 0
+IsSoundCode image main s = let ready = labelled_image image main in IsSoundBeside (code_machine ready) (IsSoundCodeIn ready) (typed_stack ready) s

@@ -60,14 +60,14 @@ leads c i instruction (arm n) = index_of_arm instruction n
 leads c i instruction (raised e) = landing_of c.code i e
 
 -- An exception leads on with an empty stack. Code reference, "Landings".
-abbrev pub stack_behind : Outcome → List Value → List Value
-stack_behind (raised e) stack = []
-stack_behind _ stack = stack
+abbrev pub stack_after : Outcome → List Value → List Value
+stack_after (raised e) stack = []
+stack_after _ stack = stack
 
 -- The state behind what the instruction at an index comes to; none where it is stuck, or its outcome leads nowhere.
 abbrev pub state_behind : {N : Type 0} → ReadyCode → CodeState N → (index : ℕ) → Instruction → List Value → Completion N → Option (CodeState N)
 state_behind c s i instruction stack (goes o b) =
-    option_map (λ j. record { module_number = s.module_number; position = at_index j; stack = stack_behind o stack; frame = b }) (leads c i instruction o)
+    option_map (λ j. record { module_number = s.module_number; position = at_index j; stack = stack_after o stack; frame = b }) (leads c i instruction o)
 state_behind c s i instruction stack (stays b) = Some (record { module_number = s.module_number; position = at_index i; stack = stack; frame = b })
 state_behind c s i instruction stack stuck = None
 

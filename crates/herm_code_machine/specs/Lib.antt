@@ -1,6 +1,7 @@
 pub mod ReadyCode
 pub mod Stacks
 pub mod Effects
+pub mod ExpressionCode
 pub mod CodeActions
 pub mod CodeStates
 pub mod Pieces

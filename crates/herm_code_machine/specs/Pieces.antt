@@ -7,6 +7,7 @@ use Rattle.std.specs.Prelude.{slice_get}
 use Rattle.herm_instructions.specs.Instructions.{Instruction, Const, Load}
 use Rattle.herm_instructions.specs.Images.{instruction_at}
 use Rattle.herm_instructions.specs.Actions.{is_step, is_action}
+use Rattle.herm_instructions.specs.Pieces.{is_operand}
 use Rattle.herm_code_machine.specs.ReadyCode.{ReadyCode}
 use Rattle.herm_code_machine.specs.Effects.{constant_value}
 use Rattle.herm_code_machine.specs.CodeStates.{Position, at_index, at_end, at_end_by}
@@ -32,12 +33,6 @@ abbrev pub piece_at : ReadyCode → Position → Option Piece
 piece_at c (at_index i) = piece_by c.scope.types i (instruction_at c.code i)
 piece_at c at_end = None
 piece_at c (at_end_by e) = None
-
--- what an instruction pushes that may stand before an action of a piece: a constant, or a copy
-abbrev pub is_operand : Instruction → Bool
-is_operand (Const k) = true
-is_operand (Load p) = true
-is_operand _ = false
 
 -- the first instruction behind operands, where it is an action
 abbrev pub action_from : TypeTable → List Instruction → (index : ℕ) → Option Met

@@ -6,6 +6,7 @@ use Rattle.herm_model.specs.Targets.{end}
 use Rattle.herm_forms.specs.Modules.{Module}
 use Rattle.herm_instructions.specs.Labels.{Label}
 use Rattle.herm_instructions.specs.Images.{CodeModule, Image}
+use Rattle.herm_instructions.specs.Places.{label_at}
 
 -- types and variables alone, for the functions of forms that look at no text
 abbrev pub scope_of : TypeTable → List ℕ → Module
@@ -30,3 +31,7 @@ ready_code image labels m = record { scope = scope_of image.types m.variables; c
 
 abbrev pub ready_image : Image → (main : ℕ) → (labels : CodeModule → ℕ → Option Label) → ReadyImage
 ready_image image main labels = record { types = image.types; codes = map (ready_code image labels) image.modules; main = main }
+
+-- an image made ready with the labels of good code; Code reference, "Labels going forward"
+abbrev pub labelled_image : Image → (main : ℕ) → ReadyImage
+labelled_image image main = ready_image image main (label_at image.types image.constants)

@@ -3,4 +3,6 @@ pub mod StackLaws
 pub mod PieceLaws
 pub mod InstructionLaws
 pub mod SoundLaws
+pub mod ExpressionLaws
 pub mod TrimLaws
+pub mod GoodImageLaws

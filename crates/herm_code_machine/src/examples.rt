@@ -1,10 +1,12 @@
 // Runs of code by hand, computed from the definitions. The comments on the code have the programs as they are written.
 
-ghost use Rattle.herm_code_machine.specs.examples.CallingCode.{kept_parameter};
+ghost use Rattle.herm_code_machine.specs.examples.BranchingCode.{by_component, by_port, caught_row, compares, taken_by_key};
+ghost use Rattle.herm_code_machine.specs.examples.CallingCode.{answering_code, asks, kept_parameter, losing_code};
 ghost use Rattle.herm_code_machine.specs.examples.CodeByHand.{greeting_image, left_loop, whole_loop};
 ghost use Rattle.herm_code_machine.specs.examples.CodeRuns.{code_ending, in_lines, limited};
-ghost use Rattle.herm_system.specs.RunTexts.{the_journal, with_summary};
-ghost use Rattle.std.specs.Prelude.{List, Some, [], codes, ◌∷◌, ◌≡◌};
+ghost use Rattle.herm_system.specs.RunTexts.{plainly, the_journal, with_summary};
+ghost use Rattle.herm_instructions.specs.tests.GoodTests.{is_good};
+ghost use Rattle.std.specs.Prelude.{List, Some, [], codes, true, ◌∷◌, ◌≡◌};
 
 /// The code of a greeting runs to one line on the console, and four of the six cells are finalised.
 pub fn greeting_is_shown()
@@ -98,4 +100,79 @@ pub fn kept_parameter_is_recorded()
           ∷ codes "journal: 7 1 port 0 put 0 \"w\""
           ∷ codes "journal: 8 1 port 1 close 0" ∷ []);
     }) }
+{}
+
+/// One is less than two.
+pub fn true_goes_on()
+    ensures at_the_end { code_ending 60 plainly (limited 1000 4 4) (compares 2 3) 0 ≡ Some (record {
+      status = 0;
+      text = in_lines (codes "yes" ∷ []);
+    }) }
+{}
+
+/// Two is not less than one.
+pub fn false_jumps()
+    ensures at_the_end { code_ending 60 plainly (limited 1000 4 4) (compares 3 2) 0 ≡ Some (record {
+      status = 0;
+      text = in_lines (codes "no" ∷ []);
+    }) }
+{}
+
+/// A variant goes to the index of its component.
+pub fn component_chooses()
+    ensures at_the_end { code_ending 60 plainly (limited 1000 4 4) by_component 0 ≡ Some (record {
+      status = 0;
+      text = in_lines (codes "two" ∷ []);
+    }) }
+{}
+
+/// Of two ports, the one with a message is taken from, and its arm follows.
+pub fn message_chooses()
+    ensures at_the_end { code_ending 60 plainly (limited 1000 4 4) by_port 0 ≡ Some (record {
+      status = 0;
+      text = in_lines (codes "b" ∷ []);
+    }) }
+{}
+
+/// A row is taken out by its key.
+pub fn row_is_taken_out()
+    ensures at_the_end { code_ending 60 plainly (limited 1000 4 4) (taken_by_key 1) 0 ≡ Some (record {
+      status = 0;
+      text = in_lines (codes "2" ∷ []);
+    }) }
+{}
+
+/// A row that is there already stays with the process, which catches the exception.
+pub fn exception_is_caught()
+    ensures at_the_end { code_ending 60 plainly (limited 1000 4 4) caught_row 0 ≡ Some (record {
+      status = 0;
+      text = in_lines (codes "1" ∷ []);
+    }) }
+{}
+
+/// What a call asks for is there behind it.
+pub fn parameter_comes_back()
+    ensures at_the_end { code_ending 60 plainly (limited 1000 4 4) (asks answering_code) 1 ≡ Some (record {
+      status = 0;
+      text = in_lines (codes "w" ∷ []);
+    }) }
+{}
+
+/// A process that ends without an answer leaves its caller `Disconnected`, which is caught.
+pub fn caller_is_left()
+    ensures at_the_end { code_ending 60 plainly (limited 1000 4 4) (asks losing_code) 1 ≡ Some (record {
+      status = 0;
+      text = in_lines (codes "lost" ∷ []);
+    }) }
+{}
+
+/// The code that these runs are of is good, where eight exceptions are there.
+pub fn code_by_hand_is_good()
+    ensures truth { is_good 8 (compares 2 3) ≡ true }
+    ensures component { is_good 8 by_component ≡ true }
+    ensures message { is_good 8 by_port ≡ true }
+    ensures key { is_good 8 (taken_by_key 1) ≡ true }
+    ensures caught { is_good 8 caught_row ≡ true }
+    ensures answered { is_good 8 (asks answering_code) ≡ true }
+    ensures lost { is_good 8 (asks losing_code) ≡ true }
 {}

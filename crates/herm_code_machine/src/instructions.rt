@@ -1,5 +1,6 @@
 // Instructions do what the forms of statements do.
 
+ghost use Rattle.herm_code_machine.specs.laws.ExpressionLaws.{CodeGivesValues};
 ghost use Rattle.herm_code_machine.specs.laws.InstructionLaws.{InstructionsDoForms};
 ghost use Rattle.herm_code_machine.specs.laws.SoundLaws.{InstructionsKeepSound};
 
@@ -13,4 +14,10 @@ pub fn instructions_do_forms()
 /// its outcome, where the form does.
 pub fn instructions_keep_sound()
     ensures sound { InstructionsKeepSound }
+{}
+
+/// The code of an expression leaves on the stack what the expression gives, and raises what it raises, the left operand's exception
+/// first.
+pub fn code_gives_values()
+    ensures values { CodeGivesValues }
 {}

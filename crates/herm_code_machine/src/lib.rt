@@ -3,6 +3,7 @@
 #![tactic(auto)]
 
 pub mod examples;
+pub mod good_images;
 pub mod instructions;
 pub mod machine;
 pub mod pieces;

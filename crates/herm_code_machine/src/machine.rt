@@ -4,7 +4,7 @@ ghost use Rattle.herm_code_machine.specs.Beside.{stack_kinds};
 ghost use Rattle.herm_code_machine.specs.CodeInstance.{code_machine, nameless_code};
 ghost use Rattle.herm_code_machine.specs.CodeRenaming.{forget_code};
 ghost use Rattle.herm_code_machine.specs.ReadyCode.{ReadyImage};
-ghost use Rattle.herm_sound.specs.SoundMachines.{KeepsLimits};
+ghost use Rattle.herm_sound.specs.SoundMachines.{KeepsLimits, NumbersCalls};
 ghost use Rattle.herm_runs.specs.laws.ProcessLaws.{ForgetsNames, KeepsLedger, KeepsNumbers, KnowsPlaces};
 
 /// A process begins with the number and the module that it is given, and keeps them.
@@ -32,4 +32,9 @@ pub fn names_are_forgotten()
 /// piece; and none is made beyond its limit.
 pub fn limits_are_kept()
     ensures limits { (image : ReadyImage) → KeepsLimits (code_machine image) }
+{}
+
+/// A process numbers its calls upwards: a call that it opens has a number that none of its calls had before.
+pub fn calls_are_numbered()
+    ensures calls { (image : ReadyImage) → NumbersCalls (code_machine image) }
 {}

@@ -1,2 +1,3 @@
 pub mod ExampleImages
 pub mod CodeExamples
+pub mod MoreCodeExamples

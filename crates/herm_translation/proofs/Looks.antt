@@ -70,5 +70,5 @@ standing-looks modules image nodes codes = record {
         ∙ held-same w x y s.frame (slice_get modules.codes y.module_number) (slice_get image.codes y.module_number) (both modules.codes image.codes y.module_number codes.codes);
     finalised = λ w. ap (λ (b : Frame Name). total w b.finalised) (sym s.frame);
   };
-  puts_aside = λ x y s. record { module_number = s.module_number; position = s.position; stack = s.stack; frame = ap counted_action s.frame };
+  puts_aside = λ x y s. record { module_number = s.module_number; position = s.position; stands = s.stands; stack = s.stack; frame = ap counted_action s.frame };
 }

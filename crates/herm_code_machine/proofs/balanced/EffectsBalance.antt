@@ -32,7 +32,8 @@ use Rattle.herm_instructions.specs.Instructions.{Argument, Instruction, Const, L
 use Rattle.herm_code_machine.specs.ReadyCode.{ReadyCode}
 use Rattle.herm_code_machine.specs.Stacks.{Effect, leaving, Popped, pop, parts_from, with_top, with_popped}
 use Rattle.herm_code_machine.specs.Effects.{constant_value, applied, effect}
-use Rattle.herm_code_machine.specs.CodeActions.{mode_of, inputs_in, inouts, outs, returned, kept_paths, left_paths, composed_of, called, kept_parameters, ports_of_choices, targets_of_choices, code_wants, code_settles, code_hears}
+use Rattle.herm_instructions.specs.Operands.{count_inputs}
+use Rattle.herm_code_machine.specs.CodeActions.{mode_of, inouts, outs, returned, kept_paths, left_paths, composed_of, called, kept_parameters, ports_of_choices, targets_of_choices, code_wants, code_settles, code_hears}
 use Rattle.herm_code_machine.specs.CodeSteps.{counted_if}
 use Rattle.herm_code_machine.proofs.RunsKeep.{AllOf}
 use Rattle.herm_code_machine.proofs.StackSplits.{Comes, comes-pushing, comes-top, comes-two, comes-key}
@@ -151,7 +152,7 @@ module _ {N : Type 0} (w : N → ℕ) (extra : Kind → ℕ) (name : Name → N)
       let ports = ports_of_choices choices in
       let r = map-some to_take (Exchanges.ports_at ports b) want is in
       rw (sym r.2) (as-all w extra name spares m k 0 _ (kept-select w extra name spares m k (targets_of_choices choices) ports at action (recount steps actions b) (omega arith)))
-  kept-settles c (Call o arguments keep) stack want at action b is kinds e = settle-popped c o arguments want action b (pop (inputs_in arguments) stack) (pop-kinds (Spares extra) (inputs_in arguments) stack kinds) is e
+  kept-settles c (Call o arguments keep) stack want at action b is kinds e = settle-popped c o arguments want action b (pop (count_inputs arguments) stack) (pop-kinds (Spares extra) (count_inputs arguments) stack kinds) is e
   kept-settles c (Return x) stack want at action b is kinds e = by-answer c (Form.Return x) want at action b _ (kept-settle w extra name spares m k steps actions c.scope (Form.Return x) want at action b is tt e)
   kept-settles c (ReturnBy x ex kept) stack want at action b is kinds e =
       as-all w extra name spares m k _ _ (settle-return w extra name spares m k steps actions c.scope (kept_parameters c x kept) (Actions.raised ex) (λ cs. refl) x want action b is (omega arith))

@@ -18,7 +18,8 @@ use Rattle.herm_instructions.specs.Instructions.{Argument, Instruction, Const, L
 use Rattle.herm_code_machine.specs.ReadyCode.{ReadyCode}
 use Rattle.herm_code_machine.specs.Stacks.{pop, parts_from}
 use Rattle.herm_code_machine.specs.Effects.{constant_value, applied, effect}
-use Rattle.herm_code_machine.specs.CodeActions.{mode_of, inputs_in, inouts, outs, returned, kept_paths, left_paths, composed_of, kept_parameters, ports_of_choices, targets_of_choices, code_settles, code_hears}
+use Rattle.herm_instructions.specs.Operands.{count_inputs}
+use Rattle.herm_code_machine.specs.CodeActions.{mode_of, inouts, outs, returned, kept_paths, left_paths, composed_of, kept_parameters, ports_of_choices, targets_of_choices, code_settles, code_hears}
 use Rattle.herm_code_machine.proofs.RunsKeep.{AllOf}
 use Rattle.herm_code_machine.proofs.StackSplits.{comes-pushing, comes-top, comes-two, comes-popped, comes-key}
 
@@ -85,7 +86,7 @@ module _ {N : Type 0} (name : Name → N) (Is : Frame N → Type 0) (keeps-it : 
   keeps-settles opens c (Receive x i) stack at a b e = by-answer c (Form.Receive x i) at a b opens e
   keeps-settles opens c (Select choices) stack at a b e = as-all _ (KeptBodies.all-select name Is Is keeps-it (targets_of_choices choices) (ports_of_choices choices) at a b e)
   keeps-settles opens c (Call o arguments keep) stack at a b e =
-      comes-popped Is _ (pop (inputs_in arguments) stack) (λ p. as-all _ (KeptBodies.all-call name Is Is keeps-it opens (composed_of name c arguments p.values b) (outs arguments) a (λ k. is-made c arguments p.values b k e)))
+      comes-popped Is _ (pop (count_inputs arguments) stack) (λ p. as-all _ (KeptBodies.all-call name Is Is keeps-it opens (composed_of name c arguments p.values b) (outs arguments) a (λ k. is-made c arguments p.values b k e)))
   keeps-settles opens c (Return m) stack at a b e = by-answer c (Form.Return m) at a b opens e
   keeps-settles opens c (ReturnBy m x kept) stack at a b e = as-all _ (KeptBodies.all-return name Is Is keeps-it (given_back c.scope (kept_parameters c m kept) b) m a (λ t. KeptBodies.is-given name Is Is keeps-it c.scope (kept_parameters c m kept) b t e))
   keeps-settles opens c (Create o n) stack at a b e = by-answer c (Form.Create o n) at a b opens e

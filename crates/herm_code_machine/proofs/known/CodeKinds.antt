@@ -16,7 +16,8 @@ use Rattle.herm_instructions.specs.Instructions.{Instruction, Const, Load}
 use Rattle.herm_code_machine.specs.ReadyCode.{ReadyCode}
 use Rattle.herm_code_machine.specs.CodeActions.{code_wants, code_settles, code_hears}
 use Rattle.herm_code_machine.specs.CodeStates.{Position, CodeState, at_index, first_frame, code_begin}
-use Rattle.herm_code_machine.specs.Pieces.{Piece, Met, is_operand, operand, pushed, behind_operands, stack_before_action, piece_at, action_of}
+use Rattle.herm_instructions.specs.Pieces.{is_operand}
+use Rattle.herm_code_machine.specs.Pieces.{Piece, Met, operand, pushed, behind_operands, stack_before_action, piece_at, action_of}
 use Rattle.herm_code_machine.specs.CodeSteps.{CodeNext, an_item, a_reply, an_action, a_local_piece, nothing, met_at, by_action, by_piece, by_met, call_or_piece, item_or, code_next, counted_if, wanted_next, code_wanted, step_next, code_local_step, worked, settled_action, settle_next, code_answered}
 use Rattle.herm_code_machine.proofs.RunsKeep.{AllOf, KeepsFrames, is-next, is-settled}
 use Rattle.herm_code_machine.proofs.known.KindsOfEffects.{effect-kinds, code-wants-kinds, settles-kinds, hears-kinds, work-kinds, constant-kinds}

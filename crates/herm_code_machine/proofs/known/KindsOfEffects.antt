@@ -28,7 +28,8 @@ use Rattle.herm_instructions.specs.Instructions.{UnaryOperator, negative, comple
 use Rattle.herm_code_machine.specs.ReadyCode.{ReadyCode}
 use Rattle.herm_code_machine.specs.Stacks.{Effect, pushing, with_top, with_two, Popped, pop_onto, pop, scalars_of, parts_from, with_popped, with_key_of, with_key}
 use Rattle.herm_code_machine.specs.Effects.{constant_value, applied, effect}
-use Rattle.herm_code_machine.specs.CodeActions.{mode_of, inputs_in, inouts, outs, returned, kept_paths, left_paths, composed_of, called, kept_parameters, ports_of_choices, targets_of_choices, code_wants, code_settles, code_hears}
+use Rattle.herm_instructions.specs.Operands.{count_inputs}
+use Rattle.herm_code_machine.specs.CodeActions.{mode_of, inouts, outs, returned, kept_paths, left_paths, composed_of, called, kept_parameters, ports_of_choices, targets_of_choices, code_wants, code_settles, code_hears}
 use Rattle.herm_code_machine.proofs.RunsKeep.{AllOf}
 
 -- the stack is of the kinds, and the completion's frame
@@ -151,7 +152,7 @@ module _ {N : Type 0} (name : Name → N) (of : Kind → Type 0) (allows : Allow
   code-wants-kinds c (Receive x i) stack b h e = wants-kinds name of allows c.scope (Form.Receive x i) b e
   code-wants-kinds c (Select choices) stack b h e = select-wants name of allows (ports_at (ports_of_choices choices) b) (ports-kinds name of allows (ports_of_choices choices) b e)
   code-wants-kinds c (Call o arguments keep) stack b h e =
-      call-wants name of allows (outport_at o b) (called name c arguments stack b) (outport-path name of allows o b e) (called-kinds c arguments (pop (inputs_in arguments) stack) b (pop-kinds of (inputs_in arguments) stack h) e)
+      call-wants name of allows (outport_at o b) (called name c arguments stack b) (outport-path name of allows o b e) (called-kinds c arguments (pop (count_inputs arguments) stack) b (pop-kinds of (count_inputs arguments) stack h) e)
   code-wants-kinds c (Return m) stack b h e = wants-kinds name of allows c.scope (Form.Return m) b e
   code-wants-kinds c (ReturnBy m x kept) stack b h e =
       return-wants name of allows (Actions.raised x) (option_and_then caller_of (cell_at m b.variables)) (given_back c.scope (kept_parameters c m kept) b) (λ cs h. h) (caller-cell name of allows (cell_at m b.variables) (cell-kinds of m b.variables e.0)) (given-kinds name of allows c.scope (kept_parameters c m kept) b e)
@@ -168,7 +169,7 @@ module _ {N : Type 0} (name : Name → N) (of : Kind → Type 0) (allows : Allow
   settles-kinds c (Receive x i) stack at a b h g e = (h, by-answer c (Form.Receive x i) at a b g e)
   settles-kinds c (Select choices) stack at a b h g e = (h, as-all _ (all-select name of allows (targets_of_choices choices) (ports_of_choices choices) at a b g e))
   settles-kinds c (Call o arguments keep) stack at a b h g e =
-      popped-kinds _ (pop (inputs_in arguments) stack) (pop-kinds of (inputs_in arguments) stack h) (λ p v r. (r, as-all _ (all-call name of allows (composed_of name c arguments p.values b) (outs arguments) a (made-kinds c arguments p.values b v e) g)))
+      popped-kinds _ (pop (count_inputs arguments) stack) (pop-kinds of (count_inputs arguments) stack h) (λ p v r. (r, as-all _ (all-call name of allows (composed_of name c arguments p.values b) (outs arguments) a (made-kinds c arguments p.values b v e) g)))
   settles-kinds c (Return m) stack at a b h g e = (h, by-answer c (Form.Return m) at a b g e)
   settles-kinds c (ReturnBy m x kept) stack at a b h g e = (h, as-all _ (all-return name of allows (given_back c.scope (kept_parameters c m kept) b) m a (given-kinds name of allows c.scope (kept_parameters c m kept) b e)))
   settles-kinds c (Create o n) stack at a b h g e = (h, by-answer c (Form.Create o n) at a b g e)

@@ -22,8 +22,9 @@ use Rattle.herm_code_machine.specs.ReadyCode.{ReadyCode}
 use Rattle.herm_code_machine.specs.Stacks.{Effect}
 use Rattle.herm_code_machine.specs.Effects.{effect}
 use Rattle.herm_code_machine.specs.CodeActions.{code_wants, code_settles, code_hears}
-use Rattle.herm_code_machine.specs.CodeStates.{Position, at_index, at_end, at_end_by, CodeState, leads, stack_behind, state_behind, ended_at, done_instruction, begins_piece, on_by, on_from, run_on, to_next_piece, first_frame, code_begin}
-use Rattle.herm_code_machine.specs.Pieces.{Piece, Met, is_operand, operand, pushed, behind_operands, stack_before_action, piece_at, action_of}
+use Rattle.herm_code_machine.specs.CodeStates.{Position, at_index, at_end, at_end_by, CodeState, leads, stack_after, state_behind, ended_at, done_instruction, begins_piece, on_by, on_from, run_on, to_next_piece, first_frame, code_begin}
+use Rattle.herm_instructions.specs.Pieces.{is_operand}
+use Rattle.herm_code_machine.specs.Pieces.{Piece, Met, operand, pushed, behind_operands, stack_before_action, piece_at, action_of}
 use Rattle.herm_code_machine.specs.CodeSteps.{CodeNext, an_item, a_reply, an_action, a_local_piece, nothing, met_at, by_action, by_piece, by_met, call_or_piece, item_or, code_next, counted_if, wanted_next, code_wanted, step_next, code_local_step, settled, settled_action, worked, settle_next, code_answered}
 use Rattle.herm_code_machine.specs.CodeRenaming.{rename_code}
 use Rattle.herm_code_machine.proofs.renamed.EffectsRenamed.{rename_effect, effect-renamed, code_wants-renamed, code_settles-renamed, code_hears-renamed}
@@ -34,8 +35,8 @@ module _ {N M : Type 0} (f : N → M) (name : Name → N) where
 
   -- the state behind a completion
   led-renamed : (s : CodeState N) (o : Outcome) (stack : List Value) (b : Frame N) (j : Option ℕ)
-      → option_map (λ j. record { module_number = s.module_number; position = at_index j; stack = stack_behind o stack; frame = rename_body f b }) j
-      ≡ option_map (rename_code f) (option_map (λ j. record { module_number = s.module_number; position = at_index j; stack = stack_behind o stack; frame = b }) j)
+      → option_map (λ j. record { module_number = s.module_number; position = at_index j; stack = stack_after o stack; frame = rename_body f b }) j
+      ≡ option_map (rename_code f) (option_map (λ j. record { module_number = s.module_number; position = at_index j; stack = stack_after o stack; frame = b }) j)
   led-renamed s o stack b None = refl
   led-renamed s o stack b (Some j) = refl
 

@@ -28,7 +28,8 @@ use Rattle.herm_instructions.specs.Instructions.{Argument, Instruction, Const, L
 use Rattle.herm_code_machine.specs.ReadyCode.{ReadyCode}
 use Rattle.herm_code_machine.specs.Stacks.{Effect, leaving, pushing, with_top, with_two, Popped, pop, scalars_of, parts_from, with_popped, with_key_of, with_key}
 use Rattle.herm_code_machine.specs.Effects.{constant_value, applied, start_loop, next_of_loop, effect}
-use Rattle.herm_code_machine.specs.CodeActions.{mode_of, inputs_in, inouts, outs, returned, kept_paths, left_paths, composed_of, called, kept_parameters, ports_of_choices, targets_of_choices, code_wants, code_settles, code_hears}
+use Rattle.herm_instructions.specs.Operands.{count_inputs}
+use Rattle.herm_code_machine.specs.CodeActions.{mode_of, inouts, outs, returned, kept_paths, left_paths, composed_of, called, kept_parameters, ports_of_choices, targets_of_choices, code_wants, code_settles, code_hears}
 
 module _ {N M : Type 0} (f : N → M) (name : Name → N) where
   abbrev pub rename_effect : Effect N → Effect M
@@ -126,7 +127,7 @@ module _ {N M : Type 0} (f : N → M) (name : Name → N) where
   called_by c arguments b (Some p) = composed_of-renamed c arguments p.values b
 
   called-renamed : (c : ReadyCode) (arguments : List Argument) (stack : List Value) (b : Frame N) → called (again f name) c arguments stack (rename_body f b) ≡ option_map (rename_composed f) (called name c arguments stack b)
-  called-renamed c arguments stack b = called_by c arguments b (pop (inputs_in arguments) stack)
+  called-renamed c arguments stack b = called_by c arguments b (pop (count_inputs arguments) stack)
 
   pub code_wants-renamed : (c : ReadyCode) (i : Instruction) (stack : List Value) (b : Frame N) → code_wants (again f name) c i stack (rename_body f b) ≡ option_map (rename_want f) (code_wants name c i stack b)
   code_wants-renamed c (New x t) stack b = refl
@@ -154,7 +155,7 @@ module _ {N M : Type 0} (f : N → M) (name : Name → N) where
   code_settles-renamed c (Call o arguments keep) stack at action b =
       popped-renamed (λ (p : Popped). leaving p.rest (callmessages.call (composed_of name c arguments p.values b) (outs arguments) action))
       (λ (p : Popped). leaving p.rest (callmessages.call (composed_of (again f name) c arguments p.values (rename_body f b)) (outs arguments) (rename_action f action)))
-      (λ p. ap (leaving p.rest) (ap (λ x. callmessages.call x (outs arguments) (rename_action f action)) (composed_of-renamed c arguments p.values b) ∙ call-renamed f (composed_of name c arguments p.values b) (outs arguments) action)) (pop (inputs_in arguments) stack)
+      (λ p. ap (leaving p.rest) (ap (λ x. callmessages.call x (outs arguments) (rename_action f action)) (composed_of-renamed c arguments p.values b) ∙ call-renamed f (composed_of name c arguments p.values b) (outs arguments) action)) (pop (count_inputs arguments) stack)
   code_settles-renamed c (Return m) stack at action b = by-answer c (Form.Return m) stack at action b
   code_settles-renamed c (ReturnBy m x kept) stack at action b =
       ap (leaving stack) (ap (λ t. callmessages.return t m (rename_action f action)) (given_back-renamed f name c.scope (kept_parameters c m kept) b) ∙ return-renamed f (given_back c.scope (kept_parameters c m kept) b) m action)

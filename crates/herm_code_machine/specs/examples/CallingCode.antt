@@ -1,11 +1,11 @@
 -- Code by hand that calls.
 use Rattle.std.specs.Prelude.{ℕ, List, [], ◌∷◌, ◌++◌, codes}
-use Rattle.herm_model.specs.Types.{callmessage, inport, outport, by_in, by_inout, Raised}
+use Rattle.herm_model.specs.Types.{callmessage, inport, outport, by_in, by_inout, by_out, Raised}
 use Rattle.herm_model.specs.Expressions.{Literal}
 use Rattle.herm_model.specs.Outcomes.{depletion, disconnected}
-use Rattle.herm_instructions.specs.Instructions.{of_in, of_inout, Step, Load, Call, ReturnBy, Create, End, EndBy}
+use Rattle.herm_instructions.specs.Instructions.{of_in, of_inout, of_out, Step, Load, Call, Return, ReturnBy, Create, End, EndBy}
 use Rattle.herm_instructions.specs.Images.{CodeModule, Image}
-use Rattle.herm_code_machine.specs.examples.CodeByHand.{line, landing, to, module_by, image_by, variable, listed, start_paths, receives_start, places, says}
+use Rattle.herm_code_machine.specs.examples.CodeByHand.{line, landing, to, module_by, image_by, variable, part_in, listed, start_paths, receives_start, places, says}
 
 -- exception Busy;
 abbrev pub busy : ℕ
@@ -40,3 +40,31 @@ abbrev pub kept_parameter : Image
 kept_parameter =
     image_by (callmessage (record { mode = by_in; content = 2 } ∷ record { mode = by_inout; content = 2 } ∷ []) keeps_second ∷ inport 8 [] ∷ outport 9 ∷ [])
     (Literal.text (codes "q") ∷ Literal.text (codes "w") ∷ []) (denying_code ∷ calling_code ∷ [])
+
+-- process say(start: word_in) { var c: word; receive c from start; c.w := "w"; return c; }
+abbrev pub answering_code : CodeModule
+answering_code = module_by (9 ∷ 8 ∷ []) (receives_start ++ places 0 (part_in 1 0) ++ line Step ∷ line (Return (variable 1)) ∷ line End ∷ []) []
+
+-- process lose(start: word_in) { var c: word; receive c from start; }
+abbrev pub losing_code : CodeModule
+losing_code = module_by (9 ∷ 8 ∷ []) (receives_start ++ line End ∷ []) []
+
+-- process main(start: main_start) {
+--   var m: main_message, o: word_out, w: string;
+--   receive m from start; create o of ..;
+--   try { call o(w); send w to m.out; } on Disconnected { w := "lost"; send w to m.out; }
+-- }
+abbrev pub asking_code : CodeModule
+asking_code =
+    module_by (7 ∷ 6 ∷ 10 ∷ 2 ∷ []) (
+    receives_start ++ line Step ∷ landing (Create (variable 2) 0) (to depletion 16 ∷ []) ∷ line Step
+    ∷ landing (Call (variable 2) (of_out (variable 3) ∷ []) []) (to disconnected 9 ∷ []) ∷ (says 3 15 ++ line End
+    ∷ (places 1 (variable 3) ++ says 3 15 ++ line End ∷ line (EndBy disconnected) ∷ line (EndBy depletion) ∷ [])))
+    (listed 9 (start_paths ++ variable 2 ∷ []) [] ∷ listed 15 (start_paths ++ variable 2 ∷ variable 3 ∷ []) [] ∷ listed 16 start_paths [] ∷ [])
+
+-- type word = callmessage (out w: string);  type word_in = inport of word;  type word_out = outport of word_in;
+-- and the process that asks beside another
+abbrev pub asks : CodeModule → Image
+asks other =
+    image_by (callmessage (record { mode = by_out; content = 2 } ∷ []) [] ∷ inport 8 [] ∷ outport 9 ∷ [])
+    (Literal.text (codes "w") ∷ Literal.text (codes "lost") ∷ []) (other ∷ asking_code ∷ [])

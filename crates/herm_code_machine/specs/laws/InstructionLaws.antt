@@ -1,20 +1,21 @@
 -- What is claimed of instructions: one of a statement's name does what the form of the statement does.
-use Rattle.std.specs.Prelude.{ℕ, List, [], ◌∷◌, map, Option, Some, None, slice_get, ◌≡◌}
+use Rattle.std.specs.Prelude.{ℕ, List, ◌∷◌, map, Some, None, ◌≡◌}
 use Rattle.herm_model.specs.Lists.{list_of}
 use Rattle.herm_model.specs.Paths.{Path}
 use Rattle.herm_model.specs.Types.{type_at}
 use Rattle.herm_model.specs.Calls.{shape_at, raises_of, kept_for}
 use Rattle.herm_model.specs.Expressions.{Expression, Atom}
-use Rattle.herm_model.specs.Outcomes.{Outcome, ok}
-use Rattle.herm_model.specs.Statements.{Form, Arm}
+use Rattle.herm_model.specs.Outcomes.{ok}
+use Rattle.herm_model.specs.Statements.{Form}
 use Rattle.herm_model.specs.Values.{Scalar, Parts, Value}
 use Rattle.herm_journal.specs.Messages.{CellAction}
 use Rattle.herm_forms.specs.Acts.{act, wants, settle}
 use Rattle.herm_forms.specs.Evaluate.{gives, evaluate, key_values}
 use Rattle.herm_forms.specs.Excess.{excess_over_declared}
 use Rattle.herm_forms.specs.Forms.{rows_for}
-use Rattle.herm_forms.specs.Frames.{Name, Frame, Completion, goes, stays, stuck}
+use Rattle.herm_forms.specs.Frames.{Name, Frame, Completion, goes}
 use Rattle.herm_instructions.specs.Instructions.{Choice, Instruction, Store, JumpFalse, Move, New, Discard, Unite, Dissolve, Reveal, CaseOf, Wrap, Unwrap, Insert, Remove, Get, LoopNext, Connect, Send, Receive, Select, Return, ReturnBy, Create, Raise}
+use Rattle.herm_instructions.specs.Effects.{arm_of}
 use Rattle.herm_code_machine.specs.ReadyCode.{ReadyCode}
 use Rattle.herm_code_machine.specs.Stacks.{leaving, pop, scalars_of}
 use Rattle.herm_code_machine.specs.Effects.{effect, start_loop, next_of_loop}
@@ -24,10 +25,6 @@ use Rattle.herm_code_machine.specs.CodeActions.{code_wants, code_settles}
 abbrev pub after_ok : {N : Type 0} → (Frame N → Completion N) → Completion N → Completion N
 after_ok next (goes ok b) = next b
 after_ok next r = r
-
--- the arm of a select that a choice stands for
-abbrev pub arm_of : Choice → Arm
-arm_of choice = record { target = choice.target; port = choice.port }
 
 module _ (name : Name → Name) (c : ReadyCode) (statement : ℕ) (b : Frame Name) where
   -- the instruction does what the form does, and leaves the stack

@@ -1,5 +1,5 @@
 -- What is claimed of instructions among sound values.
-use Rattle.std.specs.Prelude.{ℕ, List, Bool, IsTrue, ◌≡◌}
+use Rattle.std.specs.Prelude.{List, Bool, IsTrue, ◌≡◌}
 use Rattle.herm_model.specs.Lists.{IsIn}
 use Rattle.herm_model.specs.Outcomes.{Outcome}
 use Rattle.herm_model.specs.Paths.{Fact}

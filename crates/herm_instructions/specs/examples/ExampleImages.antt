@@ -16,7 +16,8 @@ abbrev pub example_exceptions : ℕ
 example_exceptions = 8
 
 -- a record with a key, a table of it, a callmessage that keeps its `inout` parameter for Busy with its ports, a variant in a variant,
--- and a pair that is sent with its first field alone, with its ports
+-- a pair that is sent with its first field alone, with its ports, a table with a number and a string as its key, a variant of two
+-- components, and a callmessage of two `in` parameters with its ports
 abbrev pub example_defined : TypeTable
 example_defined =
     -- 8, 9
@@ -26,7 +27,11 @@ example_defined =
     -- 13, 14
     ∷ cases (1 ∷ []) ∷ cases (13 ∷ [])
     -- 15, 16, 17
-    ∷ fields (1 ∷ 1 ∷ []) ∷ inport 15 (init (0 ∷ 0 ∷ []) ∷ []) ∷ outport 16 ∷ []
+    ∷ fields (1 ∷ 1 ∷ []) ∷ inport 15 (init (0 ∷ 0 ∷ []) ∷ []) ∷ outport 16
+    -- 18, 19, 20
+    ∷ fields (1 ∷ 2 ∷ []) ∷ rows 18 (0 ∷ 1 ∷ []) ∷ cases (1 ∷ 2 ∷ [])
+    -- 21, 22, 23
+    ∷ callmessage (record { mode = by_in; content = 1 } ∷ record { mode = by_in; content = 2 } ∷ []) [] ∷ inport 21 [] ∷ outport 22 ∷ []
 
 abbrev pub example_types : TypeTable
 example_types = predefined ++ example_defined

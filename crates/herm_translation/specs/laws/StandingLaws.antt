@@ -24,8 +24,8 @@ pub record LookTheSame (modules : Modules) (image : ReadyImage) (x : State Name)
 -- A process that stands for another one looks the same, also behind an entry that both put aside.
 -- Code reference, "Standing for a process".
 pub record StandingLooksTheSame (modules : Modules) (image : ReadyImage) (nodes : NodesOfIndices) : Type 0 where
-  pub looks : (x : State Name) (y : CodeState Name) → StandsFor nodes x y → LookTheSame modules image x y
-  pub puts_aside : (x : State Name) (y : CodeState Name) → StandsFor nodes x y → StandsFor nodes ((source modules).put_aside x) ((code_machine image).put_aside y)
+  pub looks : (x : State Name) (y : CodeState Name) → StandsFor image nodes x y → LookTheSame modules image x y
+  pub puts_aside : (x : State Name) (y : CodeState Name) → StandsFor image nodes x y → StandsFor image nodes ((source modules).put_aside x) ((code_machine image).put_aside y)
 
 abbrev pub StandingStatesLookTheSame : Type 0
 StandingStatesLookTheSame = (modules : Modules) (image : ReadyImage) (nodes : NodesOfIndices) → AreCodesFor modules image → StandingLooksTheSame modules image nodes

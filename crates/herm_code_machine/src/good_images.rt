@@ -1,0 +1,26 @@
+// Processes of images whose code is good.
+
+ghost use Rattle.herm_code_machine.specs.laws.GoodImageLaws.{AnswersAreSound, InstructionsFindOperands, LocalStepsAreSound, OutcomesLead};
+
+/// The index that good code names for an outcome is the one to which the machine goes.
+pub fn outcomes_lead_along_ways()
+    ensures leads { OutcomesLead }
+{}
+
+/// In good code each instruction between actions finds its operands: on the stack, in variables and in slots. It goes along one of its
+/// ways, and leaves what the label behind it says, each exception at a landing with an empty stack.
+pub fn instructions_find_operands()
+    ensures found { InstructionsFindOperands }
+{}
+
+/// A process of a good image begins sound within itself, with any inport; behind each local step it is so again; and no local step that
+/// is next is stuck.
+pub fn local_steps_are_sound()
+    ensures steps { LocalStepsAreSound }
+{}
+
+/// Where what comes next in such a process is an action but a call, or something that waits to be finalised: it wants something, each answer
+/// with which what suits comes in is taken, and behind it the process is sound within itself again.
+pub fn answers_are_sound()
+    ensures answers { AnswersAreSound }
+{}
