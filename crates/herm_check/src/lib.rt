@@ -11,6 +11,7 @@ mod search;
 
 pub use behind_edge::behind;
 pub use checking::{CheckFault, check};
+pub use held::is_value_held_behind;
 pub use labels::labels_of;
 pub use missing::MissingFact;
 pub use search::Hop;

@@ -1,5 +1,5 @@
 -- An edge behind which all is in a set.
-use Rattle.std.proofs.Common.{◌≡◌, List, [], ◌∷◌, Bool, true, false, cond, not, ◌&&◌, ◌||◌, IsTrue, refl, sym, subst, true≢false}
+use Rattle.std.proofs.Common.{◌≡◌, [], Bool, true, false, cond, not, ◌&&◌, ◌||◌, IsTrue, refl, sym, subst, true≢false}
 use Rattle.herm_model.specs.Lists.{any_pass}
 use Rattle.herm_model.specs.Paths.{Fact, init, same_fact, path_of, is_at_or_below}
 use Rattle.herm_model.specs.ControlPaths.{Edge, held_after_edge}

@@ -56,7 +56,7 @@ module _ (table : TypeTable) (p : Process) (labels : Labels) (c : Coerced) (is :
       let kept : Path → Bool = λ q. label_at labels t (init q) in
       let listed = (facts-excess table p.variables here (label_at labels t) (λ u member. is.types.shallow u (is.typed.variables_known u member)) there paths).0 h in
       let same : excess table p.variables (has_value b.variables) kept ≡ paths = values-excess table p.variables here b.variables kept exact ∙ sym listed in
-      ap (λ xs. leave_loops (keeps_loop (module_of table p labels) t) (drop xs b)) same
+      (sym same, ap (λ xs. leave_loops (keeps_loop (module_of table p labels) t) (drop xs b)) same)
 
   -- what is held behind an edge of a point is held on a control path, so it is a fact of the variables
   held-there : (i : ℕ) (point : Point) (e : Edge) → slice_get (flow_of table p).points i ≡ Some point → IsIn e point.edges → (f : Fact) → IsTrue (behind_edge (labels i) e f) → IsFactOf table p.variables f

@@ -1,9 +1,9 @@
 //! The paths that each edge of a flow finalises.
-ghost use Rattle.std.specs.Prelude.{◌≡◌, ◌∷◌, [], cond, true, false, map, IfOk, IsTrue, ◌&&◌, nat_lt, length};
+ghost use Rattle.std.specs.Prelude.{◌≡◌, ◌∷◌, ◌++◌, [], cond, true, false, map, filter, IfOk, OnOk, IsTrue, ◌&&◌, nat_lt, length};
 ghost use Rattle.herm_model.specs.Paths as model;
 ghost use Rattle.herm_model.specs.Labels.{label_at};
 ghost use Rattle.herm_model.specs.laws.ExcessLaws.{IsExcess};
-ghost use Rattle.herm_model.specs.Lists.{any_pass};
+ghost use Rattle.herm_model.specs.Lists.{any_pass, IsIn};
 ghost use Rattle.herm_model.specs.ControlPaths.{held_after_edge};
 ghost use Rattle.herm_types.specs.View.{path_view, fact_view};
 ghost use Rattle.herm_typestate.specs.Facts.{has_fact};
@@ -13,7 +13,7 @@ ghost use Rattle.herm_coerce.specs.View.{coercions_view};
 ghost use Rattle.herm_coerce.specs.Coerced.{IsDropped, AreDropped, ArePointsDropped, IsEntryDropped, AreCoercions};
 
 use herm_base::VarNo;
-use herm_check::behind;
+use herm_check::{behind, is_value_held_behind};
 use herm_flow::{Edge, Flow, Point, Target};
 use herm_types::{Fact, Path};
 use herm_typestate::{Labels, State};
@@ -94,6 +94,16 @@ fn are_made_in(low: &State, makes: &[Fact]) -> bool
     true
 }
 
+/// Whether each fact that the edge makes is in the label of a point.
+fn are_made_at_point(labels: &Labels, edge: &Edge, at: u32) -> bool
+    ensures { IsTrue result → (f : model.Fact) → any_pass (model.same_fact f) (edge_view edge.now).makes ≡ true → labels_view labels.now at f ≡ true }
+{
+    let Some(low) = labels.at.as_slice().get(at as usize) else {
+        return false;
+    };
+    are_made_in(low, edge.makes.as_slice())
+}
+
 /// Whether each of the facts, and each that the edge makes, is in the low set. Then all that is held behind the edge is in it. Where
 /// false, all of that may be in it too, since an edge takes facts away.
 fn has_all_behind(low: &State, state: &State, edge: &Edge) -> bool
@@ -125,7 +135,97 @@ fn is_carried(state: &State, labels: &Labels, edge: &Edge) -> bool
     is_carried_to(state, labels, edge, at)
 }
 
-/// What an edge finalises, where these facts are held before it. Where it is found to finalise nothing, no fact is copied.
+/// Whether each fact that the edge makes is in the label of the target.
+fn are_made_at(labels: &Labels, edge: &Edge) -> bool
+    ensures { IsTrue result → (f : model.Fact) → any_pass (model.same_fact f) (edge_view edge.now).makes ≡ true → label_at (labels_view labels.now) (target_view edge.now.to) f ≡ true }
+{
+    if edge.makes.is_empty() {
+        return true;
+    }
+    let Target::Point(at) = edge.to else {
+        return false;
+    };
+    are_made_at_point(labels, edge, at)
+}
+
+/// Whether a value is held behind the edge at each of the paths, where it is held before it.
+fn are_held(edge: &Edge, paths: &[Path]) -> bool
+    ensures { IsTrue result → (x : model.Path) → IsIn x (map path_view paths.now) → held_after_edge (edge_view edge.now) (model.init x) true ≡ true }
+{
+    for path in paths {
+        if !is_value_held_behind(edge, path, true) {
+            return false;
+        }
+    }
+    true
+}
+
+/// Appends the path, where a value at it is held behind the edge.
+fn push_held(edge: &Edge, path: Path, out: &mut Vec<Path>) -> Result<(), AllocError>
+    ensures { OnOk result (map path_view out.new.items ≡ map path_view out.old.items ++ cond (held_after_edge (edge_view edge.now) (model.init (path_view path)) true) (path_view path ∷ []) []) }
+{
+    if is_value_held_behind(edge, &path, true) {
+        out.push(path)?;
+    }
+    Ok(())
+}
+
+/// Those of the paths at which a value is held behind the edge, where it is held before it.
+fn held_behind(alloc: Global, edge: &Edge, paths: Vec<Path>) -> Result<Vec<Path>, AllocError>
+    ensures { IfOk result (λ v. map path_view v.items ≡ filter (λ p. held_after_edge (edge_view edge.now) (model.init p) true) (map path_view paths.items)) }
+{
+    let mut out = Vec::new(alloc);
+    for path in paths {
+        push_held(edge, path, &mut out)?;
+    }
+    Ok(out)
+}
+
+/// What an edge finalises, by a copy of the facts as they are behind it.
+fn dropped_behind(
+    alloc: Global,
+    state: &State,
+    labels: &Labels,
+    edge: &Edge,
+) -> Result<Vec<Path>, AllocError>
+    ensures { IfOk result (λ paths. IsDropped (labels_view labels.now) (has_fact state.now) (edge_view edge.now) (map path_view paths.items)) }
+{
+    let after = behind(alloc, state, edge)?;
+    let paths = beyond(alloc, &after, labels, edge.to)?;
+    Ok(paths)
+}
+
+/// What an edge finalises, where these facts are held before it. Where the edge makes what is held before it, or what is in the label
+/// of the target, it is that part of what is left of the facts before it which the edge does not take away.
+fn left_behind(
+    alloc: Global,
+    state: &State,
+    labels: &Labels,
+    edge: &Edge,
+) -> Result<Vec<Path>, AllocError>
+    ensures { IfOk result (λ paths. IsDropped (labels_view labels.now) (has_fact state.now) (edge_view edge.now) (map path_view paths.items)) }
+{
+    let before = beyond(alloc, state, labels, edge.to)?;
+    if are_made_in(state, edge.makes.as_slice()) && are_held(edge, before.as_slice()) {
+        return Ok(before);
+    }
+    if are_made_at(labels, edge) {
+        let paths = held_behind(alloc, edge, before)?;
+        return Ok(paths);
+    }
+    let paths = dropped_behind(alloc, state, labels, edge)?;
+    Ok(paths)
+}
+
+/// How many facts and paths are few.
+const FEW: usize = 8;
+
+/// Whether the edge makes and takes away so little that each path may be compared with all of it.
+fn changes_little(edge: &Edge) -> bool {
+    edge.makes.len() <= FEW && edge.kills.len() <= FEW
+}
+
+/// What an edge finalises, where these facts are held before it. Where it is found to finalise nothing, no fact is looked for.
 fn dropped(
     alloc: Global,
     state: &State,
@@ -137,8 +237,11 @@ fn dropped(
     if is_carried(state, labels, edge) {
         return Ok(Vec::new(alloc));
     }
-    let after = behind(alloc, state, edge)?;
-    let paths = beyond(alloc, &after, labels, edge.to)?;
+    if changes_little(edge) {
+        let paths = left_behind(alloc, state, labels, edge)?;
+        return Ok(paths);
+    }
+    let paths = dropped_behind(alloc, state, labels, edge)?;
     Ok(paths)
 }
 

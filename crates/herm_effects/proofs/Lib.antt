@@ -5,3 +5,4 @@ pub mod Reading
 pub mod Passed
 pub mod Repeats
 pub mod Unknown
+pub mod Single

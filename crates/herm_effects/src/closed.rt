@@ -1,7 +1,8 @@
 //! Facts, each behind those before it and without repeats.
-ghost use Rattle.std.specs.Prelude.{◌≡◌, ◌++◌, ◌∷◌, [], ◌||◌, cond, IfOk, OnOk, IsTrue, List, map, flat_map};
+ghost use Rattle.std.specs.Prelude.{◌≡◌, ◌++◌, ◌∷◌, [], ◌||◌, cond, IfOk, OnOk, IsTrue, ℕ, List, map, flat_map, take};
 ghost use Rattle.herm_model.specs.Paths as model;
 ghost use Rattle.herm_model.specs.Paths.{same_fact};
+ghost use Rattle.herm_model.specs.Types.{TypeTable};
 ghost use Rattle.herm_model.specs.Facts.{prefixes, with_prefixes};
 ghost use Rattle.herm_model.specs.StatementTable as table;
 ghost use Rattle.herm_types.specs.View.{path_view, fact_view};
@@ -14,7 +15,7 @@ use crate::few::{are_few, closed_few};
 use crate::paths::{copy, parent_of};
 use herm_judge::{Frame, passes_component};
 use herm_types::{Fact, Path};
-use herm_typestate::State;
+use herm_typestate::{State, same_fact};
 use std::alloc::{AllocError, Global};
 
 /// Whether a path passes through no component and the set has a value at it.
@@ -130,12 +131,56 @@ fn closed_by_set(alloc: Global, frame: &Frame, facts: Vec<Fact>) -> Result<Vec<F
     Ok(out)
 }
 
+/// Whether the fact is that a variable has a value, before which there is none.
+fn is_of_variable(fact: &Fact) -> bool
+    ensures { IsTrue result → (types : TypeTable) (variables : List ℕ) → prefixes types variables (fact_view fact.now) ≡ [] }
+{
+    match fact {
+        Fact::Init(path) => path.parts.as_slice().is_empty(),
+        Fact::Case(_, _) => false,
+    }
+}
+
+/// Whether there is one fact, before which there is none.
+fn is_alone(facts: &[Fact]) -> bool
+    ensures { IsTrue result → (types : TypeTable) (variables : List ℕ) → table.closed types variables (map fact_view facts.now) ≡ map fact_view facts.now }
+{
+    match facts {
+        [fact] => is_of_variable(fact),
+        _ => false,
+    }
+}
+
+/// Whether there is one fact twice, before which there is none. So it is where a variable's value without parts is to be full.
+fn is_twice(facts: &[Fact]) -> bool
+    ensures { IsTrue result → (types : TypeTable) (variables : List ℕ) → table.closed types variables (map fact_view facts.now) ≡ take 1 (map fact_view facts.now) }
+{
+    match facts {
+        [fact, other] => is_of_variable(fact) && same_fact(fact, other),
+        _ => false,
+    }
+}
+
+/// The first of the facts.
+fn first(mut facts: Vec<Fact>) -> Vec<Fact>
+    ensures { map fact_view result.items ≡ take 1 (map fact_view facts.items) }
+{
+    facts.truncate(1);
+    facts
+}
+
 /// The facts, each behind those before it and without repeats.
 pub fn closed(alloc: Global, frame: &Frame, facts: Vec<Fact>) -> Result<Vec<Fact>, AllocError>
     ensures { IfOk result (λ v. map fact_view v.items ≡ table.closed (table_of frame.now) (variables_of frame.now) (map fact_view facts.items)) }
 {
     if facts.is_empty() {
         return Ok(facts);
+    }
+    if is_alone(facts.as_slice()) {
+        return Ok(facts);
+    }
+    if is_twice(facts.as_slice()) {
+        return Ok(first(facts));
     }
     if are_few(facts.as_slice()) {
         let found = closed_few(alloc, frame, facts)?;

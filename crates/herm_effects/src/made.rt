@@ -24,7 +24,7 @@ use std::alloc::{AllocError, Global};
 fn full_value(alloc: Global, frame: &Frame, x: &TypedPath) -> Result<Vec<Fact>, AllocError>
     ensures { IfOk result (λ v. map fact_view v.items ≡ full (table_of frame.now) (variables_of frame.now) (typed_path_view x.now)) }
 {
-    let mut out = Vec::new(alloc);
+    let mut out = Vec::with_capacity(alloc, 2)?;
     push_full(alloc, frame, &x.path, &mut out)?;
     Ok(out)
 }
@@ -86,13 +86,13 @@ fn push_case(
 fn init_at_ok(alloc: Global, x: &TypedPath, outcome: Outcome) -> Result<Vec<Fact>, AllocError>
     ensures { IfOk result (λ v. map fact_view v.items ≡ at_ok (paths.init (typed_path_view x.now) ∷ []) (outcome_view outcome)) }
 {
-    let mut out = Vec::new(alloc);
     match outcome {
         Outcome::Ok => {
+            let mut out = Vec::with_capacity(alloc, 1)?;
             push_init(alloc, x, &mut out)?;
             Ok(out)
         }
-        _ => Ok(out),
+        _ => Ok(Vec::new(alloc)),
     }
 }
 

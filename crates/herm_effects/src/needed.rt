@@ -25,7 +25,7 @@ use std::alloc::{AllocError, Global};
 fn present_alone(alloc: Global, frame: &Frame, p: &TypedPath) -> Result<Vec<Fact>, AllocError>
     ensures { IfOk result (λ v. map fact_view v.items ≡ present (table_of frame.now) (variables_of frame.now) (typed_path_view p.now)) }
 {
-    let mut out = Vec::new(alloc);
+    let mut out = Vec::with_capacity(alloc, 1)?;
     push_present(alloc, frame, &p.path, &mut out)?;
     Ok(out)
 }
@@ -63,7 +63,7 @@ fn room_and_present(
 ) -> Result<Vec<Fact>, AllocError>
     ensures { IfOk result (λ v. map fact_view v.items ≡ room_for (table_of frame.now) (variables_of frame.now) (typed_path_view target.now) ++ present (table_of frame.now) (variables_of frame.now) (typed_path_view source.now)) }
 {
-    let mut out = Vec::new(alloc);
+    let mut out = Vec::with_capacity(alloc, 2)?;
     push_room(alloc, frame, &target.path, &mut out)?;
     push_present(alloc, frame, &source.path, &mut out)?;
     Ok(out)
@@ -88,7 +88,7 @@ fn push_expression(
 fn expression_alone(alloc: Global, frame: &Frame, e: &TypedExpr) -> Result<Vec<Fact>, AllocError>
     ensures { IfOk result (λ v. map fact_view v.items ≡ full_of_each (table_of frame.now) (variables_of frame.now) (paths_read (typed_expr_view e.now))) }
 {
-    let mut out = Vec::new(alloc);
+    let mut out = Vec::with_capacity(alloc, 2)?;
     push_expression(alloc, frame, e, &mut out)?;
     Ok(out)
 }

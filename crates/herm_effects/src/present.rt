@@ -1,15 +1,17 @@
 //! The facts by which a value is at a path, and those by which it is full.
-ghost use Rattle.std.specs.Prelude.{◌≡◌, ◌++◌, OnOk, map, flat_map, slice_get};
+ghost use Rattle.std.specs.Prelude.{◌≡◌, ◌++◌, ◌∷◌, [], OnOk, IsTrue, map, flat_map, slice_get};
 ghost use Rattle.herm_model.specs.Lists.{list_of};
 ghost use Rattle.herm_model.specs.Facts as model;
 ghost use Rattle.herm_model.specs.StatementTable.{present, full, full_of_each, room_for};
-ghost use Rattle.herm_types.specs.View.{path_view, fact_view};
+ghost use Rattle.herm_model.specs.Paths.{init};
+ghost use Rattle.herm_model.specs.Types.{full_parts};
+ghost use Rattle.herm_types.specs.View.{path_view, fact_view, shape_view};
 ghost use Rattle.herm_judge.specs.View.{kind, table_of, variables_of};
 
-use crate::paths::parent_of;
+use crate::paths::{copy, parent_of};
 use herm_base::{TypeNo, VarNo};
 use herm_judge::{Frame, passes_component, type_of};
-use herm_types::{Fact, Path, TypeTable};
+use herm_types::{Fact, Path, Shape, TypeTable};
 use std::alloc::{AllocError, Global};
 
 /// The type of a variable.
@@ -61,6 +63,40 @@ pub fn push_all(facts: Vec<Fact>, out: &mut Vec<Fact>) -> Result<(), AllocError>
     Ok(())
 }
 
+/// Whether a full value of the shape has no parts with facts of their own.
+fn is_plain(shape: &Shape) -> bool
+    ensures { IsTrue result → full_parts (shape_view shape.now) ≡ [] }
+{
+    match shape {
+        Shape::Boolean => true,
+        Shape::Integer => true,
+        Shape::Text => true,
+        Shape::Names(_) => true,
+        Shape::Fields(_) => false,
+        Shape::Cases(_) => true,
+        Shape::Rows { row: _, keys: _ } => true,
+        Shape::Poly => true,
+        Shape::Inport {
+            message: _,
+            facts: _,
+        } => true,
+        Shape::Outport { port: _ } => true,
+        Shape::CallMessage {
+            params: _,
+            raises: _,
+        } => false,
+    }
+}
+
+/// Appends `init` of the path.
+fn push_init(alloc: Global, p: &Path, out: &mut Vec<Fact>) -> Result<(), AllocError>
+    ensures { OnOk result (map fact_view out.new.items ≡ map fact_view out.old.items ++ init (path_view p.now) ∷ []) }
+{
+    let path = copy(alloc, p)?;
+    out.push(Fact::Init(path))?;
+    Ok(())
+}
+
 /// Appends the facts of a full value of a type at the path.
 fn push_value(
     alloc: Global,
@@ -76,6 +112,10 @@ fn push_value(
         None => return Ok(()),
     };
     if t.0 as usize >= types.len() {
+        return Ok(());
+    }
+    if is_plain(types.shape(t)) {
+        push_init(alloc, p, out)?;
         return Ok(());
     }
     let facts = types.full_facts(alloc, p, t)?;

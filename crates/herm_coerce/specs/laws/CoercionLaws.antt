@@ -6,13 +6,15 @@ use Rattle.herm_model.specs.Statements.{Process}
 use Rattle.herm_model.specs.Targets.{Target}
 use Rattle.herm_model.specs.ControlPaths.{Edge, Point, flow_of, held_at_start}
 use Rattle.herm_model.specs.Labels.{Labels, AreExact}
+use Rattle.herm_model.specs.Values.{has_value}
 use Rattle.herm_model.specs.FactsOfValues.{HasExactly}
+use Rattle.herm_model.specs.Finalising.{excess}
 use Rattle.herm_model.specs.WellFormedTables.{IsWellFormedTable}
 use Rattle.herm_model.specs.TypedPrograms.{IsTypedProcess}
 use Rattle.herm_forms.specs.Frames.{Name, Frame, drop}
 use Rattle.herm_forms.specs.Modules.{Module, module_of}
 use Rattle.herm_forms.specs.LeavingLoops.{keeps_loop, leave_loops}
-use Rattle.herm_forms.specs.EdgeFinalising.{arrive}
+use Rattle.herm_forms.specs.EdgeFinalising.{keeps, arrive}
 use Rattle.herm_coerce.specs.Coerced.{Coerced, behind_edge, AreCoercions}
 
 -- a typed process of a well-formed table of types, with exact labels and the coercions of its flow
@@ -28,9 +30,11 @@ pub record IsCoerced (table : TypeTable) (p : Process) (labels : Labels) (c : Co
 abbrev pub paths_of_edge : Coerced → ℕ → ℕ → Option (List Path)
 paths_of_edge c i j = option_and_then (λ edges. slice_get edges j) (slice_get c.at i)
 
--- Where control goes to the target, these paths are dropped, and then the lists of loops that are left.
+-- Where control goes to the target, these paths, no more and in this order, are there and not kept. They are dropped, and then the lists of loops that are left.
 abbrev pub Drops : Module → Target → Frame Name → List Path → Type 0
-Drops code t b paths = arrive code t b ≡ leave_loops (keeps_loop code t) (drop paths b)
+Drops code t b paths =
+    (paths ≡ excess code.types code.variables (has_value b.variables) (keeps code t))
+    × (arrive code t b ≡ leave_loops (keeps_loop code t) (drop paths b))
 
 -- Where the values have exactly what is held behind an edge by the label before it, the coercions have the edge, and the source
 -- machine drops on it what they have there. Language reference, "Finalising".

@@ -1,4 +1,4 @@
-use Rattle.std.proofs.Common.{◌≡◌, true, map, take, sym, ap, ◌∙◌}
+use Rattle.std.proofs.Common.{map, take, sym, ap, ◌∙◌}
 use Rattle.std.proofs.lemmas.List.{take_all}
 use Rattle.herm_model.specs.Lists.{any_pass}
 use Rattle.herm_model.specs.Paths.{same_fact}

@@ -6,14 +6,8 @@ use Rattle.herm_typestate.specs.Facts.{has_fact}
 use Rattle.herm_flow.specs.View.{target_view, edge_view}
 use Rattle.herm_check.specs.View.{labels_view}
 use Rattle.herm_coerce.specs.Coerced.{behind_edge}
-use Rattle.herm_coerce.proofs.Excess.{here-same}
 use Rattle.herm_coerce.proofs.Carried.{none-beyond}
 use Rattle.herm_coerce.proofs.coercions.dropped.Goals as goal
-
-pub returns : goal.returns
-returns c =
-    here-same (has_fact c.in_ok-after.after) (behind_edge (has_fact c.args.state.now) (edge_view c.args.edge.now)) (label_at (labels_view c.args.labels.now) (target_view c.args.edge.now.to)) (map path_view c.in_ok-paths.paths.items)
-    c.in_ok-after.ensures c.in_ok-paths.ensures
 
 pub returns-then-is_carried : goal.returns-then-is_carried
 returns-then-is_carried c =

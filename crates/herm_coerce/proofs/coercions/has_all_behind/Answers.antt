@@ -1,4 +1,4 @@
-use Rattle.std.proofs.Common.{◌≡◌, true, map, sym, ap, ◌∙◌}
+use Rattle.std.proofs.Common.{map, ap, ◌∙◌}
 use Rattle.herm_model.specs.Lists.{any_pass}
 use Rattle.herm_model.specs.Paths.{same_fact}
 use Rattle.herm_types.specs.View.{fact_view}

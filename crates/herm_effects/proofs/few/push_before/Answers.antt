@@ -1,4 +1,4 @@
-use Rattle.std.proofs.Common.{◌≡◌, ◌≤◌, ◌<◌, ◌++◌, ◌∷◌, [], length, sym, ap, subst, ◌∙◌}
+use Rattle.std.proofs.Common.{◌≤◌, ◌<◌, ◌++◌, ◌∷◌, [], length, sym, ap, subst, ◌∙◌}
 use Rattle.herm_model.specs.Paths.{init}
 use Rattle.herm_model.specs.Facts.{prefixes, without_repeats}
 use Rattle.herm_types.specs.View.{fact_view}
