@@ -1,2 +1,3 @@
 -- What is proved of the words of refusals.
 pub mod WordLaws
+pub mod NodeLaws
