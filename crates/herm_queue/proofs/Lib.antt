@@ -1,0 +1,6 @@
+mod AboveLast
+mod Acted
+mod PortActs
+mod ReplyActs
+mod BookActs
+mod CellsSeen

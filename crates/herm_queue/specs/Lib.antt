@@ -1,0 +1,9 @@
+pub mod CellStates
+pub mod LogStates
+pub mod MessageStates
+pub mod PortStates
+pub mod PortParts
+pub mod ReplyStates
+pub mod AnsweredReplies
+pub mod BookStates
+pub mod SeenCells
