@@ -3,7 +3,7 @@ use Rattle.std.proofs.Common.{◌≡◌, ◌≢◌, ℕ, suc, List, [], ◌∷�
 use Rattle.std.proofs.lemmas.List.{drop_all, nil_from_length}
 use Rattle.herm_model.specs.Lists.{IsIn}
 use Rattle.herm_model.specs.ControlPaths.{Flow}
-use Rattle.herm_model.specs.Refusals.{Refusal, demands, AreRefusals}
+use Rattle.herm_model.specs.MissingFacts.{Refusal, demands, AreRefusals}
 use Rattle.herm_model.specs.laws.FlowLaws.{said}
 use Rattle.herm_model.proofs.DeterminedRefusals.{refusals-determined}
 use Rattle.herm_meaning.specs.Names.{NamedTable}

@@ -3,7 +3,7 @@ use Rattle.std.specs.Prelude.{◌≡◌, List, [], ◌∷◌, length, ⊤}
 use Rattle.herm_model.specs.Types.{TypeTable}
 use Rattle.herm_model.specs.ControlPaths.{flow_of}
 use Rattle.herm_model.specs.Labels.{AreExact}
-use Rattle.herm_model.specs.Refusals as model
+use Rattle.herm_model.specs.MissingFacts as model
 use Rattle.herm_typed.specs.declared.statements.TypedProcess.{TypedProcess}
 use Rattle.herm_typed.specs.View.{typed_process_view}
 use Rattle.herm_typestate.specs.declared.labels.Labels.{Labels}

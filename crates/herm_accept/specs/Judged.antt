@@ -2,7 +2,7 @@
 use Rattle.std.specs.Prelude.{◌≡◌, ◌≢◌, ℕ, List, [], ◌∷◌, ◌++◌, map, length}
 use Rattle.herm_model.specs.Statements.{Process}
 use Rattle.herm_model.specs.ControlPaths.{flow_of}
-use Rattle.herm_model.specs.Refusals.{Refusal}
+use Rattle.herm_model.specs.MissingFacts.{Refusal}
 use Rattle.herm_model.specs.TypedPrograms.{IsTypedProcess}
 use Rattle.herm_meaning.specs.Names.{NamedTable}
 use Rattle.herm_typed.specs.declared.statements.TypedProcess.{TypedProcess}

@@ -2,7 +2,7 @@
 use Rattle.std.specs.Prelude.{◌≡◌, ◌≢◌, ℕ, suc, List, [], ◌++◌, ◌∷◌, map, ⊤}
 use Rattle.herm_model.specs.Lists.{map_or}
 use Rattle.herm_model.specs.ControlPaths.{flow_of}
-use Rattle.herm_model.specs.Refusals.{Refusal}
+use Rattle.herm_model.specs.MissingFacts.{Refusal}
 use Rattle.herm_meaning.specs.Names.{NamedTable}
 use Rattle.herm_typed.specs.declared.statements.TypedProcess.{TypedProcess}
 use Rattle.herm_typed.specs.View.{typed_process_view}
@@ -10,7 +10,7 @@ use Rattle.herm_check.specs.Missing.{refusal_view}
 use Rattle.herm_check.specs.Shortest.{AreShortest}
 use Rattle.herm_words.specs.declared.sites.Site.{Site}
 use Rattle.herm_words.specs.Sites.{sites_in, site_at}
-use Rattle.herm_words.specs.Words.{refusal_words}
+use Rattle.herm_words.specs.MissingFactWords.{refusal_words}
 use Rattle.herm_accept.specs.declared.accepting.Lack.{Lack}
 use Rattle.herm_accept.specs.declared.accepting.AcceptFault.{AcceptFault}
 use Rattle.herm_accept.specs.declared.accepting.AcceptFault.TheVariants.{Missing, Memory}

@@ -2,8 +2,8 @@
 use Rattle.std.proofs.Common.{◌≡◌, ℕ, suc, ◌+◌, ◌≤◌, ◌*◌, List, [], ◌∷◌, ◌++◌, map, flat_map, length, false, refl, sym, ◌∙◌, ap, arith, append_assoc, append-nil, inl, inr, subst, true≢false}
 use Rattle.herm_model.specs.Lists.{IsIn, numbered}
 use Rattle.herm_model.specs.ControlPaths.{Point, Flow, Hop, Holds}
-use Rattle.herm_model.specs.Refusals as model
-use Rattle.herm_model.specs.Refusals.{Demand, demands_at, demands, Refusal, AreRefusals}
+use Rattle.herm_model.specs.MissingFacts as model
+use Rattle.herm_model.specs.MissingFacts.{Demand, demands_at, demands, Refusal, AreRefusals}
 use Rattle.herm_check.specs.Shortest.{IsShortest, AreReported, none, missing, holds, AreNoLonger, AreShortest}
 
 pub reported-append : (flow : Flow) (ds es : List Demand) (rs ss : List Refusal) → AreReported flow ds rs → AreReported flow es ss → AreReported flow (ds ++ es) (rs ++ ss)

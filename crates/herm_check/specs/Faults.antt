@@ -2,7 +2,7 @@
 use Rattle.std.specs.Prelude.{◌<◌, map, length, ⊤}
 use Rattle.herm_model.specs.Lists.{IsIn}
 use Rattle.herm_model.specs.ControlPaths.{Flow, Holds}
-use Rattle.herm_model.specs.Refusals.{Demand, demands}
+use Rattle.herm_model.specs.MissingFacts.{Demand, demands}
 use Rattle.herm_check.specs.declared.checking.CheckFault.{CheckFault}
 use Rattle.herm_check.specs.declared.checking.CheckFault.TheVariants.{Missing, Memory}
 use Rattle.herm_check.specs.Missing.{refusal_view}

@@ -1,7 +1,7 @@
 -- What a missing fact stands for.
 use Rattle.std.specs.Prelude.{ℕ, map}
 use Rattle.herm_model.specs.Paths.{Fact}
-use Rattle.herm_model.specs.Refusals.{Demand, Refusal}
+use Rattle.herm_model.specs.MissingFacts.{Demand, Refusal}
 use Rattle.herm_types.specs.View.{fact_view}
 use Rattle.herm_check.specs.View.{hop_view}
 use Rattle.herm_check.specs.declared.missing.MissingFact.{MissingFact}

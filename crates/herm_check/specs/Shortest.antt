@@ -3,7 +3,7 @@ use Rattle.std.specs.Prelude.{ℕ, ◌*◌, ◌≤◌, List, [], ◌∷◌, leng
 use Rattle.herm_model.specs.Lists.{IsIn}
 use Rattle.herm_model.specs.Paths.{Fact}
 use Rattle.herm_model.specs.ControlPaths.{Flow, Hop, Holds, LacksBy}
-use Rattle.herm_model.specs.Refusals.{Demand, demands, Refusal, AreRefusals}
+use Rattle.herm_model.specs.MissingFacts.{Demand, demands, Refusal, AreRefusals}
 
 -- The hops are a control path to the point on which the fact is not held, and none is shorter. A point is passed at most twice.
 pub record IsShortest (flow : Flow) (f : Fact) (i : ℕ) (hops : List Hop) : Type 0 where

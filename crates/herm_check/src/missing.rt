@@ -3,7 +3,7 @@ ghost use Rattle.std.specs.Prelude.{◌≡◌, ◌↔◌, ◌++◌, [], ◌∷�
 ghost use Rattle.herm_model.specs.Paths.{Fact as FactOf};
 ghost use Rattle.herm_model.specs.Targets.{node};
 ghost use Rattle.herm_model.specs.ControlPaths.{Holds, IsReached};
-ghost use Rattle.herm_model.specs.Refusals.{Demand, demands_at, demands};
+ghost use Rattle.herm_model.specs.MissingFacts.{Demand, demands_at, demands};
 ghost use Rattle.herm_model.specs.Labels.{AreExact};
 ghost use Rattle.herm_model.specs.laws.FlowLaws.{EdgesDiffer};
 ghost use Rattle.herm_types.specs.View.{path_view, fact_view};

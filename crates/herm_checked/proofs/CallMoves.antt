@@ -12,7 +12,7 @@ use Rattle.herm_journal.specs.Messages.{CellReply, CellAction}
 use Rattle.herm_forms.specs.Acts.{is_action, act, settle, settle_reply, composed, arguments_at, is_out, leads_to}
 use Rattle.herm_forms.specs.Callmessages.{Composed}
 use Rattle.herm_forms.specs.EdgeFinalising.{arrive}
-use Rattle.herm_forms.specs.Exchanges
+use Rattle.herm_forms.specs.ClosesAndAnswers
 use Rattle.herm_forms.specs.Frames.{Frame, Completion, goes, stays, stuck, if_there, drop, finalise_at_once, counted_step, counted_action}
 use Rattle.herm_forms.specs.Modules.{Module}
 use Rattle.herm_forms.specs.OpenCalls.{Calling, call_type, calling_form}
@@ -120,7 +120,7 @@ module _ (modules : Modules) where
   hears c s t n form k a b is = none-not_some is
 
   -- an answer to what is to be finalised is a close or an answer
-  works : (c : Module) (x y : State Name) (item : Cell Name) (a : CellAction Name) (b : Frame Name) → state_after c x None (Exchanges.work_done item a b) ≡ Some y → (source modules).open_call y ≡ (source modules).open_call x → CallMoves (source modules) x y a
+  works : (c : Module) (x y : State Name) (item : Cell Name) (a : CellAction Name) (b : Frame Name) → state_after c x None (ClosesAndAnswers.work_done item a b) ≡ Some y → (source modules).open_call y ≡ (source modules).open_call x → CallMoves (source modules) x y a
   works c x y item (close count left) b is same = same
   works c x y item (answer k r) b is same = same
   works c x y item a b is same = none-not_some is
@@ -137,11 +137,11 @@ module _ (modules : Modules) where
       stayed-so : (t : State Name) (b : Frame Name) → x.frame.call ≡ b.call → t ≡ record x { frame = b } → (source modules).open_call t ≡ (source modules).open_call x
       stayed-so t b call is = same-open x t (ap (λ (t : State Name). t.module_number) is) (ap (λ (t : State Name). t.point) is) (ap (λ (t : State Name). t.frame.call) is ∙ sym call)
 
-      item-moves : (c : Module) (item : Cell Name) (work : List (Cell Name)) → state_after c x None (Exchanges.work_done item a (counted_action (record (x.frame) { work = work }))) ≡ Some y → CallMoves (source modules) x y a
+      item-moves : (c : Module) (item : Cell Name) (work : List (Cell Name)) → state_after c x None (ClosesAndAnswers.work_done item a (counted_action (record (x.frame) { work = work }))) ≡ Some y → CallMoves (source modules) x y a
       item-moves c item work is =
           let b = counted_action (record (x.frame) { work = work }) in
           let all = all-work (HasCall x.frame.call) ((call-kept x.frame.call).letting) item a b refl in
-          works c x y item a b is (from (Exchanges.work_done item a b) all is)
+          works c x y item a b is (from (ClosesAndAnswers.work_done item a b) all is)
         where
           from : (r : Completion Name) → All (HasCall x.frame.call) (HasCall x.frame.call) r → state_after c x None r ≡ Some y → (source modules).open_call y ≡ (source modules).open_call x
           from (goes o b) all is = none-not_some is

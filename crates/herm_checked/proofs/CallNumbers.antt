@@ -10,7 +10,7 @@ use Rattle.herm_journal.specs.Actions.{put}
 use Rattle.herm_journal.specs.Messages.{CellAction}
 use Rattle.herm_forms.specs.Acts.{is_action, act, settle, settle_reply, composed}
 use Rattle.herm_forms.specs.Callmessages.{Composed}
-use Rattle.herm_forms.specs.Exchanges
+use Rattle.herm_forms.specs.ClosesAndAnswers
 use Rattle.herm_forms.specs.Frames.{Frame, stays, if_there, counted_step, counted_action}
 use Rattle.herm_forms.specs.Modules.{Module}
 use Rattle.herm_forms.specs.OpenCalls.{Calling, call_type}
@@ -61,7 +61,7 @@ module _ (modules : Modules) where
       by : (c : Module) (next : Next Name) → settle_next own_name c x at a next ≡ Some y → x.frame.calls ≤ y.frame.calls
       by c (an_item item work) is =
           let b = counted_action (record (x.frame) { work = work }) in
-          behind (AtLeast x.frame.calls) (least-kept x.frame.calls) (λ stay b h. h) c x y None (Exchanges.work_done item a b) (all-work (AtLeast x.frame.calls) ((least-kept x.frame.calls).letting) item a b (omega arith)) is
+          behind (AtLeast x.frame.calls) (least-kept x.frame.calls) (λ stay b h. h) c x y None (ClosesAndAnswers.work_done item a b) (all-work (AtLeast x.frame.calls) ((least-kept x.frame.calls).letting) item a b (omega arith)) is
       by c (a_reply k n) is =
           behind (AtLeast x.frame.calls) (least-kept x.frame.calls) (λ stay b h. h) c x y (Some n) (settle_reply c n.form k a (counted_action x.frame)) (all-settle_reply own_name (AtLeast x.frame.calls) (AtLeast x.frame.calls) (least-kept x.frame.calls) c n.form k a (counted_action x.frame) (omega arith)) is
       by c (a_statement n) is =

@@ -14,7 +14,7 @@ use Rattle.herm_model.proofs.Options.{none-not_some, map-some}
 use Rattle.herm_journal.specs.Messages.{CellAction, is_inport, message_of_port, IsMessage}
 use Rattle.herm_forms.specs.Acts.{is_action, act, settle, settle_reply}
 use Rattle.herm_forms.specs.EdgeFinalising.{arrive}
-use Rattle.herm_forms.specs.Exchanges
+use Rattle.herm_forms.specs.ClosesAndAnswers
 use Rattle.herm_forms.specs.Frames.{Frame, Completion, counted_step, counted_action}
 use Rattle.herm_forms.specs.Modules.{Module}
 use Rattle.herm_forms.proofs.KeptBodies.{IsKept, All, all-act, all-work, all-settle, all-settle_reply, is-arrive}
@@ -155,7 +155,7 @@ module _ (modules : Modules) where
       by : (c : Module) (next : Next Name) → IsTrue (is_acting (ready_for c limit x.frame next)) → settle_next own_name c x at a next ≡ Some y → Counted limit x y
       by c (an_item item work) ready is =
           let b = counted_action (record (x.frame) { work = work }) in
-          same-steps (counted-behind x.frame.steps (suc x.frame.actions) c x y None (Exchanges.work_done item a b)
+          same-steps (counted-behind x.frame.steps (suc x.frame.actions) c x y None (ClosesAndAnswers.work_done item a b)
           (all-work (HasCounts x.frame.steps (suc x.frame.actions)) ((counts-kept x.frame.steps (suc x.frame.actions)).letting) item a b (refl, refl)) is) (act-below x.frame.actions ready)
       by c (a_reply k n) ready is =
           same-steps (counted-behind x.frame.steps (suc x.frame.actions) c x y (Some n) (settle_reply c n.form k a (counted_action x.frame))

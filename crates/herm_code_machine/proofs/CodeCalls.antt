@@ -6,6 +6,7 @@ use Rattle.herm_model.proofs.Options.{none-not_some, some-injective, chain-some}
 use Rattle.herm_journal.specs.Messages.{CellAction}
 use Rattle.herm_forms.specs.Frames.{Name, Frame, Completion, goes, stays, stuck, counted_action}
 use Rattle.herm_forms.specs.Exchanges
+use Rattle.herm_forms.specs.ClosesAndAnswers
 use Rattle.herm_forms.proofs.KeptBodies.{LetsGo, IsKept}
 use Rattle.herm_forms.proofs.KeptBodies
 use Rattle.herm_code_machine.specs.ReadyCode.{ReadyCode}
@@ -81,7 +82,7 @@ module _ {N : Type 0} (name : Name → N) (n : ℕ) where
   is-answer : (c : ReadyCode) (s t : CodeState N) (at : ℕ) (a : CellAction N) (next : CodeNext N) → Is s.frame → settle_next name c s at a next ≡ Some t → Same s t
   is-answer c s t at a (an_item item work) e is =
       let b = counted_action (record (s.frame) { work = work }) in
-      is-worked s t (Exchanges.work_done item a b) (as-all name Is calls-kept (λ ls b e. e) (Exchanges.work_done item a b) (KeptBodies.all-work Is calls-kept.letting item a b e)) is
+      is-worked s t (ClosesAndAnswers.work_done item a b) (as-all name Is calls-kept (λ ls b e. e) (ClosesAndAnswers.work_done item a b) (KeptBodies.all-work Is calls-kept.letting item a b e)) is
   is-answer c s t at a (a_reply call i instruction) e is =
       let k = is-settled name c On Is (keeps c) s t i instruction s.stack (code_hears instruction call a (counted_action s.frame)) tt (keeps-hears name Is calls-kept (λ ls b e. e) instruction call a (counted_action s.frame) e) is in (k.0, k.2)
   is-answer c s t at a (an_action p m) e is =
@@ -193,7 +194,7 @@ module _ (c : ReadyCode) (s t : CodeState Name) (number : ℕ) (m : Cell Name) (
   hears-none (Call o arguments keeps) k b = refl
   hears-none i k b = refl
 
-  work-none : (item : Cell Name) (b : Frame Name) → Exchanges.work_done item (put (Some number) m) b ≡ stuck
+  work-none : (item : Cell Name) (b : Frame Name) → ClosesAndAnswers.work_done item (put (Some number) m) b ≡ stuck
   work-none item b = refl
 
   pub opens-numbered : (at : ℕ) → code_answered own_name c s at (put (Some number) m) ≡ Some t → Numbered

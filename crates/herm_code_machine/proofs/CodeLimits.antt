@@ -7,7 +7,7 @@ use Rattle.herm_model.specs.Types.{TypeTable}
 use Rattle.herm_model.specs.Values.{Name, Cell, Value}
 use Rattle.herm_model.proofs.Options.{none-not_some, some-injective, chain-some}
 use Rattle.herm_journal.specs.Messages.{CellAction}
-use Rattle.herm_forms.specs.Exchanges
+use Rattle.herm_forms.specs.ClosesAndAnswers
 use Rattle.herm_forms.specs.Frames.{Frame, Completion, goes, stays, stuck, counted_action}
 use Rattle.herm_forms.proofs.KeptBodies.{IsKept}
 use Rattle.herm_forms.proofs.KeptBodies
@@ -182,7 +182,7 @@ module _ (image : ReadyImage) where
       let n = x.frame.steps in
       let m = suc x.frame.actions in
       let b : Frame Name = counted_action (record (x.frame) { work = work }) in
-      same-steps limit x y (worked-counts n m x y (Exchanges.work_done item a b) (as-all own_name (HasCounts n m) (counts-kept n m) (λ ls b h. h) (Exchanges.work_done item a b) (KeptBodies.all-work (HasCounts n m) ((counts-kept n m).letting) item a b (refl, refl))) is)
+      same-steps limit x y (worked-counts n m x y (ClosesAndAnswers.work_done item a b) (as-all own_name (HasCounts n m) (counts-kept n m) (λ ls b h. h) (ClosesAndAnswers.work_done item a b) (KeptBodies.all-work (HasCounts n m) ((counts-kept n m).letting) item a b (refl, refl))) is)
       (act-below x.frame.actions (nat_lt x.frame.actions greatest_actions) refl ready)
   answer-counts c limit x y at a (a_reply call i instruction) ready is =
       let n = x.frame.steps in

@@ -3,7 +3,7 @@ use Rattle.std.proofs.Common.{◌≡◌, ℕ, zero, suc, ◌+◌, List, [], ◌�
 use Rattle.herm_model.specs.Values.{Value}
 use Rattle.herm_model.proofs.Options.{none-not_some, some-injective, chain-some, map-some}
 use Rattle.herm_journal.specs.Messages.{CellAction}
-use Rattle.herm_forms.specs.Exchanges
+use Rattle.herm_forms.specs.ClosesAndAnswers
 use Rattle.herm_forms.specs.Frames.{Name, Completion, goes, stays, stuck, counted_action}
 use Rattle.herm_instructions.specs.Instructions.{Instruction}
 use Rattle.herm_instructions.specs.Images.{instruction_at, landing_of}
@@ -66,7 +66,7 @@ module _ (name : Name → Name) (c : ReadyCode) where
   at-worked s t stuck at is = none-not_some is
 
   at-answer : (s t : CodeState Name) (at : ℕ) (a : CellAction Name) (next : CodeNext Name) → IsAtPiece c s.position → settle_next name c s at a next ≡ Some t → IsAtPiece c t.position
-  at-answer s t at a (an_item item work) here is = at-worked s t (Exchanges.work_done item a (counted_action (record (s.frame) { work = work }))) here is
+  at-answer s t at a (an_item item work) here is = at-worked s t (ClosesAndAnswers.work_done item a (counted_action (record (s.frame) { work = work }))) here is
   at-answer s t at a (a_reply call i instruction) here is = at-settled s t i instruction s.stack (code_hears instruction call a (counted_action s.frame)) is
   at-answer s t at a (an_action p m) here is =
       let r = chain-some (settled_action name c s p m at a) (stack_before_action c p s.frame.variables s.stack) t is in

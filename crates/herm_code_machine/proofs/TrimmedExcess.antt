@@ -7,7 +7,7 @@ use Rattle.herm_model.specs.Paths.{Path, Fact, init, case, same_path, same_fact}
 use Rattle.herm_model.specs.Types.{Shape, TypeTable, greatest_depth, held_parts, type_at}
 use Rattle.herm_model.specs.Facts.{said_at, message_facts, message_of, declared_facts}
 use Rattle.herm_model.specs.Calls.{inport_at}
-use Rattle.herm_model.specs.StatementTable.{sent_to}
+use Rattle.herm_model.specs.FactsOfStatements.{sent_to}
 use Rattle.herm_model.specs.Values.{Cell, no_parts, part, cell_at, has_value}
 use Rattle.herm_model.specs.FactsOfValues.{HasExactly}
 use Rattle.herm_model.specs.Finalising.{is_left, excess_from, excess, keeps}

@@ -4,7 +4,7 @@ use Rattle.herm_model.specs.Lists.{any_pass}
 use Rattle.herm_model.specs.Paths.{Path, same_path}
 use Rattle.herm_model.specs.Types.{Mode, by_in, by_inout, by_out, Raised}
 use Rattle.herm_model.specs.Calls.{kept_for}
-use Rattle.herm_model.specs.StatementTable.{parameters_at}
+use Rattle.herm_model.specs.FactsOfStatements.{parameters_at}
 use Rattle.herm_model.specs.Values.{Value}
 use Rattle.herm_journal.specs.Actions.{values, new_port, new_process}
 use Rattle.herm_journal.specs.Actions

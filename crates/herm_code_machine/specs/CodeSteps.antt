@@ -4,7 +4,7 @@ use Rattle.herm_model.specs.Values.{Cell, Value}
 use Rattle.herm_journal.specs.Actions.{to_hear}
 use Rattle.herm_journal.specs.Messages.{CellWant, CellAction}
 use Rattle.herm_forms.specs.Frames.{Name, Frame, Completion, goes, stays, stuck, counted_step, counted_action}
-use Rattle.herm_forms.specs.Exchanges
+use Rattle.herm_forms.specs.ClosesAndAnswers
 use Rattle.herm_system.specs.Machines.{Standing, ended, out_of_steps, local, to_act, greatest_actions}
 use Rattle.herm_instructions.specs.Instructions.{Instruction}
 use Rattle.herm_instructions.specs.Images.{instruction_at}
@@ -58,7 +58,7 @@ counted_if false b = b
 
 -- What the next thing wants of a place; none where it is a local step or nothing. Code reference, "Pieces".
 abbrev pub wanted_next : {N : Type 0} → (Name → N) → ReadyCode → CodeState N → CodeNext N → Option (CellWant N)
-wanted_next name c s (an_item item work) = Exchanges.work_wants item
+wanted_next name c s (an_item item work) = ClosesAndAnswers.work_wants item
 wanted_next name c s (a_reply call i instruction) = Some to_hear
 wanted_next name c s (an_action p m) = option_and_then (λ stack. code_wants name c m.instruction stack s.frame) (stack_before_action c p s.frame.variables s.stack)
 wanted_next name c s (a_local_piece p) = None
@@ -94,7 +94,7 @@ worked s stuck = None
 -- What the answer to the next thing leaves, which was done at the place of this number: an action counts, and the step of its
 -- piece; the instructions behind it are done up to the next piece. Code reference, "Pieces".
 abbrev pub settle_next : {N : Type 0} → (Name → N) → ReadyCode → CodeState N → (at : ℕ) → CellAction N → CodeNext N → Option (CodeState N)
-settle_next name c s at action (an_item item work) = worked s (Exchanges.work_done item action (counted_action (record (s.frame) { work = work })))
+settle_next name c s at action (an_item item work) = worked s (ClosesAndAnswers.work_done item action (counted_action (record (s.frame) { work = work })))
 settle_next name c s at action (a_reply call i instruction) = settled name c s i instruction s.stack (code_hears instruction call action (counted_action s.frame))
 settle_next name c s at action (an_action p m) = option_and_then (settled_action name c s p m at action) (stack_before_action c p s.frame.variables s.stack)
 settle_next name c s at action (a_local_piece p) = None

@@ -3,12 +3,14 @@ use Rattle.std.specs.Prelude.{ℕ, List, ◌∷◌, not, nat_eq, pos, neg_ℤ, l
 use Rattle.herm_model.specs.Paths.{Path}
 use Rattle.herm_model.specs.Expressions.{Literal}
 use Rattle.herm_model.specs.Outcomes.{ok}
-use Rattle.herm_model.specs.Texts.{signed_numeral}
+use Rattle.herm_model.specs.ValueTexts.{signed_numeral}
 use Rattle.herm_model.specs.Values.{Scalar, an_integer, a_text, parts_of, read_at, Value}
 use Rattle.herm_forms.specs.Evaluate.{Evaluated, gives, no_value, scalar_then, two_then, boolean_then, integer_then, text_then, gives_boolean, gives_scalar, within_bits, operate, scalar_of, value_there, rows_there}
 use Rattle.herm_forms.specs.Frames.{Name, Frame, Completion, goes, if_there, drop_at, reading, copying_parts}
 use Rattle.herm_forms.specs.Forms
-use Rattle.herm_forms.specs.Forms.{rows_for, next_row}
+use Rattle.herm_forms.specs.InsertForm
+use Rattle.herm_forms.specs.KeyForms
+use Rattle.herm_forms.specs.LoopForms.{rows_for, next_row}
 use Rattle.herm_forms.specs.LeavingLoops.{leave_loops}
 use Rattle.herm_forms.specs.Excess.{excess_over_full}
 use Rattle.herm_forms.specs.Acts.{key_at, new_value}
@@ -60,9 +62,9 @@ effect name c (Reveal v k) stack b = leaving stack (Forms.reveal k v b)
 effect name c (CaseOf v indices) stack b = leaving stack (Forms.choose v b)
 effect name c (Wrap y t p) stack b = leaving stack (Forms.wrap name t (excess_over_full c.scope y b) y p b)
 effect name c (Unwrap p t y) stack b = leaving stack (Forms.unwrap t p y b)
-effect name c (Insert r t) stack b = leaving stack (Forms.insert (key_at c.scope t) (excess_over_full c.scope r b) r t b)
-effect name c (Remove r t n) stack b = with_key n (λ k. Forms.remove (key_at c.scope t) k r t b) stack
-effect name c (Get r t n) stack b = with_key n (λ k. Forms.get name (key_at c.scope t) k r t b) stack
+effect name c (Insert r t) stack b = leaving stack (InsertForm.insert (key_at c.scope t) (excess_over_full c.scope r b) r t b)
+effect name c (Remove r t n) stack b = with_key n (λ k. KeyForms.remove (key_at c.scope t) k r t b) stack
+effect name c (Get r t n) stack b = with_key n (λ k. KeyForms.get name (key_at c.scope t) k r t b) stack
 effect name c (LoopStart t slot) stack b = leaving stack (start_loop name slot t b)
 effect name c (LoopNext r slot i) stack b = leaving stack (next_of_loop slot r b)
 effect name c (LoopDrop slot) stack b = leaving stack (goes ok (drop_loop slot b))

@@ -5,14 +5,14 @@ use Rattle.herm_base.specs.declared.word.Span.{Span}
 use Rattle.herm_model.specs.Lists.{IsIn}
 use Rattle.herm_model.specs.Statements.{Process}
 use Rattle.herm_model.specs.ControlPaths.{Flow, flow_of}
-use Rattle.herm_model.specs.Refusals.{Refusal, demands, AreRefusals, IsAccepted}
+use Rattle.herm_model.specs.MissingFacts.{Refusal, demands, AreRefusals, IsAccepted}
 use Rattle.herm_model.specs.laws.FlowLaws.{Said, said}
 use Rattle.herm_model.proofs.DeterminedRefusals.{refusals-determined}
 use Rattle.herm_syntax.specs.declared.modules.Module.{Module}
 use Rattle.herm_syntax.specs.declared.modules.Module.TheVariants as modules
 use Rattle.herm_syntax.specs.declared.statements.Stmt.{Stmt}
 use Rattle.herm_meaning.specs.Names.{NamedTable}
-use Rattle.herm_naming.specs.Refusals.{Places}
+use Rattle.herm_naming.specs.RefusalsOfNames.{Places}
 use Rattle.herm_typed.specs.declared.statements.TypedStmt.{TypedStmt}
 use Rattle.herm_typed.specs.declared.statements.TypedProcess.{TypedProcess}
 use Rattle.herm_typed.specs.View.{typed_process_view}

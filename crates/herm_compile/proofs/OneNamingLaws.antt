@@ -10,7 +10,7 @@ use Rattle.herm_parser.specs.AlongDefinitions.{past_variables, past_module}
 use Rattle.herm_parser.specs.Along.{past_token}
 use Rattle.herm_meaning.specs.Names.{NamedTable}
 use Rattle.herm_naming.specs.StatementFaults.{Code, unknown, twice, wrong_type, not_copyable, unreachable, no_main, too_many}
-use Rattle.herm_naming.specs.Refusals.{Places, AreRefusals}
+use Rattle.herm_naming.specs.RefusalsOfNames.{Places, AreRefusals}
 use Rattle.herm_naming.proofs.Unrefused.{refusals-one}
 use Rattle.herm_numbers.specs.Faults.{Place, body_spans}
 use Rattle.herm_resolve.specs.Refused.{places_of, places_from, nowhere, AreRefusalsOf}

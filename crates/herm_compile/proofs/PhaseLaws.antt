@@ -6,13 +6,13 @@ use Rattle.herm_lexer.specs.declared.fault.LexFault.TheVariants.{Memory}
 use Rattle.herm_lexer.specs.declared.fault.LexFault.TheVariants as lexical
 use Rattle.herm_lexer.proofs.FileLaws.{one_token_list, tokens_or_fault}
 use Rattle.herm_alphabet.specs.declared.token.Token.{Token}
-use Rattle.herm_readers.specs.Brackets.{IsTooDeep}
+use Rattle.herm_readers.specs.BracketBalance.{IsTooDeep}
 use Rattle.herm_readers.proofs.Nesting.{finds_within}
 use Rattle.herm_syntax.specs.Symbols.{Symbol, side}
 use Rattle.herm_syntax.specs.View.{module_view}
 use Rattle.herm_syntax.specs.laws.GrammarLaws.{IsWithinRoom}
 use Rattle.herm_parser.specs.Gives.{kinds as symbols_of}
-use Rattle.herm_parser.specs.OpenBrackets.{most_brackets}
+use Rattle.herm_parser.specs.BracketDepth.{most_brackets}
 use Rattle.herm_syntax.specs.declared.modules.Module.{Module}
 use Rattle.herm_compile.specs.View.{Seen, fault_view}
 use Rattle.herm_compile.specs.FirstPhase.{HasTrees, HasModules, IsSaid, AreFirstFaults, HaveModules, HaveTrees, file_fault, fault_list, TreesOrFault}

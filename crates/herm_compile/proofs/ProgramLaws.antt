@@ -12,7 +12,7 @@ use Rattle.herm_typestate.specs.declared.labels.Labels.{Labels}
 use Rattle.herm_flow.specs.declared.flow.Flow.{Flow}
 use Rattle.herm_coerce.specs.declared.coercions.Coercions.{Coercions}
 use Rattle.herm_accept.specs.Accepted.{AreAccepted}
-use Rattle.herm_model.specs.Refusals.{IsMissing, IsAccepted}
+use Rattle.herm_model.specs.MissingFacts.{IsMissing, IsAccepted}
 use Rattle.herm_compile.specs.Straight.{process_of, gaps, refusal_of, IsStep}
 use Rattle.herm_compile.specs.View.{Seen, fault_view}
 use Rattle.herm_meaning.specs.Names.{NamedTable}

@@ -8,7 +8,7 @@ use Rattle.herm_syntax.specs.Trees.{Letters, Module}
 use Rattle.herm_meaning.specs.Names.{NamedTable}
 use Rattle.herm_naming.specs.Meaning.{ProcessText, processes_in, process_meaning}
 use Rattle.herm_naming.specs.StatementFaults.{Code, unreachable, no_main, process_codes}
-use Rattle.herm_naming.specs.Refusals.{Places, at_places, all_places, are_none, is_main, main_refusals, RefusesBy, RefusesProcesses, AreRefusals}
+use Rattle.herm_naming.specs.RefusalsOfNames.{Places, at_places, all_places, are_none, is_main, main_refusals, RefusesBy, RefusesProcesses, AreRefusals}
 
 abbrev pub seen : {P Q : Type 0} → (P → Q) → Code × P → Code × Q
 seen f r = (r.0, f r.1)

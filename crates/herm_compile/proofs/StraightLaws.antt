@@ -9,7 +9,7 @@ use Rattle.herm_model.specs.Outcomes.{Outcome, ok, is_true, is_false, turn, done
 use Rattle.herm_model.specs.Nodes.{Node, Surroundings, nodes_in, start_of_block, entry_of}
 use Rattle.herm_model.specs.Targets.{Target, node, end, end_by}
 use Rattle.herm_model.specs.ControlPaths.{Edge, Point, Flow, point, flow_of, Hop, held_after_edge, held_at_start, edge_at, Standing, walk, Holds, LacksBy}
-use Rattle.herm_model.specs.Refusals.{Demand, demands_at, demands, AreRefusals, none, missing, holds, IsMissing}
+use Rattle.herm_model.specs.MissingFacts.{Demand, demands_at, demands, AreRefusals, none, missing, holds, IsMissing}
 use Rattle.herm_model.specs.Lists.{numbered}
 use Rattle.herm_compile.specs.Reading.{IsNumbered, IsRead}
 use Rattle.herm_compile.specs.Straight.{variable, line_view, lines_view, process_of, is_held_behind, is_held, gap_at, gaps_from, gaps, IsStep, ok_hops, refusal_of}

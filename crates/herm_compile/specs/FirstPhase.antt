@@ -6,7 +6,7 @@ use Rattle.herm_lexer.specs.declared.fault.LexFault.TheVariants as lexical
 use Rattle.herm_alphabet.specs.declared.token.Token.{Token}
 use Rattle.herm_syntax.specs.declared.modules.Module.{Module}
 use Rattle.herm_parser.specs.Parsing.{IsParsed}
-use Rattle.herm_parser.specs.OpenBrackets.{IsNested}
+use Rattle.herm_parser.specs.BracketDepth.{IsNested}
 use Rattle.herm_parser.specs.SyntaxFaults.{IsMisspelled}
 use Rattle.herm_compile.specs.Places.{line_number_at, column_at}
 use Rattle.herm_compile.specs.View.{Seen}

@@ -2,7 +2,7 @@
 use Rattle.std.specs.Prelude.{◌≡◌, ℕ, List, Option, map}
 use Rattle.std.specs.Option.{option_map}
 use Rattle.herm_model.specs.Lists.{IsIn}
-use Rattle.herm_model.specs.Refusals.{Refusal, IsAccepted}
+use Rattle.herm_model.specs.MissingFacts.{Refusal, IsAccepted}
 use Rattle.herm_model.specs.laws.FlowLaws.{Said}
 use Rattle.herm_meaning.specs.Names.{NamedTable}
 use Rattle.herm_compile.specs.View.{Seen, fault_view}

@@ -2,7 +2,7 @@
 use Rattle.std.specs.Prelude.{◌≡◌, ◌≢◌, ◌⊎◌, ℕ, Some, None, List, [], ◌∷◌, map, length, codes, get_or, drop}
 use Rattle.herm_model.specs.Types.{predefined}
 use Rattle.herm_model.specs.Lists.{IsIn}
-use Rattle.herm_model.specs.Refusals.{IsMissing, IsAccepted}
+use Rattle.herm_model.specs.MissingFacts.{IsMissing, IsAccepted}
 use Rattle.herm_alphabet.specs.declared.token.Token.{Token}
 use Rattle.herm_compile.specs.Form.{line_tokens, IsOfForm, AreOfForm}
 use Rattle.herm_compile.specs.Reading.{up_to_lines}

@@ -4,7 +4,7 @@ use Rattle.herm_model.specs.Expressions.{literal, text}
 use Rattle.herm_model.specs.Paths.{Path, init}
 use Rattle.herm_model.specs.Outcomes.{ok}
 use Rattle.herm_model.specs.ControlPaths.{Hop}
-use Rattle.herm_model.specs.Refusals.{Refusal}
+use Rattle.herm_model.specs.MissingFacts.{Refusal}
 use Rattle.herm_model.specs.Statements as model
 use Rattle.herm_compile.specs.declared.check.Gap.{Gap}
 use Rattle.herm_compile.specs.declared.compiled.Line.{Line}

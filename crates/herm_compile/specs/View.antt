@@ -1,7 +1,7 @@
 -- What the code's faults stand for.
 use Rattle.std.specs.Prelude.{ℕ, Option, List}
 use Rattle.std.specs.Option.{option_map}
-use Rattle.herm_model.specs.Refusals.{Refusal}
+use Rattle.herm_model.specs.MissingFacts.{Refusal}
 use Rattle.herm_check.specs.Missing.{refusal_view}
 use Rattle.herm_compile.specs.declared.fault.Fault.{Fault}
 

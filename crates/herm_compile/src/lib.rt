@@ -19,7 +19,7 @@ mod stop;
 
 ghost use Rattle.std.specs.Prelude.{◌≡◌, ◌⊎◌, [], ◌∷◌, map, length, IfOk, IfErr};
 ghost use Rattle.herm_model.specs.Types.{predefined};
-ghost use Rattle.herm_model.specs.Refusals.{IsAccepted};
+ghost use Rattle.herm_model.specs.MissingFacts.{IsAccepted};
 ghost use Rattle.herm_lexer.specs.Spelling.{HasTokens};
 ghost use Rattle.herm_compile.specs.Form.{IsOfForm, AreOfForm, IsFormBy, IsProgram, OneReading};
 ghost use Rattle.herm_compile.specs.Straight.{process_of, gaps};

@@ -4,7 +4,7 @@ pub mod Few
 pub mod Found
 pub mod Kept
 pub mod Steps
-pub mod Known
+pub mod TestsOfTable
 pub mod Judged
 pub mod View
 pub mod Plain

@@ -39,7 +39,7 @@ impl Model for Context {
     ghost Value = { NamedTable };
 
     ghost use Rattle.herm_defs.specs.View.{context_view};
-    ghost use Rattle.herm_defs.specs.Known.{IsKnown};
+    ghost use Rattle.herm_defs.specs.TestsOfTable.{IsKnown};
 
     ghost view = { context_view };
 

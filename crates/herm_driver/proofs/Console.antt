@@ -1,6 +1,6 @@
 -- Strings are read back from the texts that a report has of them.
 use Rattle.std.proofs.Common.{◌≡◌, ℕ, List, [], ◌∷◌, map, refl}
-use Rattle.herm_world.specs.StringTexts.{quoted, unquoted}
+use Rattle.herm_world.specs.StringsReadBack.{quoted, unquoted}
 use Rattle.herm_world.proofs.StringTexts.{unquoted-quoted}
 
 pub map-unquoted-quoted : (strings : List (List ℕ)) → map unquoted (map quoted strings) ≡ strings

@@ -1,7 +1,7 @@
 -- A program that the compiler accepts can be run.
 use Rattle.std.proofs.Common.{ℕ, List, length}
 use Rattle.herm_model.specs.Types.{predefined}
-use Rattle.herm_model.specs.Refusals.{IsAccepted}
+use Rattle.herm_model.specs.MissingFacts.{IsAccepted}
 use Rattle.herm_compile.specs.Form.{IsOfForm}
 use Rattle.herm_compile.specs.Straight.{process_of}
 use Rattle.herm_compile.specs.declared.compiled.Line.{Line}

@@ -14,7 +14,7 @@ use Rattle.herm_model.specs.Statements.{Process}
 use Rattle.herm_compile.specs.ThirdPhase.{HaveProgram}
 use Rattle.herm_compile.specs.Refused.{AreRefused}
 use Rattle.herm_model.specs.Types.{predefined}
-use Rattle.herm_model.specs.Refusals.{IsAccepted}
+use Rattle.herm_model.specs.MissingFacts.{IsAccepted}
 use Rattle.herm_world.specs.Lines.{sent}
 use Rattle.herm_world.specs.StraightRuns.{IsReported}
 use Rattle.herm_world.specs.View.{report_view}

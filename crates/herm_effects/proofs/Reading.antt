@@ -11,7 +11,7 @@ use Rattle.herm_typed.specs.declared.expressions.TypedConj.{TypedConj, out-Typed
 use Rattle.herm_typed.specs.declared.expressions.TypedExpr.{TypedExpr, out-TypedExpr}
 use Rattle.herm_typed.specs.declared.expressions.TypedUnary.{TypedUnary}
 use Rattle.herm_typed.specs.View.{typed_sum_op_view, typed_prod_op_view, signed_view, typed_expr_view, typed_conj_view, typed_comp_view, typed_sum_view, typed_prod_view, typed_primary_view, typed_unary_view}
-use Rattle.herm_typed.specs.Raising.{chained}
+use Rattle.herm_typed.specs.RaisedByExpressions.{chained}
 use Rattle.herm_typed.proofs.Chains.{product_chain, sum_chain, conjunction_chain, expression_chain}
 
 chain-reads : {X : Type 0} (f : X → Operator × Expression) (left : Expression) (xs : List X) → paths_read left ++ flat_map (λ x. paths_read (f x).1) xs ≡ paths_read (chained left (map f xs))

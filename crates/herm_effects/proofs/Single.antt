@@ -3,7 +3,7 @@ use Rattle.std.proofs.Common.{◌≡◌, ◌≤◌, ◌<◌, ℕ, List, [], ◌�
 use Rattle.herm_model.specs.Paths.{Fact, same_fact}
 use Rattle.herm_model.specs.Types.{TypeTable}
 use Rattle.herm_model.specs.Facts.{prefixes, without_repeats}
-use Rattle.herm_model.specs.StatementTable.{closed}
+use Rattle.herm_model.specs.FactsOfStatements.{closed}
 use Rattle.herm_model.proofs.Equality.{same_fact-is, same_fact_self}
 
 twice : (types : TypeTable) (variables : List ℕ) (f : Fact) → prefixes types variables f ≡ [] → closed types variables (f ∷ f ∷ []) ≡ f ∷ []

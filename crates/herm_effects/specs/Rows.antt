@@ -4,7 +4,7 @@ use Rattle.herm_model.specs.Lists.{list_of}
 use Rattle.herm_model.specs.Paths.{Path, Fact}
 use Rattle.herm_model.specs.Types.{Mode}
 use Rattle.herm_model.specs.Calls.{is_given, is_returned}
-use Rattle.herm_model.specs.StatementTable.{row, needs, makes, kills}
+use Rattle.herm_model.specs.FactsOfStatements.{row, needs, makes, kills}
 use Rattle.herm_typed.specs.declared.statements.TypedForm.{TypedForm}
 use Rattle.herm_typed.specs.declared.outcome_list.Outcome.{Outcome}
 use Rattle.herm_typed.specs.View.{typed_form_view, form_of_statement, outcome_view}

@@ -4,7 +4,7 @@ ghost use Rattle.herm_model.specs.Paths as model;
 ghost use Rattle.herm_model.specs.Paths.{same_fact};
 ghost use Rattle.herm_model.specs.Types.{TypeTable};
 ghost use Rattle.herm_model.specs.Facts.{prefixes, with_prefixes};
-ghost use Rattle.herm_model.specs.StatementTable as table;
+ghost use Rattle.herm_model.specs.FactsOfStatements as table;
 ghost use Rattle.herm_types.specs.View.{path_view, fact_view};
 ghost use Rattle.herm_typestate.specs.Facts.{has_fact};
 ghost use Rattle.herm_judge.specs.View.{table_of, variables_of};

@@ -3,7 +3,7 @@ ghost use Rattle.std.specs.Prelude.{◌≡◌, ◌++◌, ◌∷◌, [], cond, If
 ghost use Rattle.herm_model.specs.Lists.{any_pass};
 ghost use Rattle.herm_model.specs.Paths as model;
 ghost use Rattle.herm_model.specs.Facts.{prefixes, with_prefixes, without_repeats};
-ghost use Rattle.herm_model.specs.StatementTable as table;
+ghost use Rattle.herm_model.specs.FactsOfStatements as table;
 ghost use Rattle.herm_types.specs.View.{fact_view};
 ghost use Rattle.herm_judge.specs.View.{table_of, variables_of};
 

@@ -2,7 +2,7 @@
 ghost use Rattle.std.specs.Prelude.{◌≡◌, ◌∷◌, [], IfOk, map, slice_get};
 ghost use Rattle.herm_model.specs.Lists.{list_of};
 ghost use Rattle.herm_model.specs.Statements as model;
-ghost use Rattle.herm_model.specs.StatementTable.{row, set_by_call, set_at, at_ok, at_turn, at_arm, at_ok_or_exception};
+ghost use Rattle.herm_model.specs.FactsOfStatements.{row, set_by_call, set_at, at_ok, at_turn, at_arm, at_ok_or_exception};
 ghost use Rattle.herm_types.specs.View.{path_view};
 ghost use Rattle.herm_typed.specs.Blocks.{typed_arm_view};
 ghost use Rattle.herm_typed.specs.View.{typed_path_view, typed_atom_view, outcome_view};

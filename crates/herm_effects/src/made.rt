@@ -2,7 +2,7 @@
 ghost use Rattle.std.specs.Prelude.{◌≡◌, ◌++◌, ◌∷◌, [], IfOk, OnOk, map};
 ghost use Rattle.herm_model.specs.Paths as paths;
 ghost use Rattle.herm_model.specs.Statements as model;
-ghost use Rattle.herm_model.specs.StatementTable.{row, full, full_of_each, received_from, sent_to, received_at, kept_by_call, at_ok, at_turn, at_component, at_arm, at_exception};
+ghost use Rattle.herm_model.specs.FactsOfStatements.{row, full, full_of_each, received_from, sent_to, received_at, kept_by_call, at_ok, at_turn, at_component, at_arm, at_exception};
 ghost use Rattle.herm_types.specs.View.{path_view, fact_view};
 ghost use Rattle.herm_typed.specs.Blocks.{typed_arm_view};
 ghost use Rattle.herm_typed.specs.View.{typed_path_view, typed_atom_view, outcome_view};

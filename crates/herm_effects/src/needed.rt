@@ -3,7 +3,7 @@ ghost use Rattle.std.specs.Prelude.{◌≡◌, ◌++◌, ◌∷◌, [], IfOk, On
 ghost use Rattle.herm_model.specs.Paths as paths;
 ghost use Rattle.herm_model.specs.Expressions.{paths_read, paths_among};
 ghost use Rattle.herm_model.specs.Statements as model;
-ghost use Rattle.herm_model.specs.StatementTable.{row, present, full, full_of_each, room_for, sent_to, returned, returned_by};
+ghost use Rattle.herm_model.specs.FactsOfStatements.{row, present, full, full_of_each, room_for, sent_to, returned, returned_by};
 ghost use Rattle.herm_types.specs.View.{fact_view};
 ghost use Rattle.herm_typed.specs.Blocks.{typed_arm_view};
 ghost use Rattle.herm_typed.specs.View.{typed_path_view, typed_atom_view, typed_expr_view};

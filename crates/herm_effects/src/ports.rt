@@ -3,7 +3,7 @@ ghost use Rattle.std.specs.Prelude.{◌≡◌, ◌++◌, IfOk, OnOk, map, option
 ghost use Rattle.herm_model.specs.Lists.{list_of};
 ghost use Rattle.herm_model.specs.Calls as model;
 ghost use Rattle.herm_model.specs.Facts as facts;
-ghost use Rattle.herm_model.specs.StatementTable.{received_from, sent_to};
+ghost use Rattle.herm_model.specs.FactsOfStatements.{received_from, sent_to};
 ghost use Rattle.herm_types.specs.View.{path_view, fact_view, shape_view, param_view, raise_decl_view};
 ghost use Rattle.herm_typed.specs.View.{typed_path_view};
 ghost use Rattle.herm_judge.specs.View.{kind, table_of, variables_of};

@@ -2,7 +2,7 @@
 ghost use Rattle.std.specs.Prelude.{◌≡◌, ◌++◌, ◌∷◌, [], OnOk, IsTrue, map, flat_map, slice_get};
 ghost use Rattle.herm_model.specs.Lists.{list_of};
 ghost use Rattle.herm_model.specs.Facts as model;
-ghost use Rattle.herm_model.specs.StatementTable.{present, full, full_of_each, room_for};
+ghost use Rattle.herm_model.specs.FactsOfStatements.{present, full, full_of_each, room_for};
 ghost use Rattle.herm_model.specs.Paths.{init};
 ghost use Rattle.herm_model.specs.Types.{full_parts};
 ghost use Rattle.herm_types.specs.View.{path_view, fact_view, shape_view};

@@ -1,6 +1,6 @@
 //! The text of an entry.
 ghost use Rattle.std.specs.Prelude.{◌≡◌, ◌++◌, ◌<◌, [], OnOk, OnErr, length, codes, Option, Some, option_map};
-ghost use Rattle.herm_model.specs.Texts.{numeral};
+ghost use Rattle.herm_model.specs.ValueTexts.{numeral};
 ghost use Rattle.herm_journal.specs.Actions.{make_port, make_process, put};
 ghost use Rattle.herm_journal.specs.Entries as journal;
 ghost use Rattle.herm_journal.specs.Entries.{and_number, and_text, action_text};

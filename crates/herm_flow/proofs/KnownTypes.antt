@@ -14,7 +14,7 @@ use Rattle.herm_typed.specs.Beside.{HasTypes, KnowsTypes}
 use Rattle.herm_typed.specs.Outcomes.{KnowsOutcomes}
 use Rattle.herm_flow.specs.declared.flow.Point.{Point}
 use Rattle.herm_flow.specs.View.{point_view}
-use Rattle.herm_flow.specs.Known.{AllKnow}
+use Rattle.herm_flow.specs.KnownOutcomes.{AllKnow}
 
 abbrev first_type : List (Option ℕ) → Option ℕ
 first_type [] = None

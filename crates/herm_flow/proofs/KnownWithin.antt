@@ -7,7 +7,7 @@ use Rattle.herm_model.specs.Types.{TypeTable}
 use Rattle.herm_typed.specs.declared.statements.TypedStmt.{TypedStmt}
 use Rattle.herm_typed.specs.Within.{statements_within, all_statements}
 use Rattle.herm_typed.specs.Outcomes.{KnowsOutcomes}
-use Rattle.herm_flow.specs.Known.{AllKnow}
+use Rattle.herm_flow.specs.KnownOutcomes.{AllKnow}
 
 in-item : (list : List TypedStmt) (i : ℕ) (d t : TypedStmt) → i < length list → IsIn t (get_or list i d ∷ statements_within (get_or list i d).form) → IsIn t (all_statements list)
 in-item [] i d t l h = absurd (let n : ⊥ = omega (arith, l) in n)

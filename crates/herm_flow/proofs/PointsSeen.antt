@@ -10,7 +10,7 @@ use Rattle.herm_model.specs.Targets.{Target, node}
 use Rattle.herm_model.specs.Handlers.{Catch, caught}
 use Rattle.herm_model.specs.Nodes.{Surroundings, Node, Exit, paired, starts, start_of_block, nodes, nodes_in, nodes_of_choices}
 use Rattle.herm_model.specs.ControlPaths.{Edge, Point, edge, point}
-use Rattle.herm_model.specs.StatementTable.{needs, makes, kills}
+use Rattle.herm_model.specs.FactsOfStatements.{needs, makes, kills}
 use Rattle.herm_typed.specs.declared.statements.TypedForm.{TypedForm}
 use Rattle.herm_typed.specs.View.{typed_form_view, form_of_statement}
 use Rattle.herm_flow.specs.Edges.{raised_in, an_exit, exit_of, left_of, exits_from, point_at}

@@ -7,7 +7,7 @@ use Rattle.herm_model.specs.Targets.{Target}
 use Rattle.herm_model.specs.Handlers.{Catch, caught}
 use Rattle.herm_model.specs.Nodes.{Exit}
 use Rattle.herm_model.specs.ControlPaths.{Edge, Point}
-use Rattle.herm_model.specs.StatementTable.{needs, makes, kills}
+use Rattle.herm_model.specs.FactsOfStatements.{needs, makes, kills}
 use Rattle.herm_typed.specs.declared.statements.TypedForm.{TypedForm}
 use Rattle.herm_typed.specs.View.{typed_form_view, form_of_statement}
 use Rattle.herm_typed.specs.Outcomes.{outcomes_of}

@@ -4,5 +4,5 @@ pub mod Parts
 pub mod Starts
 pub mod Edges
 pub mod Around
-pub mod Known
+pub mod KnownOutcomes
 pub mod Ready

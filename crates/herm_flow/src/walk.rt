@@ -13,7 +13,7 @@ ghost use Rattle.herm_flow.specs.View.{target_view, catch_view, point_view};
 ghost use Rattle.herm_flow.specs.Parts.{blocks_of};
 ghost use Rattle.herm_flow.specs.Edges.{point_at};
 ghost use Rattle.herm_flow.specs.Around.{around_view, in_loop};
-ghost use Rattle.herm_flow.specs.Known.{AllKnow};
+ghost use Rattle.herm_flow.specs.KnownOutcomes.{AllKnow};
 
 use crate::counts::{Count, count_block, count_form, sum};
 use crate::edges::push_point;

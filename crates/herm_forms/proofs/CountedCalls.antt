@@ -7,7 +7,7 @@ use Rattle.herm_model.specs.Types.{Mode, Parameter, type_at}
 use Rattle.herm_model.specs.Facts.{full_facts}
 use Rattle.herm_model.specs.Expressions.{Atom}
 use Rattle.herm_model.specs.Calls.{call_parameters}
-use Rattle.herm_model.specs.StatementTable.{parameters_at}
+use Rattle.herm_model.specs.FactsOfStatements.{parameters_at}
 use Rattle.herm_model.specs.Targets.{Target}
 use Rattle.herm_model.specs.Values.{Kind, kind_of, a_callmessage, Cell, cell, Parts, cell_at, set_at, clear_at, change_inside, has_value}
 use Rattle.herm_model.specs.CellNames.{count_in, copy_in}

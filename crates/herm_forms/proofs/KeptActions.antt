@@ -12,6 +12,7 @@ use Rattle.herm_model.proofs.Options.{none-not_some}
 use Rattle.herm_journal.specs.Actions.{values, raised, gone, new_process, make_port, make_process, put, take, close, answer, hear}
 use Rattle.herm_forms.specs.Frames.{Name, Frame, goes, stuck, finalise_all, finalise_at_once, cleared, drop, putting, Taken, take_all}
 use Rattle.herm_forms.specs.Exchanges
+use Rattle.herm_forms.specs.ClosesAndAnswers
 use Rattle.herm_forms.specs.Callmessages as callmessages
 use Rattle.herm_journal.specs.Messages.{CellReply, CellAction}
 use Rattle.herm_forms.specs.Exchanges.{place_of_port, ports_at, receive_at}
@@ -58,7 +59,7 @@ module _ {N : Type 0} (w : N → ℕ) (extra : Kind → ℕ) (name : Name → N)
       (λ place is. kept-receive_at targets 0 place message b e)
   kept-select targets ports from _ b e = tt
 
-  pub kept-work_done : (item : Cell N) (action : CellAction N) (b : Frame N) → Balanced w extra name m k (load w extra item + load_coming w extra action) b → AllBalanced w extra name m k (0 + extra (kind_of item)) (Exchanges.work_done item action b)
+  pub kept-work_done : (item : Cell N) (action : CellAction N) (b : Frame N) → Balanced w extra name m k (load w extra item + load_coming w extra action) b → AllBalanced w extra name m k (0 + extra (kind_of item)) (ClosesAndAnswers.work_done item action b)
   kept-work_done item (close n left) b e = balanced-end_cell w extra name spares m k 0 item (finalise_all left b) (balanced-finalise_all w extra name spares m k (0 + load w extra item) left b (omega arith))
   kept-work_done item (answer n r) b e = balanced-end_cell w extra name spares m k 0 item b (omega arith)
   kept-work_done item _ b e = tt

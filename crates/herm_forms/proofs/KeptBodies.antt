@@ -7,7 +7,7 @@ use Rattle.herm_model.specs.Outcomes.{Outcome, ok, arm, turn, raised, depletion,
 use Rattle.herm_model.specs.Statements.{Form, Assign, Move, New, Discard, Unite, Dissolve, Reveal, Case, Wrap, Unwrap, Insert, Remove, Get, For, Connect, Send, Receive, Select, Call, Return, ReturnBy, Create, If, While, Raise, Leave}
 use Rattle.herm_model.specs.Expressions.{Atom}
 use Rattle.herm_model.specs.Calls.{shape_at, call_parameters}
-use Rattle.herm_model.specs.StatementTable.{set_by_call}
+use Rattle.herm_model.specs.FactsOfStatements.{set_by_call}
 use Rattle.herm_model.specs.Targets.{Target}
 use Rattle.herm_model.specs.Finalising.{excess}
 use Rattle.herm_model.specs.Values.{has_place, Scalar, a_boolean, Kind, a_scalar, a_variant, a_polymorph, an_outport, an_inport, Cell, cell, Parts, no_parts, gap, part, part_at, parts_of, size, has_value, cell_at, read_at, put_at, clear_at, polymorph_depth, Value}
@@ -21,8 +21,13 @@ use Rattle.herm_journal.specs.Actions
 use Rattle.herm_forms.specs.Frames.{Name, Loop, Frame, Completion, goes, stays, stuck, if_there, finalise, finalise_parts, finalise_old, finalise_all, finalise_name, finalise_at_once, cleared, drop_at, drop, reading, taking, putting, putting_all, Taken, with_taken, take_all, making, copying, copying_parts, counted_step, counted_action}
 use Rattle.herm_forms.specs.Frames
 use Rattle.herm_forms.specs.Forms
-use Rattle.herm_forms.specs.Forms.{with_value, moving, moving_content, Opened, component_in, content_of, component_of, change_rows, add_row, finding, rows_for, set_rows, next_row, inport_number, tested}
+use Rattle.herm_forms.specs.InsertForm
+use Rattle.herm_forms.specs.Forms.{with_value, moving, moving_content, Opened, component_in, content_of, component_of, inport_number, tested}
+use Rattle.herm_forms.specs.InsertForm.{change_rows, add_row}
+use Rattle.herm_forms.specs.KeyForms.{finding}
+use Rattle.herm_forms.specs.LoopForms.{rows_for, set_rows, next_row}
 use Rattle.herm_forms.specs.Exchanges
+use Rattle.herm_forms.specs.ClosesAndAnswers
 use Rattle.herm_forms.specs.Callmessages as callmessages
 use Rattle.herm_journal.specs.Messages.{CellReply, CellAction}
 use Rattle.herm_forms.specs.Exchanges.{receive_at, place_of_port, ports_at}
@@ -78,7 +83,7 @@ module _ {N : Type 0} (Is : Frame N → Type 0) (lets : LetsGo Is) where
   is-end : (c : Cell N) (b : Frame N) → Is b → Is (finalise_at_once c b)
   is-end (cell m k ps) b e = lets.parts ps (finalise_name m b) (lets.name m b e)
 
-  pub all-work : (item : Cell N) (a : CellAction N) (b : Frame N) → Is b → All Is Is (Exchanges.work_done item a b)
+  pub all-work : (item : Cell N) (a : CellAction N) (b : Frame N) → Is b → All Is Is (ClosesAndAnswers.work_done item a b)
   all-work item (close count left) b e = stayed (finalise_at_once item (finalise_all left b)) (is-end item (finalise_all left b) (is-all left b e))
   all-work item (answer k r) b e = stayed (finalise_at_once item b) (is-end item b e)
   all-work item _ b e = never
@@ -155,7 +160,7 @@ module _ {N : Type 0} (name : Name → N) (Is Stay : Frame N → Type 0) (keeps-
   all-unwrap t p y b e =
       all-there _ (cell_at p b.variables) (λ c. all-option (content_of t c) _ _ (went (raised polymorph_mismatch) b e) (λ o. all-content y o (cleared p b) (keeps-it.variables (clear_at p b.variables) b e)))
 
-  all-insert : (key : List ℕ) (lost : List Path) (r t : Path) (b : Frame N) → Is b → All Is Stay (Forms.insert key lost r t b)
+  all-insert : (key : List ℕ) (lost : List Path) (r t : Path) (b : Frame N) → Is b → All Is Stay (InsertForm.insert key lost r t b)
   all-insert key lost r t b e =
       all-there _ (cell_at r b.variables) (λ row. all-there _ (read_at t b.variables) (λ table.
       all-cond (has_key key (key_of key row) (parts_of table)) _ _ (went (raised duplicate_key) b e) (all-cond (nat_lt (size (parts_of table)) greatest_rows) _ _

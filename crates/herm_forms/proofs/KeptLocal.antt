@@ -13,7 +13,13 @@ use Rattle.herm_model.proofs.Options.{none-not_some}
 use Rattle.herm_forms.specs.Evaluate.{Evaluated, gives, raises, no_value}
 use Rattle.herm_forms.specs.Frames.{Name, Frame, Completion, goes, if_there, finalise, finalise_name, cleared, drop, reading, putting, making, copying, copying_parts}
 use Rattle.herm_forms.specs.Forms
-use Rattle.herm_forms.specs.Forms.{Opened, component_in, content_of, moving, moving_content, component_of, change_rows, with_parts, add_row, finding, rows_for, set_rows, next_row, inport_number, tested, with_value}
+use Rattle.herm_forms.specs.InsertForm
+use Rattle.herm_forms.specs.KeyForms
+use Rattle.herm_forms.specs.LoopForms
+use Rattle.herm_forms.specs.Forms.{Opened, component_in, content_of, moving, moving_content, component_of, inport_number, tested, with_value}
+use Rattle.herm_forms.specs.InsertForm.{change_rows, with_parts, add_row}
+use Rattle.herm_forms.specs.KeyForms.{finding}
+use Rattle.herm_forms.specs.LoopForms.{rows_for, set_rows, next_row}
 use Rattle.herm_forms.specs.Acts.{new_value}
 use Rattle.herm_journal.specs.Kinds.{HasKinds, HaveKinds}
 use Rattle.herm_model.proofs.Loads.{load, load_in}
@@ -124,7 +130,7 @@ module _ {N : Type 0} (w : N → ℕ) (extra : Kind → ℕ) (name : Name → N)
       → h + load_in w extra (parts_of table) ≡ g + load_in w extra (f (parts_of table)) → Balanced w extra name m k h b → Balanced w extra name m k g (change_rows t f b)
   balanced-change_rows h g t f table b there more e = omega (arith, weigh-change_at w extra t (with_parts f) table b.variables there, weigh-with_parts f table)
 
-  pub kept-insert : (key : List ℕ) (lost : List Path) (r t : Path) (b : Frame N) → Balanced w extra name m k 0 b → AllBalanced w extra name m k 0 (Forms.insert key lost r t b)
+  pub kept-insert : (key : List ℕ) (lost : List Path) (r t : Path) (b : Frame N) → Balanced w extra name m k 0 b → AllBalanced w extra name m k 0 (InsertForm.insert key lost r t b)
   kept-insert key lost r t b e =
       balanced-if_there w extra name spares m k 0
       (λ row. reading t (λ table.
@@ -166,7 +172,7 @@ module _ {N : Type 0} (w : N → ℕ) (extra : Kind → ℕ) (name : Name → N)
       (read_at t b.variables)
       (λ table there. found h next b table (place_of_key key v (parts_of table)) e (λ i row is. on table i row there is))
 
-  pub kept-remove : (key : List ℕ) (v : List Scalar) (r t : Path) (b : Frame N) → Balanced w extra name m k 0 b → AllBalanced w extra name m k 0 (Forms.remove key v r t b)
+  pub kept-remove : (key : List ℕ) (v : List Scalar) (r t : Path) (b : Frame N) → Balanced w extra name m k 0 b → AllBalanced w extra name m k 0 (KeyForms.remove key v r t b)
   kept-remove key v r t b e =
       balanced-finding 0 key v t (λ i row. putting r ok row (change_rows t (without_part i) b)) b e
       (λ table i row there is. balanced-putting w extra name spares m k 0 r ok row (change_rows t (without_part i) b)
@@ -176,7 +182,7 @@ module _ {N : Type 0} (w : N → ℕ) (extra : Kind → ℕ) (name : Name → N)
   part-spared : (i : ℕ) (ps : Parts N) (c : Cell N) → part_at i ps ≡ Some c → HaveKinds (Spares extra) ps → HasKinds (Spares extra) c
   part-spared i ps c is h = subst (IfKinds (Spares extra)) is (part-kinds (Spares extra) i ps h)
 
-  pub kept-get : (key : List ℕ) (v : List Scalar) (r t : Path) (b : Frame N) → ((table : Cell N) → read_at t b.variables ≡ Some table → HaveKinds (Spares extra) (parts_of table)) → Balanced w extra name m k 0 b → AllBalanced w extra name m k 0 (Forms.get name key v r t b)
+  pub kept-get : (key : List ℕ) (v : List Scalar) (r t : Path) (b : Frame N) → ((table : Cell N) → read_at t b.variables ≡ Some table → HaveKinds (Spares extra) (parts_of table)) → Balanced w extra name m k 0 b → AllBalanced w extra name m k 0 (KeyForms.get name key v r t b)
   kept-get key v r t b kinds e =
       balanced-finding 0 key v t (λ i row. copying name row (putting r ok) b) b e
       (λ table i row there is. balanced-copying w extra name spares m k 0 0 row (putting r ok) b (part-spared i (parts_of table) row is (kinds table there)) e (λ d b' e'. balanced-putting w extra name spares m k 0 r ok d b' e'))
@@ -202,7 +208,7 @@ module _ {N : Type 0} (w : N → ℕ) (extra : Kind → ℕ) (name : Name → N)
       (λ qs b' e'. balanced-next_row s r qs (record b' { loops = record { statement = s; rows = qs } ∷ b'.loops })
       (ap (λ (t : Bool). cond t (Some qs) (rows_for s b'.loops)) (eq-eqb s s refl)) (omega arith)))
 
-  pub kept-visit : (s : ℕ) (r t : Path) (b : Frame N) → ((table : Cell N) → read_at t b.variables ≡ Some table → HaveKinds (Spares extra) (parts_of table)) → Balanced w extra name m k 0 b → AllBalanced w extra name m k 0 (Forms.visit name s r t b)
+  pub kept-visit : (s : ℕ) (r t : Path) (b : Frame N) → ((table : Cell N) → read_at t b.variables ≡ Some table → HaveKinds (Spares extra) (parts_of table)) → Balanced w extra name m k 0 b → AllBalanced w extra name m k 0 (LoopForms.visit name s r t b)
   kept-visit s r t b kinds e = visit_from s r t b (rows_for s b.loops) refl kinds e
 
   pub kept-connect : (o i : Path) (b : Frame N) → Balanced w extra name m k 0 b → AllBalanced w extra name m k 0 (Forms.connect name o i b)

@@ -7,7 +7,7 @@ use Rattle.herm_model.specs.Targets.{Target}
 use Rattle.herm_model.specs.Values.{Cell}
 use Rattle.herm_journal.specs.Messages.{CellAction}
 use Rattle.herm_forms.specs.Frames.{Name, Frame, Completion}
-use Rattle.herm_forms.specs.Exchanges
+use Rattle.herm_forms.specs.ClosesAndAnswers
 use Rattle.herm_forms.specs.Callmessages.{Composed}
 use Rattle.herm_forms.specs.EdgeFinalising.{arrive}
 use Rattle.herm_forms.specs.Modules.{Module}
@@ -41,7 +41,7 @@ module _ {N : Type 0} (name : Name → N) (n : ℕ) where
   is-composed c o arguments b k e is = KeptBodies.is-composed name Is Is numbers c o arguments b k e is
 
   -- what each answer leaves
-  pub all-work : (item : Cell N) (a : CellAction N) (b : Frame N) → Is b → All (Exchanges.work_done item a b)
+  pub all-work : (item : Cell N) (a : CellAction N) (b : Frame N) → Is b → All (ClosesAndAnswers.work_done item a b)
   all-work item a b e = KeptBodies.all-work Is lets item a b e
 
   pub all-settle : (c : Module) (form : Form) (at : ℕ) (a : CellAction N) (b : Frame N) → Is b → All (settle name c form at a b)

@@ -10,7 +10,7 @@ use Rattle.herm_model.proofs.Lists.{total-append}
 use Rattle.herm_model.proofs.Places.{range-add}
 use Rattle.herm_model.proofs.Options.{none-not_some}
 use Rattle.herm_forms.specs.Frames.{Loop}
-use Rattle.herm_forms.specs.Forms.{rows_for, set_rows}
+use Rattle.herm_forms.specs.LoopForms.{rows_for, set_rows}
 use Rattle.herm_journal.specs.Weights.{weigh_serials}
 use Rattle.herm_journal.specs.Kinds.{HasKinds, HaveKinds}
 use Rattle.herm_model.proofs.Loads.{load, load_in, load_option, load-change_at}

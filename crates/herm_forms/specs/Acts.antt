@@ -6,7 +6,7 @@ use Rattle.herm_model.specs.Types.{Shape, fields, rows, Mode, by_in, by_inout, b
 use Rattle.herm_model.specs.Expressions.{Atom}
 use Rattle.herm_model.specs.Statements.{Form, Assign, Move, New, Discard, Unite, Dissolve, Reveal, Case, Wrap, Unwrap, Insert, Remove, Get, For, Connect, Send, Receive, Select, Call, Return, ReturnBy, Create, If, While, Raise, Leave}
 use Rattle.herm_model.specs.Calls.{shape_at, call_parameters, arguments_by}
-use Rattle.herm_model.specs.StatementTable.{set_by_call, kept_by_call, returned, returned_by}
+use Rattle.herm_model.specs.FactsOfStatements.{set_by_call, kept_by_call, returned, returned_by}
 use Rattle.herm_model.specs.Outcomes.{Outcome, same_outcome}
 use Rattle.herm_model.specs.Nodes.{Node, exits}
 use Rattle.herm_model.specs.Targets.{Target}
@@ -16,6 +16,9 @@ use Rattle.herm_journal.specs.Actions.{values, Want, to_hear, new_port, new_proc
 use Rattle.herm_journal.specs.Actions
 use Rattle.herm_forms.specs.Frames.{Name, Frame, Completion, stuck, if_there, Taken}
 use Rattle.herm_forms.specs.Forms
+use Rattle.herm_forms.specs.InsertForm
+use Rattle.herm_forms.specs.KeyForms
+use Rattle.herm_forms.specs.LoopForms
 use Rattle.herm_forms.specs.Exchanges
 use Rattle.herm_forms.specs.Callmessages as callmessages
 use Rattle.herm_journal.specs.Messages.{CellWant, CellAction, is_inport}
@@ -61,10 +64,10 @@ act name c s (Reveal v k) b = Forms.reveal k v b
 act name c s (Case v ks) b = Forms.choose v b
 act name c s (Wrap y p) b = if_there (λ t. Forms.wrap name t (excess_over_full c y b) y p b) (type_at c.types c.variables y)
 act name c s (Unwrap p t y) b = Forms.unwrap t p y b
-act name c s (Insert r t) b = Forms.insert (key_at c t) (excess_over_full c r b) r t b
-act name c s (Remove r t keys) b = if_there (λ k. Forms.remove (key_at c t) k r t b) (key_values b.variables keys)
-act name c s (Get r t keys) b = if_there (λ k. Forms.get name (key_at c t) k r t b) (key_values b.variables keys)
-act name c s (For r t) b = Forms.visit name s r t b
+act name c s (Insert r t) b = InsertForm.insert (key_at c t) (excess_over_full c r b) r t b
+act name c s (Remove r t keys) b = if_there (λ k. KeyForms.remove (key_at c t) k r t b) (key_values b.variables keys)
+act name c s (Get r t keys) b = if_there (λ k. KeyForms.get name (key_at c t) k r t b) (key_values b.variables keys)
+act name c s (For r t) b = LoopForms.visit name s r t b
 act name c s (Connect o i) b = Forms.connect name o i b
 act name c s (If e) b = Forms.with_value Forms.tested (evaluate b.variables e) b
 act name c s (While e) b = Forms.with_value Forms.tested (evaluate b.variables e) b

@@ -6,7 +6,7 @@ use Rattle.herm_model.specs.CellNames.{forget}
 use Rattle.herm_model.specs.Values
 use Rattle.herm_model.specs.Tables.{same_scalar, same_integer}
 use Rattle.herm_model.specs.Typed.{is_integer, greatest_text}
-use Rattle.herm_model.specs.Texts.{signed_numeral}
+use Rattle.herm_model.specs.ValueTexts.{signed_numeral}
 use Rattle.herm_model.specs.Outcomes.{overflow, depletion}
 
 -- What an evaluation comes to: a value, or an exception. There is no value only where an operand is not there or not of

@@ -2,10 +2,10 @@
 use Rattle.std.specs.Prelude.{ℕ, suc, List, [], ◌∷◌, cond, nat_eq, Option, Some, None, option_map, option_and_then}
 use Rattle.herm_model.specs.Paths.{Path}
 use Rattle.herm_model.specs.Outcomes.{ok, arm, raised, depletion, disconnected}
-use Rattle.herm_model.specs.Values.{a_callmessage, an_inport, an_outport, Cell, cell, no_parts, cell_at, read_at}
-use Rattle.herm_journal.specs.Actions.{gone, to_put, to_take, to_close, to_answer, make_port, make_process, put, take, close, answer}
+use Rattle.herm_model.specs.Values.{an_inport, an_outport, Cell, cell, no_parts, cell_at, read_at}
+use Rattle.herm_journal.specs.Actions.{to_put, to_take, make_port, make_process, put, take}
 use Rattle.herm_journal.specs.Actions
-use Rattle.herm_forms.specs.Frames.{Name, Frame, Completion, goes, stays, stuck, if_there, finalise_all, finalise_at_once, drop, putting, making}
+use Rattle.herm_forms.specs.Frames.{Name, Frame, Completion, goes, stuck, if_there, drop, putting, making}
 use Rattle.herm_forms.specs.Forms.{moving, inport_number, outport_number}
 use Rattle.herm_journal.specs.Messages.{CellWant, CellAction}
 
@@ -78,17 +78,3 @@ abbrev pub select : {N : Type 0} → (targets ports : List Path) → (from : ℕ
 select targets ports from (take k m) b =
     if_there (λ place. receive_at targets 0 place m b) (option_and_then (place_of_port 0 from) (ports_at ports b))
 select targets ports from _ b = stuck
-
--- What the front of a work list wants: an inport to be closed, a callmessage to be answered with nothing.
--- Language reference, "Finalising".
-abbrev pub work_wants : {N : Type 0} → Cell N → Option (CellWant N)
-work_wants (cell n (an_inport port) ps) = Some (to_close port)
-work_wants (cell n (a_callmessage caller call) ps) = Some (to_answer caller call gone)
-work_wants (cell n k ps) = None
-
--- What was done with the front of the work list: of a closed port the messages are finalised in the order of its
--- queue and then its own cell, and a callmessage's cell is. Language reference, "Finalising".
-abbrev pub work_done : {N : Type 0} → Cell N → CellAction N → Frame N → Completion N
-work_done item (close count left) b = stays (finalise_at_once item (finalise_all left b))
-work_done item (answer k r) b = stays (finalise_at_once item b)
-work_done item _ b = stuck

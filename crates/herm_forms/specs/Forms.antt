@@ -1,13 +1,12 @@
 -- What each form does that is a local step: one function for each, which takes what is static as arguments.
-use Rattle.std.specs.Prelude.{ℕ, List, [], ◌∷◌, true, false, cond, nat_eq, nat_lt, Option, Some, None}
+use Rattle.std.specs.Prelude.{ℕ, List, [], true, false, cond, nat_eq, nat_lt, Option, Some, None}
 use Rattle.herm_model.specs.Paths.{Path}
-use Rattle.herm_model.specs.Outcomes.{ok, is_true, is_false, turn, done, component, raised, depletion, case_error, polymorph_mismatch, duplicate_key, not_found}
-use Rattle.herm_model.specs.Values.{Scalar, a_boolean, Kind, a_scalar, a_variant, a_polymorph, an_inport, an_outport, Cell, cell, Parts, no_parts, gap, part, part_at, size, joined, parts_of, cell_at, change_at, polymorph_depth, Value}
+use Rattle.herm_model.specs.Outcomes.{ok, is_true, is_false, component, raised, depletion, case_error, polymorph_mismatch}
+use Rattle.herm_model.specs.Values.{a_boolean, Kind, a_scalar, a_variant, a_polymorph, an_inport, an_outport, Cell, cell, Parts, no_parts, part, cell_at, polymorph_depth, Value}
 use Rattle.herm_model.specs.FactsOfValues.{is_component}
-use Rattle.herm_model.specs.Tables.{has_key, key_of, place_of_key, without_part}
-use Rattle.herm_model.specs.Typed.{greatest_rows, greatest_polymorph}
+use Rattle.herm_model.specs.Typed.{greatest_polymorph}
 use Rattle.herm_forms.specs.Evaluate.{Evaluated, gives, raises, no_value}
-use Rattle.herm_forms.specs.Frames.{Name, Loop, Frame, Completion, goes, stuck, if_there, finalise, finalise_name, cleared, drop, reading, taking, putting, making, copying, copying_parts}
+use Rattle.herm_forms.specs.Frames.{Name, Frame, Completion, goes, stuck, if_there, finalise, finalise_name, cleared, drop, reading, taking, putting, making, copying}
 
 -- On with the value that an expression gives. Its exception is the statement's, and leaves all as it was.
 -- Language reference, "Exceptions".
@@ -93,67 +92,6 @@ unwrap t p y b =
     if_there
     (λ c. elim (content_of t c) [ None ↦ goes (raised polymorph_mismatch) b | Some o ↦ moving_content y o (cleared p b) ])
     (cell_at p b.variables)
-
--- the cell with its parts changed
-abbrev pub with_parts : {N : Type 0} → (Parts N → Parts N) → Cell N → Cell N
-with_parts f (cell n k ps) = cell n k (f ps)
-
--- the rows of the table at a path changed
-abbrev pub change_rows : {N : Type 0} → Path → (Parts N → Parts N) → Frame N → Frame N
-change_rows t f b = record b { variables = change_at t (with_parts f) b.variables }
-
--- a row behind the others
-abbrev pub add_row : {N : Type 0} → Cell N → Parts N → Parts N
-add_row row rows = joined rows (part row no_parts)
-
--- `insert r into t`, where the fields of the key are these; DuplicateKey where there is a row with the key, else
--- Depletion where the table has no room
-abbrev pub insert : {N : Type 0} → (key : List ℕ) → (lost : List Path) → (source table : Path) → Frame N → Completion N
-insert key lost r t b =
-    if_there
-    (λ row. reading t (λ table.
-    cond (has_key key (key_of key row) (parts_of table)) (goes (raised duplicate_key) b)
-    (cond (nat_lt (size (parts_of table)) greatest_rows)
-    (moving lost r (λ row b. reading t (λ table. goes ok (change_rows t (add_row row) b)) b) b)
-    (goes (raised depletion) b))) b)
-    (cell_at r b.variables)
-
--- on with the row that has this key, by its place; NotFound where there is none
-abbrev pub finding : {N : Type 0} → (key : List ℕ) → List Scalar → (table : Path) → (ℕ → Cell N → Completion N) → Frame N → Completion N
-finding key k t next b =
-    reading t (λ table. elim (place_of_key key k (parts_of table)) [ None ↦ goes (raised not_found) b | Some i ↦ if_there (next i) (part_at i (parts_of table)) ]) b
-
--- `remove r from t [ .. ]`
-abbrev pub remove : {N : Type 0} → (key : List ℕ) → List Scalar → (target table : Path) → Frame N → Completion N
-remove key k r t b = finding key k t (λ i row. putting r ok row (change_rows t (without_part i) b)) b
-
--- `get r from t [ .. ]`: the row that it gives is a copy
-abbrev pub get : {N : Type 0} → (Name → N) → (key : List ℕ) → List Scalar → (target table : Path) → Frame N → Completion N
-get name key k r t b = finding key k t (λ i row. copying name row (putting r ok) b) b
-
--- the rows that the loop of this statement has yet to visit
-abbrev pub rows_for : {N : Type 0} → ℕ → List (Loop N) → Option (Parts N)
-rows_for s [] = None
-rows_for s (l ∷ loops) = cond (nat_eq l.statement s) (Some l.rows) (rows_for s loops)
-
-abbrev pub set_rows : {N : Type 0} → ℕ → Parts N → List (Loop N) → List (Loop N)
-set_rows s rows [] = []
-set_rows s rows (l ∷ loops) = cond (nat_eq l.statement s) (record { statement = s; rows = rows } ∷ loops) (l ∷ set_rows s rows loops)
-
--- the next row moves into r, or there is none
-abbrev pub next_row : {N : Type 0} → (statement : ℕ) → Path → Parts N → Frame N → Completion N
-next_row s r no_parts b = goes done b
-next_row s r (gap rows) b = stuck
-next_row s r (part row rows) b = putting r turn row (record b { loops = set_rows s rows b.loops })
-
--- A test of `for r in t`: the first one makes a copy of the rows, which the loop holds until it is left.
--- Language reference, "Loops".
-abbrev pub visit : {N : Type 0} → (Name → N) → (statement : ℕ) → (target table : Path) → Frame N → Completion N
-visit name s r t b =
-    elim (rows_for s b.loops) [
-      | None ↦ reading t (λ table. copying_parts name (parts_of table) (λ rows b. next_row s r rows (record b { loops = record { statement = s; rows = rows } ∷ b.loops })) b) b
-      | Some rows ↦ next_row s r rows b
-    ]
 
 -- the port of an inport
 abbrev pub inport_number : {N : Type 0} → Cell N → Option ℕ

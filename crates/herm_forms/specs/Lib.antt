@@ -1,6 +1,10 @@
 pub mod Evaluate
 pub mod Forms
+pub mod InsertForm
+pub mod KeyForms
+pub mod LoopForms
 pub mod Exchanges
+pub mod ClosesAndAnswers
 pub mod Acts
 pub mod Weights
 pub mod Renaming

@@ -8,7 +8,7 @@ use Rattle.herm_model.specs.Copyable.{IsCopyable, is_copyable_within}
 use Rattle.herm_model.specs.Expressions.{Literal}
 use Rattle.herm_model.specs.Statements.{Form, Process}
 use Rattle.herm_model.specs.Calls.{shape_at, raises_of, call_raises, kept_for}
-use Rattle.herm_model.specs.StatementTable.{set_by_call, sent_to}
+use Rattle.herm_model.specs.FactsOfStatements.{set_by_call, sent_to}
 use Rattle.herm_model.specs.Finalising.{keeps, excess_at}
 use Rattle.herm_model.specs.TypedExpressions.{takes, passes_out, HasShape, IsLiteralOf}
 use Rattle.herm_model.specs.TypedStatements.{AreApart, IsLookedAt, IsTarget, IsTableOf, GoesTo, IsTypedForm}

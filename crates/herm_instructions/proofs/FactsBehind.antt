@@ -2,7 +2,7 @@
 use Rattle.std.proofs.Common.{◌≡◌, List, [], ◌∷◌, ◌++◌, filter, Bool, true, false, not, cond, ◌||◌, IsTrue, refl, sym, ap, ◌∙◌}
 use Rattle.herm_model.specs.Lists.{any_pass}
 use Rattle.herm_model.specs.Paths.{Fact, path_of, same_fact, is_at_or_below}
-use Rattle.herm_model.specs.StatementTable.{closed}
+use Rattle.herm_model.specs.FactsOfStatements.{closed}
 use Rattle.herm_model.proofs.Equality.{same_fact-is}
 use Rattle.herm_instructions.specs.Effects.{row_of}
 use Rattle.herm_instructions.specs.laws.LabelLaws.{FactsAreHeldBehind, ValuesFitWhereTheyArrive}

@@ -6,7 +6,7 @@ use Rattle.herm_model.specs.Paths.{Path, Fact, init, path_of, is_at_or_below}
 use Rattle.herm_model.specs.Types.{TypeTable}
 use Rattle.herm_model.specs.Facts.{prefixes, facts_to, IsClosed}
 use Rattle.herm_model.specs.Outcomes.{Outcome, raised}
-use Rattle.herm_model.specs.StatementTable.{closed}
+use Rattle.herm_model.specs.FactsOfStatements.{closed}
 use Rattle.herm_model.proofs.Lists.{not_true, in-append_left, in-append_right, in-append_cases, in-map, in-map_from, in-flat_map, in-filter, in-filter_from, or-left, or-right}
 use Rattle.herm_model.proofs.Options.{some-injective, none-not_some}
 use Rattle.herm_model.proofs.Beginnings.{above-longer, below-trans}

@@ -7,7 +7,7 @@ use Rattle.herm_model.specs.Expressions.{Literal, Expression, Atom, is_arithmeti
 use Rattle.herm_model.specs.Statements.{Form, Arm}
 use Rattle.herm_model.specs.Calls.{shape_at}
 use Rattle.herm_model.specs.Outcomes.{Outcome, raised, overflow, depletion, listed_if, exceptions}
-use Rattle.herm_model.specs.StatementTable.{Row, nothing, at_turn, present, full, room_for, row, closed}
+use Rattle.herm_model.specs.FactsOfStatements.{Row, nothing, at_turn, present, full, room_for, row, closed}
 use Rattle.herm_instructions.specs.Instructions.{UnaryOperator, negative, Argument, of_in, of_inout, of_out, Choice, Instruction, Load, Size, Apply, Combine, Store, Move, New, Discard, Unite, Dissolve, Reveal, CaseOf, Wrap, Unwrap, Insert, Remove, Get, LoopStart, LoopNext, LoopDrop, Connect, Send, Receive, Select, Call, Return, ReturnBy, Create, Raise, Drop}
 use Rattle.herm_instructions.specs.Labels.{Slot, Label}
 use Rattle.herm_instructions.specs.Operands.{stack_behind}

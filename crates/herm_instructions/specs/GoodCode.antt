@@ -7,7 +7,7 @@ use Rattle.herm_model.specs.Facts.{IsClosed}
 use Rattle.herm_model.specs.Expressions.{Literal}
 use Rattle.herm_model.specs.Statements.{Process, no_statements, Differ}
 use Rattle.herm_model.specs.Calls.{shape_at, raises_of, call_raises, kept_for}
-use Rattle.herm_model.specs.StatementTable.{sent_to}
+use Rattle.herm_model.specs.FactsOfStatements.{sent_to}
 use Rattle.herm_model.specs.Finalising.{keeps, excess_at}
 use Rattle.herm_model.specs.laws.FlowLaws.{Rise}
 use Rattle.herm_model.specs.TypedExpressions.{HasShape, IsLiteralOf}

@@ -4,7 +4,7 @@ use Rattle.herm_model.specs.Types.{Mode, by_in, by_inout, by_out, Parameter, Rai
 use Rattle.herm_model.specs.Copyable.{IsCopyable}
 use Rattle.herm_model.specs.Expressions.{Literal}
 use Rattle.herm_model.specs.Statements.{Form, Process}
-use Rattle.herm_model.specs.StatementTable.{set_by_call}
+use Rattle.herm_model.specs.FactsOfStatements.{set_by_call}
 use Rattle.herm_model.specs.TypedExpressions.{HasShape}
 use Rattle.herm_model.specs.TypedStatements.{AreApart, IsLookedAt, IsTarget, IsTableOf, GoesTo, IsTypedForm}
 use Rattle.herm_instructions.specs.Instructions.{Argument, of_in, of_inout, of_out, Choice, Instruction, Const, Load, Size, Store, New, Wrap, Remove, Get, LoopStart, Select, Call, EndBy}

@@ -2,9 +2,10 @@
 use Rattle.std.specs.Prelude.{ℕ, List, [], ◌∷◌, ◌++◌, map, Bool, true, false, nat_eq, Some, None, slice_get, codes}
 use Rattle.herm_model.specs.Lists.{list_of}
 use Rattle.herm_model.specs.Values.{Cell}
-use Rattle.herm_model.specs.Texts.{numeral, text_of}
+use Rattle.herm_model.specs.ValueTexts.{numeral, text_of}
 use Rattle.herm_journal.specs.Actions.{Reply, values, raised, gone, Action, make_port, make_process, put, take, close, answer, hear}
-use Rattle.herm_journal.specs.PlaceStates.{Port, PlaceState, a_port, replies, a_book}
+use Rattle.herm_journal.specs.Ports.{Port}
+use Rattle.herm_journal.specs.PlaceStates.{PlaceState, a_port, replies, a_book}
 
 -- a text as its bytes
 abbrev pub Text : Type 0

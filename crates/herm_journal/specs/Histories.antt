@@ -1,7 +1,9 @@
 -- The history of a place, replayed. Language reference, "Histories".
 use Rattle.std.specs.Prelude.{ℕ, List, [], ◌∷◌, cond, nat_eq, ◌<◌, ⊤}
 use Rattle.herm_journal.specs.Actions.{Reply}
-use Rattle.herm_journal.specs.PlaceStates.{empty_port, port_with, Limits, first_book, PlaceState, a_port, replies, a_book, IsEnabled, after}
+use Rattle.herm_journal.specs.Ports.{empty_port, port_with}
+use Rattle.herm_journal.specs.Books.{Limits, first_book}
+use Rattle.herm_journal.specs.PlaceStates.{PlaceState, a_port, replies, a_book, IsEnabled, after}
 use Rattle.herm_journal.specs.Entries.{Text, Place, port, reply_cell, book, Entry}
 
 -- what a place holds, as its history tells it

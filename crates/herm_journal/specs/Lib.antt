@@ -10,3 +10,5 @@ pub mod laws
 pub mod Stamps
 pub mod Histories
 pub mod PlaceStates
+pub mod Ports
+pub mod Books

@@ -3,7 +3,7 @@ use Rattle.std.proofs.Common.{◌≡◌, ℕ, suc, ◌+◌, ◌<◌, List, [], �
 use Rattle.herm_model.specs.Lists.{all_pass, map_or, range}
 use Rattle.herm_model.specs.Types.{Shape, TypeTable, part_of, part_type, type_below, type_at}
 use Rattle.herm_naming.specs.Fits.{type_of}
-use Rattle.herm_naming.specs.Known.{is_type, is_known, is_there, are_parts_there}
+use Rattle.herm_naming.specs.UnknownNames.{is_type, is_known, is_there, are_parts_there}
 
 module _ (table : TypeTable) where
   -- behind a type that is not known there is no type

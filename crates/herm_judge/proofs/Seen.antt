@@ -14,7 +14,7 @@ use Rattle.herm_typed.proofs.SeenBlocks.{case_view, select_view, try_view}
 use Rattle.herm_naming.specs.Fits.{fits_form, fits_statement}
 use Rattle.herm_naming.specs.Copies.{copies_statement}
 use Rattle.herm_judge.specs.View.{is_nil}
-use Rattle.herm_naming.specs.Known.{is_form_there, is_statement_there}
+use Rattle.herm_naming.specs.UnknownNames.{is_form_there, is_statement_there}
 
 handled_in : (hs : List (ExcNo × Vec TypedStmt Global)) → handled (handlers_list hs) ≡ map (λ h. h.0.0) hs
 handled_in [] = refl

@@ -11,10 +11,10 @@ use Rattle.herm_typed.specs.declared.expressions.TypedConj.{TypedConj, out-Typed
 use Rattle.herm_typed.specs.declared.expressions.TypedExpr.{TypedExpr, out-TypedExpr}
 use Rattle.herm_typed.specs.declared.expressions.TypedUnary.{TypedUnary}
 use Rattle.herm_typed.specs.View.{typed_sum_op_view, typed_prod_op_view, signed_view, typed_expr_view, typed_conj_view, typed_comp_view, typed_sum_view, typed_prod_view, typed_primary_view, typed_unary_view}
-use Rattle.herm_typed.specs.Raising.{chained}
+use Rattle.herm_typed.specs.RaisedByExpressions.{chained}
 use Rattle.herm_typed.proofs.Chains.{product_chain, sum_chain, conjunction_chain, expression_chain}
 use Rattle.herm_naming.specs.Fits.{is_fit, gives, fits_literal, literal_gives}
-use Rattle.herm_naming.specs.Known.{is_there, is_literal_there, literals_in}
+use Rattle.herm_naming.specs.UnknownNames.{is_there, is_literal_there, literals_in}
 use Rattle.herm_naming.specs.Copies.{copied, may_copy, may_copy_each}
 use Rattle.herm_naming.specs.Fits.{type_of}
 use Rattle.herm_judge.specs.Sight.{Sight, sight, operated, operated_each, signed}

@@ -4,7 +4,7 @@ use Rattle.std.proofs.Math.Seq.{drop-cons}
 use Rattle.herm_model.specs.Lists.{all_pass, range}
 use Rattle.herm_model.specs.Expressions.{Atom}
 use Rattle.herm_model.specs.Types.{TypeTable, part_of, is_variant, enters_component}
-use Rattle.herm_naming.specs.Known.{is_known, are_parts_there}
+use Rattle.herm_naming.specs.UnknownNames.{is_known, are_parts_there}
 use Rattle.herm_naming.specs.Fits.{are_keys}
 
 pub unknown_there : (table : TypeTable) (t : Option ℕ) (p : List ℕ) → is_known table t ≡ false → are_parts_there table t p ≡ true

@@ -7,7 +7,7 @@ use Rattle.herm_model.specs.Expressions.{Operator, Expression, paths_read}
 use Rattle.herm_model.specs.TypedExpressions.{is_boolean_shape, is_integer_shape, takes, shape_given}
 use Rattle.herm_model.specs.tests.TypingTests.{number_of_shape}
 use Rattle.herm_naming.specs.Fits.{may_be, may_equal, gives, is_fit}
-use Rattle.herm_naming.specs.Known.{is_there, is_literal_there, literals_in}
+use Rattle.herm_naming.specs.UnknownNames.{is_there, is_literal_there, literals_in}
 use Rattle.herm_naming.specs.Copies.{copied, may_copy_each}
 use Rattle.herm_syntax.specs.declared.expressions.UnaryOp.{UnaryOp}
 use Rattle.herm_syntax.specs.declared.expressions.UnaryOp.TheVariants.{Neg, Not}

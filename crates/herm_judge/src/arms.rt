@@ -3,7 +3,7 @@ ghost use Rattle.std.specs.Prelude.{◌≡◌, ◌++◌, ◌∷◌, [], map, fla
 ghost use Rattle.herm_model.specs.Lists.{all_pass, any_pass, range};
 ghost use Rattle.herm_model.specs.Statements.{Arm};
 ghost use Rattle.herm_naming.specs.Fits.{fits_arm, has_every_arm, may_be};
-ghost use Rattle.herm_naming.specs.Known.{is_there};
+ghost use Rattle.herm_naming.specs.UnknownNames.{is_there};
 ghost use Rattle.herm_typed.specs.View.{typed_path_view};
 ghost use Rattle.herm_typed.specs.Blocks.{typed_arm_view};
 ghost use Rattle.herm_judge.specs.View.{kind, table_of, variables_of};

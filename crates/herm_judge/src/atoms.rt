@@ -5,7 +5,7 @@ ghost use Rattle.herm_model.specs.Expressions.{paths_among};
 ghost use Rattle.herm_model.specs.Calls.{arguments_by};
 ghost use Rattle.herm_meaning.specs.Names.{IsWellNamed};
 ghost use Rattle.herm_naming.specs.Fits.{may_be, atom_gives, is_fit_atom, is_set_atom, is_argument, are_arguments, are_keys, field_types, is_in_mode, may_have_keys, has_parameters, gives_parameters, takes_parameters};
-ghost use Rattle.herm_naming.specs.Known.{is_there, is_literal_there, literals_among};
+ghost use Rattle.herm_naming.specs.UnknownNames.{is_there, is_literal_there, literals_among};
 ghost use Rattle.herm_naming.specs.Copies.{may_copy_each};
 ghost use Rattle.herm_types.specs.View.{mode_view, param_view};
 ghost use Rattle.herm_typed.specs.View.{typed_atom_view};

@@ -4,7 +4,7 @@ ghost use Rattle.herm_model.specs.Expressions.{tag};
 ghost use Rattle.herm_model.specs.Lists.{all_pass};
 ghost use Rattle.herm_model.specs.Typed.{is_integer, is_text, is_text_byte};
 ghost use Rattle.herm_naming.specs.Fits.{fits_literal, literal_gives};
-ghost use Rattle.herm_naming.specs.Known.{is_literal_there, may_have_value};
+ghost use Rattle.herm_naming.specs.UnknownNames.{is_literal_there, may_have_value};
 ghost use Rattle.herm_model.specs.Types as model;
 ghost use Rattle.herm_types.specs.View.{shape_view};
 ghost use Rattle.herm_typed.specs.View.{typed_literal_view};

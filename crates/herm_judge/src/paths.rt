@@ -3,7 +3,7 @@ ghost use Rattle.std.specs.Prelude.{◌≡◌, not, ◌||◌, is_some, slice_get
 ghost use Rattle.herm_model.specs.Types.{part_of, type_below, type_at, passes_component, enters_component};
 ghost use Rattle.herm_model.specs.TypedExpressions.{passes_out, enters_out};
 ghost use Rattle.herm_naming.specs.Fits.{type_of, is_seen, is_own};
-ghost use Rattle.herm_naming.specs.Known.{is_known, is_there, are_parts_there};
+ghost use Rattle.herm_naming.specs.UnknownNames.{is_known, is_there, are_parts_there};
 ghost use Rattle.herm_types.specs.View.{path_view};
 ghost use Rattle.herm_judge.specs.View.{kind, kinds, table_of, variables_of};
 

@@ -7,7 +7,7 @@ ghost use Rattle.herm_model.specs.Types.{part_of, part_type, is_variant, is_case
 ghost use Rattle.herm_model.specs.TypedExpressions.{is_boolean_shape, is_integer_shape, is_text_shape, is_scalar_shape, is_ordered_shape, is_out_parameter, is_out_part, is_out_mode, takes};
 ghost use Rattle.herm_model.specs.TypedStatements.{can_be_new};
 ghost use Rattle.herm_naming.specs.Fits.{shape_of, may_be, when_known, may_equal, may_hold, may_have_rows, may_lead, may_give, may_take, may_raise, is_polymorph_shape, is_names_shape, is_rows_shape, is_callmessage_shape};
-ghost use Rattle.herm_naming.specs.Known.{is_known};
+ghost use Rattle.herm_naming.specs.UnknownNames.{is_known};
 ghost use Rattle.herm_naming.specs.StatementFaults.{is_inport_shape};
 ghost use Rattle.herm_types.specs.View.{shape_view, mode_view, raise_decl_view};
 ghost use Rattle.herm_typed.specs.View.{typed_comp_op_view, typed_sum_op_view, typed_prod_op_view};

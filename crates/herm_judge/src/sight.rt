@@ -5,7 +5,7 @@ ghost use Rattle.herm_model.specs.TypedExpressions.{takes, shape_given, is_text_
 ghost use Rattle.herm_model.specs.tests.TypingTests.{number_of_shape};
 ghost use Rattle.herm_meaning.specs.Names.{IsWellNamed};
 ghost use Rattle.herm_naming.specs.Fits.{may_be, may_equal, fits_literal, literal_gives};
-ghost use Rattle.herm_naming.specs.Known.{is_literal_there};
+ghost use Rattle.herm_naming.specs.UnknownNames.{is_literal_there};
 ghost use Rattle.herm_typed.specs.View.{typed_path_view, typed_literal_view, typed_sum_op_view, typed_prod_op_view, typed_comp_op_view, typed_expr_view, typed_conj_view, typed_comp_view, typed_sum_view, typed_prod_view, typed_primary_view, typed_unary_view};
 ghost use Rattle.herm_judge.specs.View.{kind, table_of, variables_of};
 ghost use Rattle.herm_judge.specs.Sight.{seen_view, sight, operated, operated_each, signed};

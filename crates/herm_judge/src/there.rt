@@ -2,7 +2,7 @@
 ghost use Rattle.std.specs.Prelude.{ℕ, ◌≡◌, ◌&&◌, ◌++◌, ◌∷◌, [], true, length, map, nat_lt};
 ghost use Rattle.herm_model.specs.Lists.{all_pass};
 ghost use Rattle.herm_model.specs.Expressions.{paths_among};
-ghost use Rattle.herm_naming.specs.Known.{is_there, is_literal_there, literals_among, is_form_there, is_statement_there};
+ghost use Rattle.herm_naming.specs.UnknownNames.{is_there, is_literal_there, literals_among, is_form_there, is_statement_there};
 ghost use Rattle.herm_model.specs.Statements as model;
 ghost use Rattle.herm_typed.specs.Blocks.{typed_arm_view};
 ghost use Rattle.herm_typed.specs.View.{typed_path_view, typed_atom_view, typed_form_view};

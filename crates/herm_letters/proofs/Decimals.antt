@@ -5,7 +5,7 @@ use Rattle.std.specs.Prelude.{FitsSigned}
 use Rattle.std.specs.Int.{w64}
 use Rattle.std.specs.Fmt.{decimal, signed_decimal}
 use Rattle.herm_model.specs.Typed.{is_integer}
-use Rattle.herm_model.specs.Texts.{numeral, signed_numeral}
+use Rattle.herm_model.specs.ValueTexts.{numeral, signed_numeral}
 use Rattle.herm_model.proofs.Numerals.{numeral-decimal, signed-decimal}
 
 pub numeral_is : (n : ℕ) → n < 2 ^ 64 → decimal n ≡ numeral n

@@ -1,7 +1,7 @@
 -- Places with their texts, one after another.
 use Rattle.std.proofs.Common.{◌≡◌, ◌<◌, ◌≤◌, ◌+◌, ℕ, zero, suc, List, [], ◌∷◌, ◌++◌, Option, Some, None, codes, length, get_or, drop, refl, sym, ap, ◌∙◌, arith, add-one, drop-cons}
 use Rattle.herm_model.specs.Values.{Value}
-use Rattle.herm_model.specs.Texts.{text_of, parts_text}
+use Rattle.herm_model.specs.ValueTexts.{text_of, parts_text}
 use Rattle.herm_values.specs.Parts.{parts_from}
 use Rattle.herm_letters.specs.PlaceTexts.{comma_behind}
 

@@ -2,7 +2,7 @@
 use Rattle.std.proofs.Common.{◌≡◌, [], ◌∷◌, ◌++◌, Option, ap, Vec, Global, Box}
 use Rattle.herm_parcels.specs.declared.call.CallMsg.{CallMsg}
 use Rattle.herm_model.specs.Values.{a_callmessage}
-use Rattle.herm_model.specs.Texts.{text_of, parts_text, opening}
+use Rattle.herm_model.specs.ValueTexts.{text_of, parts_text, opening}
 use Rattle.herm_values.specs.Parts.{parts_from}
 use Rattle.herm_values.specs.View.{value_view, views_of, table_parts}
 use Rattle.herm_values.specs.declared.value.Value.{Value, Fields, Table as a_table, Call}

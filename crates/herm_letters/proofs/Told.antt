@@ -4,7 +4,7 @@ use Rattle.std.proofs.lemmas.List.{map-append}
 use Rattle.std.specs.List.{All, AllByRecursion}
 use Rattle.std.proofs.lemmas.List.Elements.{recursion_from_All}
 use Rattle.herm_journal.specs.Entries.{Text}
-use Rattle.herm_model.specs.Texts.{text_of}
+use Rattle.herm_model.specs.ValueTexts.{text_of}
 use Rattle.herm_values.specs.View.{value_view}
 use Rattle.herm_letters.specs.declared.parcel.Parcel.{Parcel}
 use Rattle.herm_letters.specs.Letters.{IsParcel}

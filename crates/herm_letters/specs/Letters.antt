@@ -2,7 +2,7 @@
 use Rattle.std.specs.Prelude.{◌≡◌, ⊤}
 use Rattle.std.specs.List.{AllByRecursion}
 use Rattle.herm_journal.specs.Entries.{Text}
-use Rattle.herm_model.specs.Texts.{text_of}
+use Rattle.herm_model.specs.ValueTexts.{text_of}
 use Rattle.herm_values.specs.View.{value_view}
 use Rattle.herm_values.specs.Whole.{IsWhole}
 use Rattle.herm_values.specs.declared.value.Value.{Value}

@@ -1,4 +1,4 @@
 pub mod PlaceTexts
 pub mod View
 pub mod Letters
-pub mod Queues
+pub mod LettersInOrder

@@ -1,6 +1,6 @@
 //! A value that is to be put, with its texts.
 ghost use Rattle.std.specs.Prelude.{◌≡◌, IfOk, IfErr};
-ghost use Rattle.herm_model.specs.Texts.{text_of};
+ghost use Rattle.herm_model.specs.ValueTexts.{text_of};
 ghost use Rattle.herm_values.specs.View.{value_view};
 ghost use Rattle.herm_values.specs.Whole.{IsWhole};
 ghost use Rattle.herm_letters.specs.Letters.{IsLetter};

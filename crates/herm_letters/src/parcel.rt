@@ -1,6 +1,6 @@
 //! Messages that wait at a port.
 ghost use Rattle.std.specs.Prelude.{◌≡◌, ◌++◌, ◌∷◌, [], ◌<◌, ◌≤◌, ◌-◌, IfOk, IfSome, IfNone, OnOk, length, map};
-ghost use Rattle.herm_model.specs.Texts.{text_of};
+ghost use Rattle.herm_model.specs.ValueTexts.{text_of};
 ghost use Rattle.herm_values.specs.View.{value_view};
 ghost use Rattle.herm_letters.specs.Letters.{IsParcel};
 
@@ -31,7 +31,7 @@ impl Model for Parcels {
     ghost use Rattle.herm_letters.specs.contracts.parcel.Parcel as held;
     ghost use Rattle.std.specs.VecDeque.{deque_len, deque_capacity};
     ghost use Rattle.herm_letters.specs.Letters.{IsParcel};
-    ghost use Rattle.herm_letters.specs.Queues.{QueueState};
+    ghost use Rattle.herm_letters.specs.LettersInOrder.{QueueState};
 
     ghost Value = { QueueState };
 

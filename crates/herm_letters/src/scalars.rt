@@ -1,6 +1,7 @@
 //! The texts of values without parts, and what stands before the parts of others.
 ghost use Rattle.std.specs.Prelude.{◌≡◌, ◌++◌, ◌∷◌, OnOk, flat_map};
-ghost use Rattle.herm_model.specs.Texts.{numeral, escaped, scalar_text, opening};
+ghost use Rattle.herm_model.specs.ValueTexts.{numeral, scalar_text, opening};
+ghost use Rattle.herm_model.specs.Escapes.{escaped};
 ghost use Rattle.herm_model.specs.Values.{a_boolean, an_integer, a_text, a_tag, a_variant, a_polymorph, a_callmessage};
 
 use herm_base::{ProcNo, TypeNo, decimal, signed};

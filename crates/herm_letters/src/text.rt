@@ -1,6 +1,6 @@
 //! The text of a value.
 ghost use Rattle.std.specs.Prelude.{◌≡◌, ◌++◌, [], OnOk, IfOk, map};
-ghost use Rattle.herm_model.specs.Texts.{text_of, parts_text};
+ghost use Rattle.herm_model.specs.ValueTexts.{text_of, parts_text};
 ghost use Rattle.herm_journal.specs.Entries.{texts_of, more_texts_of};
 ghost use Rattle.herm_values.specs.Parts.{parts_from};
 ghost use Rattle.herm_values.specs.View.{value_view, views_of, table_parts};

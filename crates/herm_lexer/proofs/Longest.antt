@@ -7,7 +7,7 @@ use Rattle.std.proofs.lemmas.List.{length-append}
 use Rattle.herm_lexer.specs.Bytes.{is_blank, is_line_byte, is_name_byte}
 use Rattle.herm_alphabet.specs.KeywordLetters.{characters}
 use Rattle.herm_lexer.specs.Runs.{Goes, Stops, run_length}
-use Rattle.herm_model.specs.Texts.{escaped}
+use Rattle.herm_model.specs.Escapes.{escaped}
 use Rattle.herm_lexer.specs.Spelling.{IsName, Spells, SpellsPiece, Ends, is_content, piece_goes_on, sign_goes_on}
 use Rattle.herm_alphabet.specs.KeywordLetters.{keyword_of}
 use Rattle.herm_lexer.specs.Reading.{double_sign, kind_of}

@@ -8,7 +8,7 @@ use Rattle.std.proofs.lemmas.Bool.Decides.{nat_tests}
 use Rattle.std.proofs.lemmas.List.{take_at, append-nil, length-append, append_cancel_right}
 use Rattle.herm_lexer.specs.Bytes.{is_allowed}
 use Rattle.herm_lexer.specs.Runs.{goes_on, escapes, Goes, Stops, run_length}
-use Rattle.herm_model.specs.Texts.{escaped}
+use Rattle.herm_model.specs.Escapes.{escaped}
 use Rattle.herm_lexer.specs.Spelling.{is_content, Spells, Ends}
 use Rattle.herm_lexer.specs.Faults.{IsUnclosedString, IsMisspelledString}
 use Rattle.herm_lexer.specs.Reading.{before, unescaped, content_byte, content_of, text_of_content, string_at, piece_at}

@@ -2,7 +2,7 @@
 use Rattle.std.specs.Prelude.{◌≡◌, ◌≢◌, ℕ, pos, negsuc, ◌+◌, ◌≤◌, ◌==◌, ◌||◌, Bool, false, IsTrue, IsFalse, List, [], ◌∷◌, ◌++◌, length, if◌then◌else◌}
 use Rattle.std.specs.List.{AllByRecursion, flat_map}
 use Rattle.herm_base.specs.Decimal.{IsDecimalText}
-use Rattle.herm_model.specs.Texts.{escaped}
+use Rattle.herm_model.specs.Escapes.{escaped}
 use Rattle.herm_lexer.specs.Bytes.{is_blank, is_line_byte, is_name_byte}
 pub use Rattle.herm_alphabet.specs.Tokens.{IsName, is_content, IsWithinLimit}
 use Rattle.herm_alphabet.specs.KeywordLetters.{letters, characters}

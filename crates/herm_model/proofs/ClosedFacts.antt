@@ -5,7 +5,7 @@ use Rattle.herm_model.specs.Paths.{Fact, same_fact}
 use Rattle.herm_model.specs.Types.{TypeTable}
 use Rattle.herm_model.specs.Facts.{with_prefixes, without_repeats, IsClosed}
 use Rattle.herm_model.specs.Statements.{Differ}
-use Rattle.herm_model.specs.StatementTable.{closed}
+use Rattle.herm_model.specs.FactsOfStatements.{closed}
 use Rattle.herm_model.proofs.Lists.{in-filter, in-filter_from, in-flat_map, in-flat_map_from}
 use Rattle.herm_model.proofs.Prefixes.{with-closed}
 use Rattle.herm_model.proofs.Equality.{same_fact-is, same_fact_self}

@@ -7,7 +7,7 @@ use Rattle.herm_model.specs.Copyable.{IsCopyable, is_copyable_within}
 use Rattle.herm_model.specs.Expressions.{Literal, Operator, logical_or, logical_and, equal, unequal, less, at_most, greater, at_least, plus, minus, times, divided, modulo, concatenated, Expression, literal, copy, negation, logical_not, operation, size_of, decimal, length_of, Atom, path}
 use Rattle.herm_model.specs.Typed.{is_integer, is_text}
 use Rattle.herm_model.specs.Statements.{Form, Assign, Move, New, Discard, Unite, Dissolve, Reveal, Case, Wrap, Unwrap, Insert, Remove, Get, For, Connect, Send, Receive, Select, Call, Return, ReturnBy, Create, If, While, Raise, Leave, Arm, Process, Differ}
-use Rattle.herm_model.specs.StatementTable.{set_by_call}
+use Rattle.herm_model.specs.FactsOfStatements.{set_by_call}
 use Rattle.herm_model.specs.TypedExpressions.{takes, shape_given, passes_out, HasShape, IsLiteralOf, IsPathOf, IsTyped}
 use Rattle.herm_model.specs.WellFormedTables.{is_definable, BeginsPredefined, IsWellFormedTable}
 use Rattle.herm_model.specs.TypedStatements.{can_be_new, AreApart, port_type, IsComponent, IsLookedAt, IsTarget, IsTypedAtom, IsArgument, AreArguments, AreKeysOf, IsTableOf, IsFound, GoesTo, ComesFrom, IsReceived, IsReturned, IsTypedForm}

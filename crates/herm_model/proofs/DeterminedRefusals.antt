@@ -5,7 +5,7 @@ use Rattle.herm_model.specs.Paths.{Fact}
 use Rattle.herm_model.specs.Types.{TypeTable}
 use Rattle.herm_model.specs.Statements.{Process}
 use Rattle.herm_model.specs.ControlPaths.{Flow, flow_of, Hop, Holds, LacksBy}
-use Rattle.herm_model.specs.Refusals.{Demand, demands, Refusal, AreRefusals, none, missing, holds, IsAccepted}
+use Rattle.herm_model.specs.MissingFacts.{Demand, demands, Refusal, AreRefusals, none, missing, holds, IsAccepted}
 use Rattle.herm_model.specs.laws.FlowLaws.{said}
 
 -- a fact is not both held on every path and lacking on one

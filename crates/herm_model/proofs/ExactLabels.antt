@@ -4,7 +4,7 @@ use Rattle.herm_model.specs.Lists.{IsIn, numbered}
 use Rattle.herm_model.specs.Paths.{Fact}
 use Rattle.herm_model.specs.Targets.{node}
 use Rattle.herm_model.specs.ControlPaths.{Point, Flow, IsReached, Holds}
-use Rattle.herm_model.specs.Refusals.{Demand, demands_at, demands, Refusal, AreRefusals, none, missing, holds}
+use Rattle.herm_model.specs.MissingFacts.{Demand, demands_at, demands, Refusal, AreRefusals, none, missing, holds}
 use Rattle.herm_model.specs.Labels.{Labels, AreExact}
 use Rattle.herm_model.specs.laws.FlowLaws.{said, not_in_labels}
 use Rattle.herm_model.proofs.Lists.{in-flat_map_from, in-map_from}

@@ -3,7 +3,7 @@ use Rattle.std.proofs.Common.{◌≡◌, List, true}
 use Rattle.herm_model.specs.Types.{TypeTable}
 use Rattle.herm_model.specs.Statements.{Process}
 use Rattle.herm_model.specs.ControlPaths.{flow_of}
-use Rattle.herm_model.specs.Refusals.{Refusal, IsMissing}
+use Rattle.herm_model.specs.MissingFacts.{Refusal, IsMissing}
 use Rattle.herm_model.proofs.Labels.{confirms, labels_found, confirms-AreRefusals}
 
 -- by labels that are found and then tested

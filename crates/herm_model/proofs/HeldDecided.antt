@@ -7,7 +7,7 @@ use Rattle.herm_model.specs.Paths.{Fact}
 use Rattle.herm_model.specs.Outcomes.{same_outcome}
 use Rattle.herm_model.specs.Targets.{Target, node, end, end_by}
 use Rattle.herm_model.specs.ControlPaths.{Edge, Point, Flow, Hop, Standing, held_after_edge, held_at_start, walk, edge_at, edge_from, Holds, Lacks}
-use Rattle.herm_model.specs.Refusals.{Demand, Refusal, AreRefusals, none, missing, holds}
+use Rattle.herm_model.specs.MissingFacts.{Demand, Refusal, AreRefusals, none, missing, holds}
 use Rattle.herm_model.specs.Labels.{Labels, AreExact}
 use Rattle.herm_model.proofs.Lists.{not_true, and-both, both-and, in-append_left, in-append_right, in-map, found-in}
 use Rattle.herm_model.proofs.Options.{none-not_some, some-injective}

@@ -5,7 +5,7 @@ use Rattle.herm_model.specs.Paths.{Fact, init, same_fact}
 use Rattle.herm_model.specs.Facts.{without_repeats}
 use Rattle.herm_model.specs.Targets.{Target, node, end, end_by}
 use Rattle.herm_model.specs.ControlPaths.{Edge, Point, Flow, Hop, Standing, held_after_edge, held_at_start, walk, LacksBy}
-use Rattle.herm_model.specs.Refusals.{Demand, demands, Refusal, AreRefusals, none, missing, holds}
+use Rattle.herm_model.specs.MissingFacts.{Demand, demands, Refusal, AreRefusals, none, missing, holds}
 use Rattle.herm_model.specs.Labels.{Labels, label_at, AreInductive}
 use Rattle.herm_model.proofs.Equality.{same_fact-is}
 use Rattle.herm_model.proofs.FactTests.{listed-IsIn, at-numbered}

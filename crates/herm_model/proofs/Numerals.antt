@@ -6,7 +6,8 @@ use Rattle.std.proofs.lemmas.Nat.{pow-add}
 use Rattle.std.proofs.lemmas.Bool.{eq-eqb, eqb-true, lt-ltb, le-leb, ltb-true}
 use Rattle.std.specs.Fmt.{digit_glyph, digits_onto, digits, decimal, signed_decimal}
 use Rattle.herm_model.specs.Typed.{is_integer}
-use Rattle.herm_model.specs.Texts.{digit_bound, numeral, signed_numeral, escaped, is_digit, begins_with_digit}
+use Rattle.herm_model.specs.ValueTexts.{digit_bound, numeral, signed_numeral, is_digit, begins_with_digit}
+use Rattle.herm_model.specs.Escapes.{escaped}
 use Rattle.herm_model.proofs.Lists.{both-and, cons-head, cons-tail}
 
 glyph_is : (d : ℕ) → d < 10 → digit_glyph false d ≡ 48 + d

@@ -8,9 +8,9 @@ use Rattle.herm_model.specs.Statements.{Form}
 use Rattle.herm_model.specs.Outcomes.{Outcome, same_outcome, ok, raised, normal_outcomes, exceptions}
 use Rattle.herm_model.specs.Nodes.{Surroundings, Node, start_of_block, nodes_in, Exit, paired}
 use Rattle.herm_model.specs.Targets.{Target, node, end, end_by}
-use Rattle.herm_model.specs.StatementTable.{needs}
+use Rattle.herm_model.specs.FactsOfStatements.{needs}
 use Rattle.herm_model.specs.ControlPaths.{Edge, edge, Point, point, Flow, flow_of, Hop, held_after_edge, held_at_start, edge_at, edge_from, IsControlPath, Holds}
-use Rattle.herm_model.specs.Refusals.{Demand, demands_at, demands, Refusal, AreRefusals, none, missing, holds}
+use Rattle.herm_model.specs.MissingFacts.{Demand, demands_at, demands, Refusal, AreRefusals, none, missing, holds}
 use Rattle.herm_model.specs.Labels.{Labels, label_at, AreInductive}
 use Rattle.herm_model.specs.StraightLines.{line, straight, GoesOn, held_on, lacking_along}
 use Rattle.herm_model.proofs.Lists.{in-append_cases, in-map_from}

@@ -4,7 +4,7 @@ use Rattle.herm_model.specs.Lists.{IsIn}
 use Rattle.herm_model.specs.Paths.{Path, Fact, init, case, same_fact, parent}
 use Rattle.herm_model.specs.Types.{TypeTable, part_of, is_variant, type_below, enters_component}
 use Rattle.herm_model.specs.Facts.{facts_from, facts_to, prefixes, with_prefixes, without_repeats}
-use Rattle.herm_model.specs.StatementTable.{closed}
+use Rattle.herm_model.specs.FactsOfStatements.{closed}
 use Rattle.herm_model.specs.laws.OrderedFacts.{StandBehindPrefixes}
 use Rattle.herm_model.proofs.Lists.{cons-not_nil, cons-head, cons-tail, in-append_cases}
 use Rattle.herm_model.proofs.Equality.{same_fact-is}

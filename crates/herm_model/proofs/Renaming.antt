@@ -7,7 +7,7 @@ use Rattle.herm_model.specs.CellNames.{names_of, names_in, count, count_in, copy
 use Rattle.herm_model.specs.FactsOfValues.{is_component, satisfies}
 use Rattle.herm_model.specs.Tables.{scalars_of, key_of, same_key, has_key, place_of_key, has_distinct_keys, without_part}
 use Rattle.herm_model.specs.Finalising.{waits, finalised, finalised_in, pending, pending_in, cells_at, clear_all}
-use Rattle.herm_model.specs.Texts.{opening, closing, text_of, parts_text}
+use Rattle.herm_model.specs.ValueTexts.{opening, closing, text_of, parts_text}
 use Rattle.herm_model.proofs.Options.{is_some-map}
 
 pub map-append : {X Y : Type 0} (f : X → Y) (xs ys : List X) → map f (xs ++ ys) ≡ map f xs ++ map f ys

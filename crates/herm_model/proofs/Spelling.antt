@@ -3,7 +3,8 @@ use Rattle.std.proofs.Common.{◌≡◌, ◌≢◌, ◌<◌, pos, negsuc, ℕ, L
 use Rattle.herm_model.specs.Types.{Shape, boolean, integer, text, polymorph, names, fields, cases, rows, inport, outport, callmessage, TypeTable}
 use Rattle.herm_model.specs.Values.{Scalar, a_boolean, an_integer, a_text, a_tag, Kind, a_scalar, a_record, a_variant, a_table, a_polymorph, a_callmessage, an_inport, an_outport, cell, Parts, no_parts, gap, part, Value}
 use Rattle.herm_model.specs.Typed.{Degree, whole, a_value, nothing, Layout, exactly, many, unfit, leaf_if, one_whole, is_integer, is_text, IsOf, Fits}
-use Rattle.herm_model.specs.Texts.{numeral, escaped, scalar_text, opening, closing, text_of, parts_text, is_digit, begins_with_digit}
+use Rattle.herm_model.specs.ValueTexts.{numeral, scalar_text, opening, closing, text_of, parts_text, is_digit, begins_with_digit}
+use Rattle.herm_model.specs.Escapes.{escaped}
 use Rattle.std.specs.Bool.{⊤}
 use Rattle.std.proofs.lemmas.Bool.{eq-eqb}
 use Rattle.herm_model.proofs.Lists.{not_true, and-both, cons-head, cons-tail}

@@ -4,7 +4,7 @@ use Rattle.herm_model.specs.Lists.{IsIn, map_or, list_of}
 use Rattle.herm_model.specs.Paths.{Path, Fact, init, case}
 use Rattle.herm_model.specs.Types.{Shape, fields, inport, TypeTable, part_type, part_of, type_below, type_at, is_cases, is_variant, enters_component, passes_component, full_parts, part_paths, greatest_depth}
 use Rattle.herm_model.specs.Facts.{with_prefixes, full_facts, said_at, message_facts, component_count, IsFactOf}
-use Rattle.herm_model.specs.StatementTable.{present, full, room_for, closed}
+use Rattle.herm_model.specs.FactsOfStatements.{present, full, room_for, closed}
 use Rattle.herm_model.specs.WellFormedTables.{field_type, field_below, IsFieldPath, IsOfField, IsOfFullField, DeclaresFields}
 use Rattle.herm_model.proofs.Lists.{not_true, in-append_cases, in-map_from, in-flat_map_from}
 use Rattle.herm_model.proofs.Options.{none-not_some}

@@ -8,7 +8,7 @@ use Rattle.herm_model.specs.Expressions.{Expression, literal, copy, negation, lo
 use Rattle.herm_model.specs.Statements.{Form, Assign, Move, New, Discard, Unite, Dissolve, Reveal, Case, Wrap, Unwrap, Insert, Remove, Get, For, Connect, Send, Receive, Select, Call, Return, ReturnBy, Create, If, While, Raise, Leave, Arm, Process}
 use Rattle.herm_model.specs.Outcomes.{Outcome, ok, turn, component, arm, raised, outcomes}
 use Rattle.herm_model.specs.Calls.{shape_at, parameters_of, raises_of, call_raises, kept_for, is_given, is_returned, returned_places, arguments_by, argument_path}
-use Rattle.herm_model.specs.StatementTable.{at_ok, at_turn, at_component, at_arm, at_exception, at_ok_or_exception, present, full, full_of_each, room_for, received_from, sent_to, returned, returned_by, given, set_by_call, kept_by_call, received_at, set_at, row}
+use Rattle.herm_model.specs.FactsOfStatements.{at_ok, at_turn, at_component, at_arm, at_exception, at_ok_or_exception, present, full, full_of_each, room_for, received_from, sent_to, returned, returned_by, given, set_by_call, kept_by_call, received_at, set_at, row}
 use Rattle.herm_model.specs.TypedExpressions.{HasShape, IsTyped}
 use Rattle.herm_model.specs.WellFormedTables.{IsWellFormedTable}
 use Rattle.herm_model.specs.TypedStatements.{IsComponent, IsLookedAt, IsTarget, AreKeysOf, IsFound, GoesTo, IsReceived, IsReturned, IsTypedForm}

@@ -3,7 +3,7 @@ use Rattle.std.proofs.Common.{◌≡◌, ◌≢◌, ℕ, List, [], ◌∷◌, �
 use Rattle.std.specs.Bool.{⊤}
 use Rattle.herm_model.specs.Lists.{all_pass}
 use Rattle.herm_model.specs.Values.{Scalar, a_boolean, an_integer, a_text, a_tag, Kind, a_scalar, a_record, a_variant, a_table, a_polymorph, a_callmessage, an_inport, an_outport, cell, Parts, no_parts, gap, part, Value}
-use Rattle.herm_model.specs.Texts.{numeral, opening, closing, text_of, parts_text, is_digit}
+use Rattle.herm_model.specs.ValueTexts.{numeral, opening, closing, text_of, parts_text, is_digit}
 use Rattle.herm_model.specs.WellMade.{is_without_places, is_one_part, suits_kind, is_well_made, are_well_made, may_go_on}
 use Rattle.herm_model.proofs.Lists.{not_true, and-both, cons-head, cons-tail, cons-not_nil}
 use Rattle.herm_model.proofs.Numerals.{AreDigits, numeral-digits, numeral-starts}

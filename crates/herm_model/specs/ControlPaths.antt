@@ -7,7 +7,7 @@ use Rattle.herm_model.specs.Statements.{Form, Process}
 use Rattle.herm_model.specs.Outcomes.{Outcome, same_outcome}
 use Rattle.herm_model.specs.Nodes.{Node, Exit, exits, process_nodes, entry_of}
 use Rattle.herm_model.specs.Targets.{Target, node, end, end_by}
-use Rattle.herm_model.specs.StatementTable.{needs, makes, kills}
+use Rattle.herm_model.specs.FactsOfStatements.{needs, makes, kills}
 
 -- an outcome of a statement: the facts that it makes, the paths that it takes away, and where it leads
 pub record Edge : Type 0 where

@@ -6,9 +6,9 @@ use Rattle.herm_model.specs.Types.{TypeTable}
 use Rattle.herm_model.specs.Statements.{Form, simple, Block, no_statements, statement, Process}
 use Rattle.herm_model.specs.Outcomes.{ok, normal_outcomes}
 use Rattle.herm_model.specs.Targets.{end}
-use Rattle.herm_model.specs.StatementTable.{needs}
+use Rattle.herm_model.specs.FactsOfStatements.{needs}
 use Rattle.herm_model.specs.ControlPaths.{edge, Hop, held_after_edge, held_at_start}
-use Rattle.herm_model.specs.Refusals.{Refusal, IsMissing}
+use Rattle.herm_model.specs.MissingFacts.{Refusal, IsMissing}
 
 -- the forms one after another
 abbrev pub line : List Form → Block

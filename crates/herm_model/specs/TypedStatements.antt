@@ -6,7 +6,7 @@ use Rattle.herm_model.specs.Types.{Mode, by_in, by_inout, by_out, Parameter, Rai
 use Rattle.herm_model.specs.Copyable.{IsCopyable}
 use Rattle.herm_model.specs.Expressions.{Atom, literal, path}
 use Rattle.herm_model.specs.Statements.{Form, Assign, Move, New, Discard, Unite, Dissolve, Reveal, Case, Wrap, Unwrap, Insert, Remove, Get, For, Connect, Send, Receive, Select, Call, Return, ReturnBy, Create, If, While, Raise, Leave, Arm, Process, Differ}
-use Rattle.herm_model.specs.StatementTable.{set_by_call}
+use Rattle.herm_model.specs.FactsOfStatements.{set_by_call}
 use Rattle.herm_model.specs.TypedExpressions.{HasShape, IsLiteralOf, IsPathOf, IsTyped}
 
 -- what `new` makes: a record, a table or an inport

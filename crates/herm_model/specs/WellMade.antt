@@ -1,7 +1,7 @@
 -- Values that are well made, whatever their type.
 use Rattle.std.specs.Prelude.{ℕ, List, [], ◌∷◌, Bool, true, false, ◌&&◌, ◌||◌, nat_eq}
 use Rattle.herm_model.specs.Values.{Kind, a_scalar, a_record, a_variant, a_table, a_polymorph, a_callmessage, an_inport, an_outport, Cell, cell, Parts, no_parts, gap, part}
-use Rattle.herm_model.specs.Texts.{is_digit}
+use Rattle.herm_model.specs.ValueTexts.{is_digit}
 
 -- there is no place
 abbrev pub is_without_places : {N : Type 0} → Parts N → Bool

@@ -4,7 +4,7 @@ ghost use Rattle.std.specs.Prelude.{[], ◌∷◌};
 ghost use Rattle.herm_model.specs.Types.{predefined};
 ghost use Rattle.herm_model.specs.Statements.{handler, no_handlers};
 ghost use Rattle.herm_model.specs.Outcomes.{disconnected};
-ghost use Rattle.herm_model.specs.Refusals.{IsMissing, IsAccepted};
+ghost use Rattle.herm_model.specs.MissingFacts.{IsMissing, IsAccepted};
 ghost use Rattle.herm_model.specs.examples.ControlExamples.{ArmsInLoop, EmptyBody, EmptyBranch, EmptyLoop, EmptyTriesInLoop, EmptyTry, LeaveInTry, LeaveInner, LoopInHandler, NearestHandler, OutOfReach, OuterHandler, SecondHandler};
 ghost use Rattle.herm_model.specs.examples.RefusedProcesses.{busy, calls, denies, discard_w, discards_its_call, inserted_twice, keeps_nothing, keeps_w, missing_after_call, missing_after_insert, missing_after_one_branch, missing_at_return, missing_in_a_loop, on_busy, send_q, send_w, sent_twice, set_in_one_branch, used_after_insert, with_ask, with_rows};
 ghost use Rattle.herm_model.specs.examples.RefusedVariants.{dissolve_a, missing_after_move, moves_variant, reveal_a, with_variant};

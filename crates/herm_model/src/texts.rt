@@ -2,7 +2,7 @@
 
 ghost use Rattle.std.specs.Prelude.{◌≡◌, [], ◌∷◌, map, true, false, pos, negsuc, codes};
 ghost use Rattle.herm_model.specs.Values.{a_boolean, an_integer, a_text, a_tag, a_table, a_polymorph, a_callmessage, an_inport, an_outport, cell};
-ghost use Rattle.herm_model.specs.Texts.{scalar_text, text_of};
+ghost use Rattle.herm_model.specs.ValueTexts.{scalar_text, text_of};
 ghost use Rattle.herm_model.specs.examples.ExampleTypes.{bare, two, pair, a_whole, a_call, with_part, without_first};
 ghost use Rattle.herm_model.specs.laws.TextLaws.{TellsValues, WritesDecimals, WritesIntegers};
 

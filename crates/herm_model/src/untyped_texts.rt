@@ -3,7 +3,7 @@
 ghost use Rattle.std.specs.Prelude.{◌≡◌, [], ◌∷◌, ◌++◌, map, true, false, pos, negsuc, codes};
 ghost use Rattle.std.specs.Bool.{⊤};
 ghost use Rattle.herm_model.specs.Values.{Name, Parts, a_scalar, a_boolean, an_integer, a_text, a_record, a_variant, a_table, a_polymorph, a_callmessage, an_inport, an_outport, cell, gap, no_parts, part};
-ghost use Rattle.herm_model.specs.Texts.{text_of};
+ghost use Rattle.herm_model.specs.ValueTexts.{text_of};
 ghost use Rattle.herm_model.specs.WellMade.{is_well_made, may_go_on};
 ghost use Rattle.herm_model.specs.examples.ExampleTypes.{bare, one, two, pair, leaf, a_whole, a_call, answered, colour, with_part, without_first};
 ghost use Rattle.herm_model.specs.laws.UntypedTexts.{TellsWellMade, TellsWellMadeLists, TypedAreWellMade, ForgetsWellMade};

@@ -20,7 +20,7 @@ use Rattle.herm_syntax.specs.Trees.{Letters, Path, Atom, Constant, Place, PortAr
 use Rattle.herm_meaning.specs.Names.{NamedTable, IsWellNamed, part_count}
 use Rattle.herm_naming.specs.Numbers.{place_of, Scope, part_names, part_number, part_numbers, path_number, atom_number}
 use Rattle.herm_naming.specs.Meaning.{arm_forms}
-use Rattle.herm_naming.specs.Known.{are_parts_there, is_there}
+use Rattle.herm_naming.specs.UnknownNames.{are_parts_there, is_there}
 use Rattle.herm_naming.specs.StatementFaults.{part_ways, set_arguments, all_part_ways, same_path, ports_of}
 use Rattle.herm_naming.proofs.Settled.{has-some, not-false, type-shape, part-leads, when-type}
 

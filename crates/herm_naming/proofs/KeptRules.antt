@@ -19,7 +19,7 @@ use Rattle.herm_syntax.specs.Trees.{Letters, Path, Atom, Constant, Place, Move, 
 use Rattle.herm_meaning.specs.Names.{IsWellNamed}
 use Rattle.herm_naming.specs.Numbers.{Scope, exception_number, type_number, part_names, part_number, path_number, type_seen, without_last, component_number, atom_number, expression_number}
 use Rattle.herm_naming.specs.Meaning.{process_number, arm_names, arm_forms, statement_number, block_number, arm_blocks, port_arm_blocks, otherwise_number, handlers_number}
-use Rattle.herm_naming.specs.Known.{paths_named, is_there, is_form_there, is_statement_there}
+use Rattle.herm_naming.specs.UnknownNames.{paths_named, is_there, is_form_there, is_statement_there}
 use Rattle.herm_naming.specs.Fits.{fits_form, fits_statement}
 use Rattle.herm_naming.specs.Copies.{copies_form, copies_statement}
 use Rattle.herm_naming.specs.StatementFaults.{part_ways, set_arguments, paths_part, ports_of, repeats, first_code, statement_code, within, in_body, in_arms, in_port_arms, in_otherwise}

@@ -14,7 +14,7 @@ use Rattle.herm_model.proofs.FactTests.{got-IsIn}
 use Rattle.herm_model.proofs.Deciding.{numbers-decide, below-decides}
 use Rattle.herm_model.proofs.DecidedTables.{copyable-decides, below-type}
 use Rattle.herm_model.proofs.DecidedForms.{IsRegular, well_formed-regular}
-use Rattle.herm_naming.specs.Known.{may_have_value, is_known, is_literal_there, are_parts_there, is_there, literals_in}
+use Rattle.herm_naming.specs.UnknownNames.{may_have_value, is_known, is_literal_there, are_parts_there, is_there, literals_in}
 use Rattle.herm_naming.specs.Fits.{is_names_shape, is_rows_shape, may_be, when_known, may_equal, fits_literal, literal_gives, type_of, is_seen, gives, is_fit}
 use Rattle.herm_naming.specs.Copies.{copied, may_copy}
 

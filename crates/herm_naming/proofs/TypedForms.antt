@@ -7,7 +7,7 @@ use Rattle.herm_model.specs.Types.{Mode, by_in, by_inout, by_out, Parameter, Rai
 use Rattle.herm_model.specs.Expressions.{Literal, Expression, Atom, path, paths_among}
 use Rattle.herm_model.specs.Calls.{led_to, message_type, parameters_of, call_parameters, arguments_by}
 use Rattle.herm_model.specs.Statements.{Form, Assign, Move, New, Discard, Unite, Dissolve, Reveal, Case, Wrap, Unwrap, Insert, Remove, Get, For, Connect, Send, Receive, Select, Call, Return, ReturnBy, Create, If, While, Raise, Leave, Arm, Process, Differ}
-use Rattle.herm_model.specs.StatementTable.{set_by_call}
+use Rattle.herm_model.specs.FactsOfStatements.{set_by_call}
 use Rattle.herm_model.specs.TypedExpressions.{HasShape, IsTyped}
 use Rattle.herm_model.specs.WellFormedTables.{IsType, IsWellFormedTable}
 use Rattle.herm_model.specs.TypedStatements.{can_be_new, AreApart, port_type, IsLookedAt, IsTarget, IsTypedAtom, IsArgument, AreArguments, AreKeysOf, IsReceived, IsTypedForm}
@@ -16,7 +16,7 @@ use Rattle.herm_model.proofs.Options.{none-not_some}
 use Rattle.herm_model.proofs.FactTests.{got-IsIn}
 use Rattle.herm_model.proofs.Deciding.{numbers-decide, below-decides, range-decides}
 use Rattle.herm_model.proofs.DecidedTables.{below-type, type-below}
-use Rattle.herm_naming.specs.Known.{paths_named, literals_among, literals_named, is_literal_there, is_there, is_other_there, is_form_there}
+use Rattle.herm_naming.specs.UnknownNames.{paths_named, literals_among, literals_named, is_literal_there, is_there, is_other_there, is_form_there}
 use Rattle.herm_naming.specs.Fits.{is_polymorph_shape, is_callmessage_shape, has_every_arm, may_raise, field_types, is_in_mode, may_be, may_equal, may_hold, may_have_rows, may_lead, may_give, may_take, literal_gives, is_seen, is_own, gives, is_fit, atom_gives, is_fit_atom, are_keys, may_have_keys, is_set_atom, is_argument, are_arguments, has_parameters, gives_parameters, takes_parameters, fits_arm, fits_row, fits_keys, fits_test, fits_form}
 use Rattle.herm_naming.specs.Copies.{copied, may_copy, may_copy_rows, may_copy_each, copies_form}
 use Rattle.herm_naming.proofs.Settled.{has-some, not-false, shape-type, named-type, may-shape, equal-types, copy-type, boolean-type, has-boolean, path-type, seen-path, literal-type, Passes, expression-type}

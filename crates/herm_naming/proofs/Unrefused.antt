@@ -26,10 +26,11 @@ use Rattle.herm_syntax.specs.Trees.{Letters, Field, Statement, Module}
 use Rattle.herm_meaning.specs.Names.{NamedTable, IsWellNamed}
 use Rattle.herm_naming.specs.Numbers.{place_of, Scope, type_number}
 use Rattle.herm_naming.specs.Meaning.{ProcessText, processes_in, declarations, scope_of, process_meaning, meaning, main_name, main_number, statement_number, block_number}
-use Rattle.herm_naming.specs.Known.{is_type}
+use Rattle.herm_naming.specs.UnknownNames.{is_type}
 use Rattle.herm_naming.specs.Fits.{may_be}
 use Rattle.herm_naming.specs.StatementFaults.{Code, twice, unreachable, no_main, too_many, first_code, statement_code, in_body, statement_codes, is_among, is_inport_shape, declaration_code, variable_codes, is_too_large, name_code, process_codes}
-use Rattle.herm_naming.specs.Refusals.{MarksUnreached, at_places, Places, all_places, are_none, RefusesBy, RefusesProcess, RefusesProcesses, is_main, main_refusals, AreRefusals, IsPlaced, ArePlaced}
+use Rattle.herm_naming.specs.UnreachedStatements.{MarksUnreached}
+use Rattle.herm_naming.specs.RefusalsOfNames.{at_places, Places, all_places, are_none, RefusesBy, RefusesProcess, RefusesProcesses, is_main, main_refusals, AreRefusals, IsPlaced, ArePlaced}
 use Rattle.herm_naming.proofs.Settled.{has-some}
 use Rattle.herm_naming.proofs.Bodies.{placed_number, body-placed, body-count}
 use Rattle.herm_naming.proofs.KeptRules.{IsSettled, IsFaultless, faultless, OfForm, statement-right, keeps-arms, keeps-handlers, keeps-known, keeps-leaves, keeps-different, well-body}

@@ -12,7 +12,7 @@ use Rattle.herm_syntax.specs.Trees.{Letters, Path, Atom, Constant, Place, Move, 
 use Rattle.herm_meaning.specs.Names.{NamedTable}
 use Rattle.herm_naming.specs.Numbers.{Scope, path_number, type_number, without_last}
 use Rattle.herm_naming.specs.Meaning.{arm_names, statement_number, ProcessText, scope_of, process_meaning}
-use Rattle.herm_naming.specs.Known.{is_type, is_statement_there}
+use Rattle.herm_naming.specs.UnknownNames.{is_type, is_statement_there}
 use Rattle.herm_naming.specs.Fits.{may_be, fits_statement}
 use Rattle.herm_naming.specs.Copies.{copies_statement}
 

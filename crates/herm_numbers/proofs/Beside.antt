@@ -25,7 +25,7 @@ use Rattle.herm_typed.specs.declared.statements.TypedStmt.{TypedStmt}
 use Rattle.herm_typed.specs.declared.statements.TypedForm.{TypedForm, Select}
 use Rattle.herm_typed.specs.declared.statements.TypedForm.TheBlock as forms
 use Rattle.herm_typed.specs.View.{signed_view, typed_path_view, typed_atom_view, typed_arms_view, typed_form_view, typed_expr_view, typed_conj_view, typed_comp_view, typed_sum_view, typed_prod_view, typed_unary_view, typed_sum_op_view, typed_prod_op_view}
-use Rattle.herm_typed.specs.Raising.{chained}
+use Rattle.herm_typed.specs.RaisedByExpressions.{chained}
 use Rattle.herm_typed.proofs.Chains.{product_chain, sum_chain, conjunction_chain, expression_chain}
 use Rattle.herm_typed.specs.Beside.{expr_types, conjs_types, conj_types, comps_types, comp_types, sum_types, prods_types, prod_types, unaries_types, unary_types, atom_types, arm_types, port_arm_types, types_beside}
 use Rattle.herm_numbers.specs.Beside.{port_arm_seen, seen_at, types_read, types_among, types_seen}

@@ -12,9 +12,9 @@ use Rattle.herm_syntax.specs.Trees.{Letters}
 use Rattle.herm_alphabet.specs.KeywordLetters.{keyword_of}
 use Rattle.herm_naming.specs.Numbers.{place_of, type_number}
 use Rattle.herm_naming.specs.Fits.{may_be}
-use Rattle.herm_naming.specs.Known.{is_type}
+use Rattle.herm_naming.specs.UnknownNames.{is_type}
 use Rattle.herm_naming.specs.StatementFaults.{Code, is_among, first_code, is_inport_shape, declaration_code, variable_codes}
-use Rattle.herm_naming.specs.Refusals.{at_places}
+use Rattle.herm_naming.specs.RefusalsOfNames.{at_places}
 
 among-iff : (name : Letters) (ns : List Letters) (i : ℕ) → i ≤ length ns → (is_among name (take i ns) ≡ true) ↔ (place_of name ns < i)
 among-iff name [] zero w = ((λ e. absurd (true≢false (sym e))), (λ h. absurd (omega (arith, h))))

@@ -22,7 +22,7 @@ use Rattle.herm_typed.specs.declared.expressions.TypedComp.{TypedComp}
 use Rattle.herm_typed.specs.declared.expressions.TypedConj.{TypedConj, roll-TypedConj, out-roll-TypedConj}
 use Rattle.herm_typed.specs.declared.expressions.TypedExpr.{roll-TypedExpr, out-roll-TypedExpr}
 use Rattle.herm_typed.specs.View.{typed_comp_op_view, typed_sum_op_view, typed_prod_op_view, typed_expr_view, typed_conj_view, typed_comp_view, typed_sum_view, typed_prod_view, typed_unary_view}
-use Rattle.herm_typed.specs.Raising.{chained}
+use Rattle.herm_typed.specs.RaisedByExpressions.{chained}
 use Rattle.herm_typed.proofs.Chains.{product_chain, sum_chain, conjunction_chain, expression_chain}
 use Rattle.herm_numbers.specs.View.{unary_number, behind_product, behind_sum, behind_and, behind_or, product_number, sum_number, and_number, or_number}
 

@@ -4,9 +4,9 @@ ghost use Rattle.herm_alphabet.specs.KeywordLetters.{keyword_of};
 ghost use Rattle.herm_syntax.specs.View.{name_view, field_view};
 ghost use Rattle.herm_naming.specs.Numbers.{type_number};
 ghost use Rattle.herm_naming.specs.Fits.{may_be};
-ghost use Rattle.herm_naming.specs.Known.{is_type};
+ghost use Rattle.herm_naming.specs.UnknownNames.{is_type};
 ghost use Rattle.herm_naming.specs.StatementFaults.{is_among, first_code, is_inport_shape, declaration_code, variable_codes};
-ghost use Rattle.herm_naming.specs.Refusals.{at_places};
+ghost use Rattle.herm_naming.specs.RefusalsOfNames.{at_places};
 ghost use Rattle.herm_numbers.specs.View.{IsSized};
 ghost use Rattle.herm_numbers.specs.Faults.{found_code_view, name_fault_view, codes_found, spans_found};
 

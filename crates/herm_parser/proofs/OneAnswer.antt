@@ -1,14 +1,14 @@
 -- The answers for one list of tokens exclude one another, and each has one place.
 use Rattle.std.proofs.Common.{◌≡◌, ℕ, ◌<◌, ◌≤◌, List, [], ◌∷◌, ◌++◌, map, length, refl, sym, ap, ◌∙◌, arith, append_assoc, length-append, ⊎_elim}
 use Rattle.std.proofs.lemmas.Bool.{cases_lt}
-use Rattle.herm_readers.specs.Brackets.{IsTooDeep, IsWithin}
+use Rattle.herm_readers.specs.BracketBalance.{IsTooDeep, IsWithin}
 use Rattle.herm_readers.proofs.Nesting.{finds_within}
 use Rattle.herm_alphabet.specs.declared.token.Token.{Token}
 use Rattle.herm_syntax.specs.Symbols.{Symbol, side}
 use Rattle.herm_syntax.specs.View.{module_view}
 use Rattle.herm_syntax.proofs.Numbers.{one_program}
 use Rattle.herm_parser.specs.Gives.{kinds}
-use Rattle.herm_parser.specs.OpenBrackets.{most_brackets, IsNested}
+use Rattle.herm_parser.specs.BracketDepth.{most_brackets, IsNested}
 use Rattle.herm_parser.specs.TokenPlaces.{place_of}
 use Rattle.herm_parser.specs.SyntaxFaults.{IsMisspelled}
 use Rattle.herm_parser.specs.Laws.{HasOneParse, ParsedHasNoFault, HasOneFault}

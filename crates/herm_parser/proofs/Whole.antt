@@ -3,7 +3,7 @@ use Rattle.std.proofs.Common.{◌≡◌, ℕ, suc, List, [], ◌∷◌, Some, No
 use mathlib.Core.Path.{fun_ext}
 use Rattle.herm_readers.specs.Reader.{Answer, Read, Fault, Reader, ahead}
 use Rattle.herm_readers.specs.Combinators.{onward, passes, mapped, chosen, choice, preceded, many, sequence}
-use Rattle.herm_readers.specs.Brackets.{too_deep}
+use Rattle.herm_readers.specs.BracketBalance.{too_deep}
 use Rattle.herm_readers.proofs.Nesting.{finds_too_deep}
 use Rattle.herm_alphabet.specs.declared.token.Token.{Token}
 use Rattle.herm_syntax.specs.declared.modules.Module.{Module as ModuleForm}
@@ -23,7 +23,7 @@ use Rattle.herm_parser.specs.AlongDefinitions.{past_module}
 use Rattle.herm_parser.specs.Blocks.{body_at}
 use Rattle.herm_parser.specs.Modules.{either_module, definitions_at, process_at, module_at}
 use Rattle.herm_parser.specs.Gives.{kinds}
-use Rattle.herm_parser.specs.OpenBrackets.{most_brackets, IsNested}
+use Rattle.herm_parser.specs.BracketDepth.{most_brackets, IsNested}
 use Rattle.herm_parser.specs.Parsing.{IsParsed}
 use Rattle.herm_parser.specs.TokenPlaces.{place_of}
 use Rattle.herm_parser.specs.SyntaxFaults.{IsMisspelled}

@@ -9,7 +9,7 @@ pub mod AlongDefinitions
 pub mod Shapes
 pub mod Modules
 pub mod Parsing
-pub mod OpenBrackets
+pub mod BracketDepth
 pub mod Laws
 pub mod SyntaxFaults
 pub mod TokenPlaces

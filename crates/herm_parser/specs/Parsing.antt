@@ -8,7 +8,7 @@ use Rattle.herm_syntax.specs.laws.GrammarLaws.{IsWithinRoom, IsProgram}
 use Rattle.herm_parser.specs.Along.{past_each}
 use Rattle.herm_parser.specs.AlongDefinitions.{past_module}
 use Rattle.herm_parser.specs.Gives.{kinds}
-use Rattle.herm_parser.specs.OpenBrackets.{most_brackets}
+use Rattle.herm_parser.specs.BracketDepth.{most_brackets}
 
 -- The modules are a program with these tokens: they spell the tokens' kinds, no bracket is open too many, each name stands at
 -- its token's place, and each statement has the next number of its process, begins at its first token and ends at its last.

@@ -11,7 +11,7 @@ use Rattle.herm_syntax.specs.laws.GrammarLaws.{IsWithinRoom, BeginsFile, BeginsS
 use Rattle.herm_parser.specs.Gives.{kinds}
 use Rattle.herm_parser.specs.declared.fault.ParseFault.{ParseFault}
 use Rattle.herm_parser.specs.declared.fault.ParseFault.TheVariants as faults
-use Rattle.herm_parser.specs.OpenBrackets.{most_brackets, IsNested}
+use Rattle.herm_parser.specs.BracketDepth.{most_brackets, IsNested}
 use Rattle.herm_parser.specs.TokenPlaces.{place_of}
 
 -- No modules have these tokens. The tokens before the fault begin a list of modules, one that a source file can have where the

@@ -1,9 +1,9 @@
 //! The bound on the brackets that are open at once.
 ghost use Rattle.std.specs.Prelude.{◌≡◌, ◌≤◌, ◌<◌, ◌^◌, ℕ, Option, Some, suc, IfSome, IfNone};
-ghost use Rattle.herm_readers.specs.Brackets.{too_deep, too_deep_step};
+ghost use Rattle.herm_readers.specs.BracketBalance.{too_deep, too_deep_step};
 ghost use Rattle.herm_syntax.specs.Symbols.{side};
 ghost use Rattle.herm_parser.specs.Gives.{kinds};
-ghost use Rattle.herm_parser.specs.OpenBrackets.{most_brackets};
+ghost use Rattle.herm_parser.specs.BracketDepth.{most_brackets};
 
 use herm_alphabet::{Mark, Token, TokenKind};
 

@@ -2,7 +2,7 @@
 ghost use Rattle.std.specs.Prelude.{◌≡◌, drop, IfOk, IfErr};
 ghost use Rattle.herm_syntax.specs.laws.GrammarLaws.{IsWithinRoom};
 ghost use Rattle.herm_parser.specs.Gives.{kinds};
-ghost use Rattle.herm_parser.specs.OpenBrackets.{most_brackets};
+ghost use Rattle.herm_parser.specs.BracketDepth.{most_brackets};
 ghost use Rattle.herm_parser.specs.Parsing.{IsParsed};
 ghost use Rattle.herm_parser.specs.SyntaxFaults.{IsFault};
 ghost use Rattle.herm_parser.specs.TokenPlaces.{place_of, end_first, start_of};

@@ -5,7 +5,8 @@ use Rattle.herm_model.proofs.Renaming.{map-append}
 use Rattle.herm_base.specs.declared.numbers.PortNo.{PortNo}
 use Rattle.herm_base.specs.declared.numbers.ProcNo.{ProcNo}
 use Rattle.herm_journal.specs.Actions.{put, take, close}
-use Rattle.herm_journal.specs.PlaceStates.{a_port, IsEnabled, after, first_of, behind_first}
+use Rattle.herm_journal.specs.PlaceStates.{a_port, IsEnabled, after}
+use Rattle.herm_journal.specs.Ports.{first_of, behind_first}
 use Rattle.herm_journal.specs.Entries.{Text, port, Record}
 use Rattle.herm_values.specs.declared.value.Value.{Value}
 use Rattle.herm_letters.specs.declared.parcel.Parcel.{Parcel}

@@ -2,7 +2,8 @@
 use Rattle.std.proofs.Common.{◌≡◌, ℕ, ◌-◌, ◌≤◌, [], ◌∷◌, ◌++◌, sym, ap, ◌∙◌, arith}
 use Rattle.herm_base.specs.declared.numbers.ProcNo.{ProcNo}
 use Rattle.herm_journal.specs.Actions.{answer, hear}
-use Rattle.herm_journal.specs.PlaceStates.{Replies, replies, first_of, behind_first}
+use Rattle.herm_journal.specs.PlaceStates.{Replies, replies}
+use Rattle.herm_journal.specs.Ports.{first_of, behind_first}
 use Rattle.herm_journal.specs.Entries.{reply_cell, Record}
 use Rattle.herm_letters.specs.declared.reply.Reply.{Reply}
 use Rattle.herm_queue.specs.CellStates.{CellAction, reply_text, IsActed}

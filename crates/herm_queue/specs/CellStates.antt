@@ -1,7 +1,7 @@
 -- What a cell is: a place with what it holds, its clock and its history; and what one action does to it.
 -- Language reference, "Actions", "Stamps" and "Histories".
 use Rattle.std.specs.Prelude.{ℕ, suc, max, List, [], ◌∷◌, ◌++◌, ◌-◌, ◌≡◌}
-use Rattle.herm_model.specs.Texts.{text_of}
+use Rattle.herm_model.specs.ValueTexts.{text_of}
 use Rattle.herm_journal.specs.Actions as actions
 use Rattle.herm_journal.specs.Actions.{Action}
 use Rattle.herm_journal.specs.PlaceStates.{PlaceState, IsEnabled, after}

@@ -1,6 +1,7 @@
 -- What contracts see of a port cell.
 use Rattle.std.specs.Prelude.{ℕ, List, [], false, Option, Some, None, ◌≡◌, ⊤}
-use Rattle.herm_journal.specs.PlaceStates.{Port, empty_port, port_with, a_port}
+use Rattle.herm_journal.specs.Ports.{Port, empty_port, port_with}
+use Rattle.herm_journal.specs.PlaceStates.{a_port}
 use Rattle.herm_journal.specs.Entries.{Text, port, Entry}
 use Rattle.herm_values.specs.declared.value.Value.{Value}
 use Rattle.herm_values.specs.Whole.{IsWhole}

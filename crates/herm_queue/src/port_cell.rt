@@ -1,7 +1,7 @@
 //! Ports: their messages, with clock and history.
 ghost use Rattle.std.specs.Prelude.{◌≡◌, ◌++◌, ◌∷◌, [], ◌<◌, ◌≤◌, ◌^◌, ◌↔◌, false, true, cond, IfOk, IfSome, IfNone, OnOk, Some, None, option_map, length};
 ghost use Rattle.herm_journal.specs.Actions.{put, take, close};
-ghost use Rattle.herm_journal.specs.PlaceStates.{empty_port, port_with};
+ghost use Rattle.herm_journal.specs.Ports.{empty_port, port_with};
 ghost use Rattle.herm_events.specs.View.{place_view};
 ghost use Rattle.herm_values.specs.Whole.{IsWhole};
 ghost use Rattle.herm_letters.specs.Letters.{IsParcel};

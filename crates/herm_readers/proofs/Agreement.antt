@@ -4,7 +4,7 @@ use Rattle.std.proofs.Common.{◌≡◌, ℕ, zero, suc, Bool, true, false, ◌�
 use Rattle.herm_readers.specs.Reader.{Answer, Read, Fault, Reader, ahead}
 use Rattle.herm_readers.proofs.Marks.{led}
 use Rattle.herm_readers.specs.Combinators.{onward, passes, one, picked, mapped, and_then, sequence, preceded, terminated, chosen, choice, many_step, many_at, many, separated}
-use Rattle.herm_readers.specs.Brackets.{Side, Opening, Closing, Neither, too_deep_step, too_deep}
+use Rattle.herm_readers.specs.BracketBalance.{Side, Opening, Closing, Neither, too_deep_step, too_deep}
 
 -- With so much room before, the two answer alike, and what is read leaves so much room after.
 pub record Agrees {S A : Type 0} (side : S → Side) (before after : ℕ) (f g : Reader S A) : Type 0 where

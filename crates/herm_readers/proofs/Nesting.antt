@@ -1,6 +1,6 @@
 -- The bound on open brackets.
 use Rattle.std.proofs.Common.{◌≡◌, ℕ, zero, suc, ◌+◌, ◌≤◌, List, [], ◌∷◌, ◌++◌, length, Option, Some, None, refl, sym, ap, subst, arith, ◌⊎◌, inl, inr, ⊎_elim}
-use Rattle.herm_readers.specs.Brackets.{Side, Opening, Closing, Neither, opened, closed, openings, closings, too_deep_step, too_deep, IsWithin, IsTooDeep, FindsTooDeep, FindsWithin}
+use Rattle.herm_readers.specs.BracketBalance.{Side, Opening, Closing, Neither, opened, closed, openings, closings, too_deep_step, too_deep, IsWithin, IsTooDeep, FindsTooDeep, FindsWithin}
 
 within_step : (side : Side) (further : ℕ → Option ℕ) (left room m c : ℕ) → too_deep_step side further left room ≡ None → ((r : ℕ) → further r ≡ None → m ≤ r + c) → opened side + m ≤ room + (closed side + c)
 within_step Opening further left zero m c e h = absurd (cc)

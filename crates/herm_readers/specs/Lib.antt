@@ -1,5 +1,5 @@
 -- Readers of lists of symbols, built of combinators, and the laws that tie them to the rules of a grammar.
 pub mod Reader
 pub mod Combinators
-pub mod Brackets
+pub mod BracketBalance
 pub mod laws

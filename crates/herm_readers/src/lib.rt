@@ -3,7 +3,7 @@
 //! any work: each states a law, which the check proves.
 #![tactic(auto)]
 
-ghost use Rattle.herm_readers.specs.Brackets.{FindsTooDeep, FindsWithin};
+ghost use Rattle.herm_readers.specs.BracketBalance.{FindsTooDeep, FindsWithin};
 ghost use Rattle.herm_readers.specs.laws.ReaderLaws.{NothingIsRead, OneIsRead, ChangedIsRead, DependingIsRead, SequenceIsRead, LeadingIsRead, ClosingIsRead, ChoiceIsRead, ManyIsRead, ManyUnrolls, SeparatedIsRead, HasOneTree, HasFaultAt, HasNoTree};
 
 /// The reader that reads nothing reads the empty spelling.

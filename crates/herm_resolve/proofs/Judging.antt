@@ -18,7 +18,7 @@ use Rattle.herm_meaning.specs.Names.{NamedTable, part_count, IsWellNamed}
 use Rattle.herm_naming.specs.Numbers.{Scope, type_number}
 use Rattle.herm_naming.specs.Meaning.{block_number, ProcessText, processes_in, process_in, scope_of, process_meaning, meaning, main_name, main_number}
 use Rattle.herm_naming.specs.StatementFaults.{Code, no_main, name_code, declaration_code, variable_codes, statement_codes, process_codes}
-use Rattle.herm_naming.specs.Refusals.{Places, are_none, is_main, RefusesBy, RefusesProcess, RefusesProcesses, IsPlaced, ArePlaced}
+use Rattle.herm_naming.specs.RefusalsOfNames.{Places, are_none, is_main, RefusesBy, RefusesProcess, RefusesProcesses, IsPlaced, ArePlaced}
 use Rattle.herm_typed.specs.View.{typed_process_view}
 use Rattle.herm_typed.specs.declared.statements.TypedProcess.{TypedProcess}
 use Rattle.herm_numbers.specs.Faults.{Place, name_fault_view, body_spans}

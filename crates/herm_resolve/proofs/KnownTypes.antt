@@ -15,7 +15,7 @@ use Rattle.herm_syntax.specs.declared.statements.StmtForm.TheBlock as forms
 use Rattle.herm_meaning.specs.Names.{NamedTable, IsWellNamed}
 use Rattle.herm_naming.specs.Numbers.{Scope, type_seen}
 use Rattle.herm_naming.specs.Meaning.{statement_number}
-use Rattle.herm_naming.specs.Known.{paths_named, is_there, is_form_there, is_statement_there}
+use Rattle.herm_naming.specs.UnknownNames.{paths_named, is_there, is_form_there, is_statement_there}
 use Rattle.herm_naming.specs.StatementFaults.{within, in_body, in_arms, in_port_arms, in_otherwise}
 use Rattle.herm_naming.proofs.Settled.{path-type}
 use Rattle.herm_naming.proofs.KeptRules.{IsFaultless}

@@ -13,7 +13,7 @@ use Rattle.herm_typed.specs.declared.statements.TypedForm.{TypedForm, Case, Sele
 use Rattle.herm_typed.specs.View.{typed_form_view, typed_stmts_view}
 use Rattle.herm_typed.specs.Blocks.{case_blocks, select_blocks, else_block, handlers_list}
 use Rattle.herm_typed.proofs.SeenBlocks.{case_view, select_view, if_view, for_view, while_view, try_view}
-use Rattle.herm_resolve.specs.Reach.{Control, beside, behind, raise_one, raise_all, members, control, control_of_block, control_of_blocks, control_of_handlers, raises_here, two_blocks}
+use Rattle.herm_resolve.specs.ControlInOnePass.{Control, beside, behind, raise_one, raise_all, members, control, control_of_block, control_of_blocks, control_of_handlers, raises_here, two_blocks}
 
 pub refused_raises : (o : Option Shape) → raised_by_new o ≡ listed_if (is_some (option_and_then message_type o)) depletion
 refused_raises None = refl

@@ -10,7 +10,7 @@ use Rattle.herm_model.specs.Targets.{Target, node}
 use Rattle.herm_model.specs.Nodes.{Surroundings, Node, start, start_of_block, starts, catches_of, nodes, nodes_in, nodes_of_choices, nodes_of_catches, Exit, paired, exits}
 use Rattle.herm_model.proofs.Lists.{in-append_left, in-append_right, in-append_cases, in-map_from}
 use Rattle.herm_model.proofs.NodePlaces.{count, count_in}
-use Rattle.herm_resolve.specs.Reach.{Control, is_nil, raised_at, raise_all, control, control_of_block, control_of_blocks, control_of_handlers}
+use Rattle.herm_resolve.specs.ControlInOnePass.{Control, is_nil, raised_at, raise_all, control, control_of_block, control_of_blocks, control_of_handlers}
 use Rattle.herm_resolve.proofs.ReachParts.{Stand, stand-left, stand-right, stand-moved, EachAt, each-joined, each-moved, one-more, not-false, mark-is, or-first, or-second, all-in, unset-kept, test-apart, members-in, listed-raised, marks-count, block-count, on-here, out-here}
 
 -- an exit's target is one of those that are paired

@@ -11,7 +11,7 @@ use Rattle.herm_model.specs.Targets.{Target, node}
 use Rattle.herm_model.specs.Nodes.{Surroundings, Node, start, start_of_block, starts, catches_of, nodes, nodes_in, nodes_of_choices, nodes_of_catches, Exit, paired, exits}
 use Rattle.herm_model.proofs.Lists.{in-append_left, in-append_right, in-append_cases, in-map}
 use Rattle.herm_model.proofs.NodePlaces.{count, count_in, count_catches}
-use Rattle.herm_resolve.specs.Reach.{Control, is_nil, raised_at, raise_all, control, control_of_block, control_of_blocks, control_of_handlers}
+use Rattle.herm_resolve.specs.ControlInOnePass.{Control, is_nil, raised_at, raise_all, control, control_of_block, control_of_blocks, control_of_handlers}
 use Rattle.herm_resolve.proofs.ReachParts.{Stand, stand-left, stand-right, stand-moved, EachAt, each-joined, each-moved, one-more, not-false, mark-is, either, apart-test, in-all, unset-from, in-members, raised-listed, count_choices, marks-count, block-count, choices-count, catches-count}
 
 -- ---- as many targets as outcomes

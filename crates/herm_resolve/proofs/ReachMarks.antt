@@ -11,8 +11,8 @@ use Rattle.herm_model.specs.laws.FlowLaws as FlowLaws
 use Rattle.herm_model.proofs.Lists.{slice_get-map, in-map, in-map_from}
 use Rattle.herm_model.proofs.Reached.{reached-led, reached-IsLedTo}
 use Rattle.herm_model.proofs.DifferentOutcomes.{process-EdgesDiffer}
-use Rattle.herm_naming.specs.Refusals.{IsUnreached, MarksUnreached}
-use Rattle.herm_resolve.specs.Reach.{Control, control_of_block}
+use Rattle.herm_naming.specs.UnreachedStatements.{IsUnreached, MarksUnreached}
+use Rattle.herm_resolve.specs.ControlInOnePass.{Control, control_of_block}
 use Rattle.herm_resolve.proofs.ReachParts.{EachAt, stand-self, stand-more, mark-is, each-got, block-count}
 use Rattle.herm_resolve.proofs.ReachLed.{led_block, LedWhere, IsNamed, Goes}
 use Rattle.herm_resolve.proofs.ReachHeld.{held_block, HoldsOn}

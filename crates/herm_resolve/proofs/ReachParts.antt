@@ -9,7 +9,7 @@ use Rattle.herm_model.specs.Outcomes.{with_number, rising, exceptions, normal_ou
 use Rattle.herm_model.specs.Calls.{call_raises}
 use Rattle.herm_model.specs.Nodes.{Surroundings, nodes_of_choices}
 use Rattle.herm_model.proofs.NodePlaces.{count_in}
-use Rattle.herm_resolve.specs.Reach.{Control, is_nil, can_raise, passes, raise_one, raise_all, members, control, control_of_block, control_of_blocks, control_of_handlers}
+use Rattle.herm_resolve.specs.ControlInOnePass.{Control, is_nil, can_raise, passes, raise_one, raise_all, members, control, control_of_block, control_of_blocks, control_of_handlers}
 
 -- ---- lists in a whole
 

@@ -8,7 +8,8 @@ use Rattle.herm_model.proofs.Lists.{not_true, cons-not_nil}
 use Rattle.herm_syntax.specs.Trees.{Letters, Field}
 use Rattle.herm_meaning.specs.Names.{NamedTable}
 use Rattle.herm_naming.specs.StatementFaults.{Code, unreachable, variable_codes}
-use Rattle.herm_naming.specs.Refusals.{Places, MarksUnreached, at_places, all_places, are_none, RefusesBy}
+use Rattle.herm_naming.specs.RefusalsOfNames.{Places, at_places, all_places, are_none, RefusesBy}
+use Rattle.herm_naming.specs.UnreachedStatements.{MarksUnreached}
 use Rattle.herm_base.specs.declared.word.Name.{Name}
 use Rattle.herm_syntax.specs.declared.definitions.Field.{Field as Field'}
 use Rattle.herm_syntax.specs.View.{name_view, field_view}

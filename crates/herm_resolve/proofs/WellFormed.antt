@@ -18,10 +18,10 @@ use Rattle.herm_syntax.specs.declared.statements.Stmt.{Stmt}
 use Rattle.herm_meaning.specs.Names.{NamedTable, IsWellNamed}
 use Rattle.herm_naming.specs.Numbers.{Scope, type_number, part_names, part_number, path_number, type_seen}
 use Rattle.herm_naming.specs.Meaning.{arm_names, arm_forms, statement_number, block_number, arm_blocks, port_arm_blocks, otherwise_number, handlers_number}
-use Rattle.herm_naming.specs.Known.{is_type, paths_named, is_there, is_form_there}
+use Rattle.herm_naming.specs.UnknownNames.{is_type, paths_named, is_there, is_form_there}
 use Rattle.herm_naming.specs.Fits.{may_be}
 use Rattle.herm_naming.specs.StatementFaults.{Code, is_among, is_inport_shape, first_code, statement_code, declaration_code, variable_codes, statement_codes, name_code, within, in_body, in_arms, in_port_arms, in_otherwise}
-use Rattle.herm_naming.specs.Refusals.{are_none}
+use Rattle.herm_naming.specs.RefusalsOfNames.{are_none}
 use Rattle.herm_naming.proofs.Settled.{path-type}
 use Rattle.herm_naming.proofs.TypedForms.{at-more}
 use Rattle.herm_naming.proofs.Apart.{part-within, names-differ}

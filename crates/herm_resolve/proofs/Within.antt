@@ -13,7 +13,7 @@ use Rattle.herm_meaning.specs.Names.{NamedTable}
 use Rattle.herm_naming.specs.Numbers.{Scope, type_number}
 use Rattle.herm_naming.specs.Meaning.{block_number}
 use Rattle.herm_naming.specs.StatementFaults.{Code, twice, too_many, is_among, name_code, declaration_code, variable_codes, statement_code, statement_codes, within, in_body}
-use Rattle.herm_naming.specs.Refusals.{Places}
+use Rattle.herm_naming.specs.RefusalsOfNames.{Places}
 use Rattle.herm_naming.proofs.Bodies.{body-count}
 use Rattle.herm_typed.specs.View.{typed_stmts_view, typed_process_view}
 use Rattle.herm_typed.specs.declared.statements.TypedStmt.{TypedStmt}

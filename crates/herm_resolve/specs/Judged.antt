@@ -13,7 +13,7 @@ use Rattle.herm_meaning.specs.Names.{NamedTable, IsWellNamed}
 use Rattle.herm_naming.specs.Numbers.{Scope, type_number}
 use Rattle.herm_naming.specs.Meaning.{block_number, processes_in, process_meaning, main_name}
 use Rattle.herm_naming.specs.StatementFaults.{Code, twice, too_many, is_among, name_code, declaration_code, variable_codes, statement_codes}
-use Rattle.herm_naming.specs.Refusals.{Places, are_none, RefusesBy, RefusesProcesses, ArePlaced}
+use Rattle.herm_naming.specs.RefusalsOfNames.{Places, are_none, RefusesBy, RefusesProcesses, ArePlaced}
 use Rattle.herm_typed.specs.View.{typed_process_view}
 use Rattle.herm_typed.specs.declared.statements.TypedProcess.{TypedProcess}
 use Rattle.herm_numbers.specs.Counts.{IsCounted}

@@ -2,7 +2,7 @@
 pub mod Judged
 pub mod Refused
 -- Control through a part of the text.
-pub mod Reach
+pub mod ControlInOnePass
 -- What stands beside the meaning of a statement.
 pub mod Entries
 pub mod Kept

@@ -9,7 +9,7 @@ use Rattle.herm_syntax.specs.View.{module_view}
 use Rattle.herm_meaning.specs.Names.{NamedTable}
 use Rattle.herm_naming.specs.Meaning.{meaning, main_number}
 use Rattle.herm_naming.specs.StatementFaults.{Code}
-use Rattle.herm_naming.specs.Refusals.{Places, AreRefusals}
+use Rattle.herm_naming.specs.RefusalsOfNames.{Places, AreRefusals}
 use Rattle.herm_typed.specs.View.{typed_process_view}
 use Rattle.herm_numbers.specs.Faults.{Place, body_spans, name_fault_view}
 use Rattle.herm_numbers.specs.declared.fault.ResolveFault.{ResolveFault}

@@ -4,7 +4,7 @@ ghost use Rattle.herm_model.specs.Types.{all_parts, variable_paths};
 ghost use Rattle.herm_model.specs.Statements.{numbers_of_block, IsWellFormedBlock};
 ghost use Rattle.herm_syntax.specs.View.{name_view, field_view};
 ghost use Rattle.herm_naming.specs.StatementFaults.{is_among, twice, too_many, unreachable, declaration_code};
-ghost use Rattle.herm_naming.specs.Refusals.{at_places, all_places, are_none};
+ghost use Rattle.herm_naming.specs.RefusalsOfNames.{at_places, all_places, are_none};
 ghost use Rattle.herm_typed.specs.View.{typed_stmts_view, typed_process_view};
 ghost use Rattle.herm_numbers.specs.Counts.{IsCounted};
 ghost use Rattle.herm_numbers.specs.Faults.{found_code_view, name_fault_view, spans_found, body_spans};

@@ -5,7 +5,7 @@ ghost use Rattle.herm_syntax.specs.View.{module_view};
 ghost use Rattle.herm_meaning.specs.Names.{IsWellNamed};
 ghost use Rattle.herm_naming.specs.Meaning.{processes_in, meaning, main_name, main_number};
 ghost use Rattle.herm_naming.specs.StatementFaults.{no_main};
-ghost use Rattle.herm_naming.specs.Refusals.{ArePlaced};
+ghost use Rattle.herm_naming.specs.RefusalsOfNames.{ArePlaced};
 ghost use Rattle.herm_typed.specs.View.{typed_process_view};
 ghost use Rattle.herm_numbers.specs.Faults.{name_fault_view};
 ghost use Rattle.herm_numbers.specs.View.{IsSized};

@@ -3,11 +3,11 @@ ghost use Rattle.std.specs.Prelude.{◌≡◌, ◌++◌, ◌∷◌, ◌||◌, []
 ghost use Rattle.herm_model.specs.Outcomes.{disconnected, listed_if, raised_by, raised_by_new};
 ghost use Rattle.herm_model.specs.Calls.{call_raises, shape_at};
 ghost use Rattle.herm_model.specs.Statements.{IsWellFormedBlock, trying};
-ghost use Rattle.herm_naming.specs.Refusals.{MarksUnreached};
+ghost use Rattle.herm_naming.specs.UnreachedStatements.{MarksUnreached};
 ghost use Rattle.herm_typed.specs.View.{typed_path_view, typed_expr_view, typed_form_view, typed_stmts_view};
 ghost use Rattle.herm_typed.specs.Blocks.{case_blocks, select_blocks, else_block, handlers_list};
 ghost use Rattle.herm_judge.specs.View.{table_of, variables_of};
-ghost use Rattle.herm_resolve.specs.Reach.{raise_one, raise_all, members, control, control_of_block, control_of_blocks, control_of_handlers, form_raises, raises_here, two_blocks};
+ghost use Rattle.herm_resolve.specs.ControlInOnePass.{raise_one, raise_all, members, control, control_of_block, control_of_blocks, control_of_handlers, form_raises, raises_here, two_blocks};
 
 use herm_base::ExcNo;
 use herm_judge::{Frame, call_raises, may_be_refused};

@@ -3,7 +3,7 @@ use Rattle.std.proofs.Common.{◌≡◌, ℕ, List, [], ◌∷◌, ◌++◌, map
 use Rattle.std.specs.Prelude.{IsTrue, IsFalse, ⊤}
 use Rattle.herm_model.specs.Lists.{all_pass}
 use Rattle.herm_model.specs.Values.{Value}
-use Rattle.herm_model.specs.Texts.{text_of}
+use Rattle.herm_model.specs.ValueTexts.{text_of}
 use Rattle.herm_model.specs.WellMade.{is_well_made, may_go_on}
 use Rattle.herm_model.proofs.Lists.{and-both, cons-head}
 use Rattle.herm_model.proofs.Options.{some-injective, none-not_some}

@@ -4,10 +4,12 @@ use Rattle.std.proofs.lemmas.Bool.{eqb-true}
 use Rattle.std.specs.Prelude.{nat_eq}
 use Rattle.std.proofs.lemmas.Bool.Decides.{nat_tests}
 use Rattle.herm_model.specs.Values.{Cell, Name}
-use Rattle.herm_model.specs.Texts.{text_of}
+use Rattle.herm_model.specs.ValueTexts.{text_of}
 use Rattle.herm_model.proofs.Options.{some-injective, none-not_some, chain-some, map-some}
 use Rattle.herm_journal.specs.Actions.{make_port, make_process, put, take, close, answer, hear}
-use Rattle.herm_journal.specs.PlaceStates.{Limits, empty_port, port_with, PlaceState, a_port, replies, a_book, IsEnabled, after}
+use Rattle.herm_journal.specs.Books.{Limits}
+use Rattle.herm_journal.specs.Ports.{empty_port, port_with}
+use Rattle.herm_journal.specs.PlaceStates.{PlaceState, a_port, replies, a_book, IsEnabled, after}
 use Rattle.herm_journal.specs.Entries.{Text, Place, port, reply_cell, book, same_place, Entry, map_reply, texts_of, recorded, recorded_state}
 use Rattle.herm_journal.specs.Journals.{part_of_place}
 use Rattle.herm_journal.specs.Histories.{first_recorded_state, Replayed, at_start, after_entry, replay, IsLegal}

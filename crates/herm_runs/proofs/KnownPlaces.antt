@@ -4,7 +4,9 @@ use Rattle.std.specs.Prelude.{nat_lt, ◌&&◌}
 use Rattle.herm_model.specs.Values.{Kind, a_callmessage, an_inport, an_outport, Cell, Name}
 use Rattle.herm_model.proofs.Options.{some-injective, none-not_some, chain-some, map-some}
 use Rattle.herm_journal.specs.Actions.{new_port, new_process, to_put, to_take, to_close, to_answer, to_hear, make_port, make_process, put, take, close, answer, hear}
-use Rattle.herm_journal.specs.PlaceStates.{Book, Port, empty_port, first_of, behind_first, Replies, PlaceState, a_port, replies, a_book, after, next_port, next_process}
+use Rattle.herm_journal.specs.Books.{Book, next_port, next_process}
+use Rattle.herm_journal.specs.Ports.{Port, empty_port, first_of, behind_first}
+use Rattle.herm_journal.specs.PlaceStates.{Replies, PlaceState, a_port, replies, a_book, after}
 use Rattle.herm_journal.specs.Entries.{Place, port, reply_cell, book}
 use Rattle.herm_journal.specs.Messages.{CellReply, CellWant, CellAction}
 use Rattle.herm_system.specs.Systems.{System, Moved, Event, steps, acts, Run, run, run_on, step, with_entry, with_made, set_process, set_holding, holding_at, numbered_from_one, set_from_one, done_at, number_of}

@@ -3,7 +3,7 @@ use Rattle.std.proofs.Common.{◌≡◌, ℕ, zero, suc, List, [], ◌∷◌, �
 use Rattle.std.specs.Prelude.{IsFalse, ⊤}
 use Rattle.herm_model.specs.Types.{TypeTable}
 use Rattle.herm_model.specs.Values.{Value}
-use Rattle.herm_model.specs.Texts.{text_of, begins_with_digit}
+use Rattle.herm_model.specs.ValueTexts.{text_of, begins_with_digit}
 use Rattle.herm_model.specs.Typed.{whole, partly}
 use Rattle.herm_model.proofs.Options.{some-injective, none-not_some, chain-some}
 use Rattle.herm_model.proofs.Spelling.{text-split}

@@ -5,7 +5,8 @@ use Rattle.std.specs.Prelude.{nat_eq, nat_lt}
 use Rattle.herm_model.specs.Lists.{IsIn}
 use Rattle.herm_model.proofs.Options.{some-injective, none-not_some, chain-some, map-some}
 use Rattle.herm_journal.specs.Actions.{make_port, make_process, put, take, close, answer, hear}
-use Rattle.herm_journal.specs.PlaceStates.{Book, Limits, after}
+use Rattle.herm_journal.specs.Books.{Book, Limits}
+use Rattle.herm_journal.specs.PlaceStates.{after}
 use Rattle.herm_journal.specs.Entries.{Text, Place, same_place, Entry, recorded}
 use Rattle.herm_journal.specs.Journals.{IsJournalOf, part_of_process, part_of_place, ordered}
 use Rattle.herm_journal.specs.Stamps.{clock_of_process, clock_of_place, is_maker_of, next_stamp, entry_behind}

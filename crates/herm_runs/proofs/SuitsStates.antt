@@ -10,7 +10,8 @@ use Rattle.herm_model.proofs.Lists.{in-map, in-append_left, in-flat_map, or-eith
 use Rattle.herm_model.proofs.FactTests.{numbered-IsIn}
 use Rattle.herm_model.proofs.Options.{some-injective, none-not_some, map-some}
 use Rattle.herm_journal.specs.Actions.{new_port, new_process, to_put, to_take, to_close, to_answer, to_hear, make_port, make_process, put, take, close, answer, hear}
-use Rattle.herm_journal.specs.PlaceStates.{Port, first_of, left_in, Replies, PlaceState, a_port, replies, a_book}
+use Rattle.herm_journal.specs.Ports.{Port, first_of, left_in}
+use Rattle.herm_journal.specs.PlaceStates.{Replies, PlaceState, a_port, replies, a_book}
 use Rattle.herm_journal.specs.Entries.{Place, port, reply_cell, book, same_place}
 use Rattle.herm_journal.proofs.Rising.{same-true}
 use Rattle.herm_journal.specs.Messages.{CellReply, CellWant, CellAction}

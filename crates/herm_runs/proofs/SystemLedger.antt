@@ -6,7 +6,9 @@ use Rattle.herm_model.proofs.Renaming.{map-append}
 use Rattle.herm_model.specs.Values.{Cell, Name}
 use Rattle.herm_model.proofs.Options.{some-injective, none-not_some, chain-some, map-some}
 use Rattle.herm_journal.specs.Actions.{new_port, new_process, to_put, to_take, to_close, to_answer, to_hear, make_port, make_process, put, take, close, answer, hear}
-use Rattle.herm_journal.specs.PlaceStates.{Book, Limits, Port, empty_port, first_of, Replies, PlaceState, a_port, replies, a_book, after, next_process}
+use Rattle.herm_journal.specs.Books.{Book, Limits, next_process}
+use Rattle.herm_journal.specs.Ports.{Port, empty_port, first_of}
+use Rattle.herm_journal.specs.PlaceStates.{Replies, PlaceState, a_port, replies, a_book, after}
 use Rattle.herm_journal.specs.Entries.{Text, Place, port, reply_cell, book}
 use Rattle.herm_journal.specs.Messages.{CellReply, CellWant, CellAction}
 use Rattle.herm_journal.specs.Weights.{weigh, weigh_all, weigh_reply, weight_received}

@@ -1,7 +1,7 @@
 // Laws of processes along their diaries.
 
 ghost use Rattle.std.specs.Prelude.{◌≡◌, codes, map, [], ◌∷◌, ⊤};
-ghost use Rattle.herm_model.specs.Texts.{text_of};
+ghost use Rattle.herm_model.specs.ValueTexts.{text_of};
 ghost use Rattle.herm_model.specs.Values.{a_scalar, a_text, an_inport, Name};
 ghost use Rattle.herm_system.specs.Machines.{Machine};
 ghost use Rattle.herm_runs.specs.examples.Closes.{alone, integer, IsPutAside, Tells, with_part};

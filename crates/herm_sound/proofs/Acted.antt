@@ -9,7 +9,9 @@ use Rattle.herm_model.specs.Values.{Name, Cell}
 use Rattle.herm_model.proofs.Lists.{or-either, length-map}
 use Rattle.herm_model.proofs.Options.{some-injective, none-not_some}
 use Rattle.herm_journal.specs.Actions.{new_port, new_process, to_put, to_take, to_close, to_answer, to_hear, make_port, make_process, put, take, close, answer, hear}
-use Rattle.herm_journal.specs.PlaceStates.{Book, Port, left_in, Replies, PlaceState, a_port, replies, a_book, next_port, next_process}
+use Rattle.herm_journal.specs.Books.{Book, next_port, next_process}
+use Rattle.herm_journal.specs.Ports.{Port, left_in}
+use Rattle.herm_journal.specs.PlaceStates.{Replies, PlaceState, a_port, replies, a_book}
 use Rattle.herm_journal.specs.Entries.{Place, port, reply_cell, book, same_place}
 use Rattle.herm_journal.specs.Messages.{CellReply, CellWant, CellAction}
 use Rattle.herm_system.specs.Suiting.{Answers}

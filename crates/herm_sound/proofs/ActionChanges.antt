@@ -5,7 +5,8 @@ use Rattle.herm_model.specs.Lists.{IsIn, list_of, total}
 use Rattle.herm_model.specs.Values.{Name, an_inport, Cell}
 use Rattle.herm_model.proofs.Options.{some-injective, none-not_some, chain-some}
 use Rattle.herm_journal.specs.Actions.{to_take}
-use Rattle.herm_journal.specs.PlaceStates.{Port, after, left_in}
+use Rattle.herm_journal.specs.Ports.{Port, left_in}
+use Rattle.herm_journal.specs.PlaceStates.{after}
 use Rattle.herm_journal.specs.Entries.{Place}
 use Rattle.herm_journal.specs.Messages.{CellReply, CellWant, CellAction, cells_in, is_inport, message_of_port, types_of_reply}
 use Rattle.herm_system.specs.Machines.{OpenCall, Machine}

@@ -7,7 +7,8 @@ use Rattle.herm_model.proofs.Lists.{total-append}
 use Rattle.herm_model.proofs.Renaming.{map-append}
 use Rattle.herm_model.proofs.Options.{some-injective, map-some}
 use Rattle.herm_journal.specs.Actions.{make_port, make_process}
-use Rattle.herm_journal.specs.PlaceStates.{Port, empty_port, left_in, Replies, after}
+use Rattle.herm_journal.specs.Ports.{Port, empty_port, left_in}
+use Rattle.herm_journal.specs.PlaceStates.{Replies, after}
 use Rattle.herm_journal.specs.Entries.{Place}
 use Rattle.herm_journal.specs.Messages.{CellReply, CellWant, CellAction, cells_in}
 use Rattle.herm_system.specs.Machines.{Machine, inport_of}

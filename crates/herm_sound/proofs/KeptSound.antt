@@ -9,7 +9,7 @@ use Rattle.herm_model.proofs.Lists.{not_true}
 use Rattle.herm_model.proofs.Options.{some-injective, none-not_some}
 use Rattle.herm_journal.proofs.Rising.{same-true}
 use Rattle.herm_journal.specs.Actions.{gone, to_close, to_put, make_port, put, hear}
-use Rattle.herm_journal.specs.PlaceStates.{Port, left_in}
+use Rattle.herm_journal.specs.Ports.{Port, left_in}
 use Rattle.herm_journal.specs.Messages.{CellReply, CellWant, CellAction, is_inport, IsMessage, IsReplyTo}
 use Rattle.herm_system.specs.Machines.{OpenCall, Machine}
 use Rattle.herm_system.specs.Ledger.{HasLedger}

@@ -4,7 +4,7 @@ use Rattle.herm_model.specs.Lists.{IsIn, list_of}
 use Rattle.herm_model.specs.Values.{Name, Kind, a_callmessage, an_inport, an_outport, Cell}
 use Rattle.herm_model.proofs.Options.{some-injective, none-not_some}
 use Rattle.herm_journal.specs.Actions.{gone, to_put, to_answer, make_port, make_process, put}
-use Rattle.herm_journal.specs.PlaceStates.{Port, left_in}
+use Rattle.herm_journal.specs.Ports.{Port, left_in}
 use Rattle.herm_journal.specs.Messages.{CellReply, CellWant, CellAction, cells_in, message_of_port, types_of_reply, IsReplyTo}
 use Rattle.herm_system.specs.Machines.{OpenCall, Machine}
 use Rattle.herm_system.specs.Systems.{System, numbered_from_one}

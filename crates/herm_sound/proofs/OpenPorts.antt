@@ -6,7 +6,8 @@ use Rattle.herm_model.specs.Lists.{any_pass, list_of}
 use Rattle.herm_model.specs.Values.{Name, Cell, an_inport}
 use Rattle.herm_model.proofs.Options.{some-injective, none-not_some}
 use Rattle.herm_journal.specs.Actions.{to_close}
-use Rattle.herm_journal.specs.PlaceStates.{Port, empty_port, after}
+use Rattle.herm_journal.specs.Ports.{Port, empty_port}
+use Rattle.herm_journal.specs.PlaceStates.{after}
 use Rattle.herm_journal.specs.Entries.{Place}
 use Rattle.herm_journal.specs.Messages.{CellWant, CellAction}
 use Rattle.herm_system.specs.Kinds.{is_inport_of}

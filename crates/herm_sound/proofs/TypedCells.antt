@@ -7,7 +7,8 @@ use Rattle.herm_model.proofs.FactTests.{numbered-IsIn, at-numbered, got-IsIn}
 use Rattle.herm_model.proofs.Lists.{in-append_left, in-append_right, in-append_cases, in-flat_map, in-flat_map_from}
 use Rattle.herm_model.proofs.Options.{none-not_some}
 use Rattle.herm_journal.specs.PartTypes.{PartTypes, each, all_of, part_types_at}
-use Rattle.herm_journal.specs.PlaceStates.{Port, left_in, Replies}
+use Rattle.herm_journal.specs.Ports.{Port, left_in}
+use Rattle.herm_journal.specs.PlaceStates.{Replies}
 use Rattle.herm_journal.specs.Messages.{CellReply, cells_in, message_of_port, types_of_reply}
 use Rattle.herm_system.specs.Machines.{Held, OpenCall, Machine}
 use Rattle.herm_system.specs.Systems.{System, numbered_from_one, console_port}

@@ -6,7 +6,8 @@ use Rattle.herm_model.specs.Values.{Name, a_callmessage, an_inport, an_outport, 
 use Rattle.herm_model.proofs.Options.{none-not_some}
 use Rattle.herm_journal.proofs.Rising.{same-true}
 use Rattle.herm_journal.specs.Actions.{new_port, new_process, to_put, to_take, to_close, to_answer, to_hear}
-use Rattle.herm_journal.specs.PlaceStates.{Port, Replies, a_port, replies}
+use Rattle.herm_journal.specs.Ports.{Port}
+use Rattle.herm_journal.specs.PlaceStates.{Replies, a_port, replies}
 use Rattle.herm_journal.specs.Messages.{CellReply, CellWant}
 use Rattle.herm_system.specs.Kinds.{unfinalised, is_inport_of, is_callmessage_of, has_open, is_open_port, replies_of}
 use Rattle.herm_system.specs.Machines.{Machine}

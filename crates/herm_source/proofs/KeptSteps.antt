@@ -7,7 +7,7 @@ use Rattle.herm_model.specs.Targets.{Target}
 use Rattle.herm_model.specs.Values.{Kind, kind_of, a_callmessage, an_inport, Cell, cell}
 use Rattle.herm_model.proofs.Options.{some-injective, none-not_some}
 use Rattle.herm_forms.specs.Frames.{Name, Frame, Completion, goes, stays, stuck, counted_step, counted_action}
-use Rattle.herm_forms.specs.Exchanges
+use Rattle.herm_forms.specs.ClosesAndAnswers
 use Rattle.herm_journal.specs.Messages.{CellWant, CellAction}
 use Rattle.herm_forms.specs.EdgeFinalising.{arrive}
 use Rattle.herm_forms.specs.Modules.{Module}
@@ -88,15 +88,15 @@ front-is [] call n item work is = absurd (not_item call n item work is)
 front-is (c ∷ list) call n item work is = cc is
 
 module _ {N : Type 0} (w : N → ℕ) (extra : Kind → ℕ) (name : Name → N) (spares : SparesPlain extra) where
-  settle-item : (c : Module) (s t : State N) (want : CellWant N) (action : CellAction N) (item : Cell N) (work : List (Cell N)) → s.frame.work ≡ item ∷ work → Exchanges.work_wants item ≡ Some want
-      → state_after c s None (Exchanges.work_done item action (counted_action (record (s.frame) { work = work }))) ≡ Some t
+  settle-item : (c : Module) (s t : State N) (want : CellWant N) (action : CellAction N) (item : Cell N) (work : List (Cell N)) → s.frame.work ≡ item ∷ work → ClosesAndAnswers.work_wants item ≡ Some want
+      → state_after c s None (ClosesAndAnswers.work_done item action (counted_action (record (s.frame) { work = work }))) ≡ Some t
       → Balanced w extra name (weight_made w name s.frame) (load_kept w extra s.frame + load_coming w extra action) (load_going w extra name s.frame want action + extra (kind_of item)) t.frame
   settle-item c s t want action item work front is is' =
       let m = weight_made w name s.frame in
       let k = load_kept w extra s.frame + load_coming w extra action in
       let b : Frame N = counted_action (record (s.frame) { work = work }) in
       let whole : load_all w extra s.frame.work ≡ load w extra item + load_all w extra work = ap (load_all w extra) front in
-      let e = balanced-behind w extra name spares m k (0 + extra (kind_of item)) c s None (Exchanges.work_done item action b) t (kept-work_done w extra name spares m k item action b (omega arith)) is' in
+      let e = balanced-behind w extra name spares m k (0 + extra (kind_of item)) c s None (ClosesAndAnswers.work_done item action b) t (kept-work_done w extra name spares m k item action b (omega arith)) is' in
       omega (arith, item-goes w extra name item s.frame want action is)
 
   pub balanced-settle_next : (c : Module) (s t : State N) (want : CellWant N) (at : ℕ) (action : CellAction N) (next : Next N) → next_of c s ≡ next

@@ -5,7 +5,7 @@ use Rattle.herm_model.specs.Targets.{Target}
 use Rattle.herm_model.specs.Values.{Cell}
 use Rattle.herm_model.proofs.Options.{none-not_some, some-injective, map-some}
 use Rattle.herm_forms.specs.Frames.{Name, Frame, Completion, goes, stays, stuck, counted_step, counted_action}
-use Rattle.herm_forms.specs.Exchanges
+use Rattle.herm_forms.specs.ClosesAndAnswers
 use Rattle.herm_journal.specs.Messages.{CellAction}
 use Rattle.herm_forms.specs.EdgeFinalising.{arrive}
 use Rattle.herm_forms.specs.Modules.{Module}
@@ -39,7 +39,7 @@ module _ {N : Type 0} (name : Name → N) (n : ℕ) where
   is-step_next c s t _ e is = none-not_some is
 
   is-settle_next : (c : Module) (s t : State N) (at : ℕ) (a : CellAction N) (next : Next N) → Is name n s.frame → settle_next name c s at a next ≡ Some t → Stays s t
-  is-settle_next c s t at a (an_item item work) e is = is-behind c s t None (Exchanges.work_done item a (counted_action (record (s.frame) { work = work }))) (all-work name n item a (counted_action (record (s.frame) { work = work })) e) is
+  is-settle_next c s t at a (an_item item work) e is = is-behind c s t None (ClosesAndAnswers.work_done item a (counted_action (record (s.frame) { work = work }))) (all-work name n item a (counted_action (record (s.frame) { work = work })) e) is
   is-settle_next c s t at a (a_reply call node) e is = is-behind c s t (Some node) (settle_reply c node.form call a (counted_action s.frame)) (all-settle_reply name n c node.form call a (counted_action s.frame) e) is
   is-settle_next c s t at a (a_statement node) e is = is-behind c s t (Some node) (settle name c node.form at a (counted_action (counted_step s.frame))) (all-settle name n c node.form at a (counted_action (counted_step s.frame)) e) is
   is-settle_next c s t at a nothing e is = none-not_some is

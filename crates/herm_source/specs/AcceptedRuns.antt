@@ -4,12 +4,12 @@ use Rattle.herm_model.specs.Lists.{IsIn}
 use Rattle.herm_model.specs.Paths.{Fact}
 use Rattle.herm_model.specs.Statements.{Process}
 use Rattle.herm_model.specs.Nodes.{Node}
-use Rattle.herm_model.specs.StatementTable.{needs}
+use Rattle.herm_model.specs.FactsOfStatements.{needs}
 use Rattle.herm_model.specs.ControlPaths.{flow_of}
 use Rattle.herm_model.specs.Labels.{AreExact}
-use Rattle.herm_model.specs.Refusals.{IsAccepted}
+use Rattle.herm_model.specs.MissingFacts.{IsAccepted}
 use Rattle.herm_model.specs.FactsOfValues.{satisfies}
-use Rattle.herm_journal.specs.PlaceStates.{Limits}
+use Rattle.herm_journal.specs.Books.{Limits}
 use Rattle.herm_journal.specs.Entries.{Text}
 use Rattle.herm_forms.specs.Frames.{Name}
 use Rattle.herm_forms.specs.Modules.{Module, module_of}

@@ -5,7 +5,7 @@ use Rattle.herm_model.specs.Targets.{Target, node, end, end_by}
 use Rattle.herm_model.specs.Values.{Cell, gaps, part}
 use Rattle.herm_journal.specs.Actions.{to_hear}
 use Rattle.herm_forms.specs.Frames.{Name, Frame, Completion, goes, stays, stuck, counted_step, counted_action}
-use Rattle.herm_forms.specs.Exchanges
+use Rattle.herm_forms.specs.ClosesAndAnswers
 use Rattle.herm_journal.specs.Messages.{CellWant, CellAction}
 use Rattle.herm_forms.specs.EdgeFinalising.{arrive}
 use Rattle.herm_forms.specs.Modules.{Module}
@@ -76,7 +76,7 @@ state_after c s n stuck = None
 
 -- What the next thing wants of a place; none where it is a local step or nothing. Language reference, "Actions".
 abbrev pub wanted_next : {N : Type 0} → (Name → N) → Module → Frame N → Next N → Option (CellWant N)
-wanted_next name c b (an_item item work) = Exchanges.work_wants item
+wanted_next name c b (an_item item work) = ClosesAndAnswers.work_wants item
 wanted_next name c b (a_reply call n) = Some to_hear
 wanted_next name c b (a_statement n) = cond (is_action c n.form) (wants name c n.form b) None
 wanted_next name c b nothing = None
@@ -98,7 +98,7 @@ local_step name c s = step_next name c s (next_of c s)
 -- statement's counts as a step too. Language reference, "Actions".
 abbrev pub settle_next : {N : Type 0} → (Name → N) → Module → State N → (at : ℕ) → CellAction N → Next N → Option (State N)
 settle_next name c s at action (an_item item work) =
-    state_after c s None (Exchanges.work_done item action (counted_action (record (s.frame) { work = work })))
+    state_after c s None (ClosesAndAnswers.work_done item action (counted_action (record (s.frame) { work = work })))
 settle_next name c s at action (a_reply call n) =
     state_after c s (Some n) (settle_reply c n.form call action (counted_action s.frame))
 settle_next name c s at action (a_statement n) =

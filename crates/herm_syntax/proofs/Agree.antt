@@ -2,7 +2,7 @@
 use Rattle.std.proofs.Common.{◌≡◌, ℕ, zero, suc, ◌<◌, Bool, true, false, if◌then◌else◌, List, Option, Some, None, nat_eq, true≢false, refl, sym, ap, ◌∙◌, arith}
 use Rattle.herm_readers.specs.Reader.{Reader}
 use Rattle.herm_readers.specs.Combinators.{nothing, one, sequence, preceded, terminated, separated}
-use Rattle.herm_readers.specs.Brackets.{Neither}
+use Rattle.herm_readers.specs.BracketBalance.{Neither}
 use Rattle.herm_readers.proofs.Agreement.{Agrees, agree_return, agree_changed, agree_sequence, agree_depending, agree_one, agree_leading, agree_opening, agree_shutting, agree_closing, agree_bracketed, agree_choice, agree_many, agree_separated}
 use Rattle.herm_alphabet.specs.KeywordLetters.{keyword_of}
 use Rattle.herm_alphabet.specs.declared.keyword.Keyword.{Keyword}

@@ -1,7 +1,7 @@
 -- The symbols of the grammar: tokens without their places in the text. They are the kinds of tokens that the
 -- lexer reads: keywords, names, integers, quoted texts by their content, and signs (language reference, "Tokens").
 use Rattle.std.specs.Prelude.{ℕ, Bool, false, List, is_some, nat_eq}
-use Rattle.herm_readers.specs.Brackets.{Side, Opening, Closing, Neither}
+use Rattle.herm_readers.specs.BracketBalance.{Side, Opening, Closing, Neither}
 use Rattle.herm_alphabet.specs.KeywordLetters.{keyword_of, same_keyword, same_mark}
 use Rattle.herm_alphabet.specs.declared.keyword.Keyword.{Keyword}
 use Rattle.herm_alphabet.specs.declared.keyword.Keyword.TheVariants.{KwAnd, KwDiv, KwMod, KwOr}

@@ -4,7 +4,8 @@ use Rattle.herm_model.specs.Lists.{list_of, numbered, any_pass}
 use Rattle.herm_model.specs.Types.{TypeTable}
 use Rattle.herm_model.specs.Values.{Name, Kind, a_callmessage, an_inport, Cell, cell, Parts, no_parts, gap, part}
 pub use Rattle.herm_journal.specs.PartTypes.{PartTypes, each, all_of, part_types, part_types_at}
-use Rattle.herm_journal.specs.PlaceStates.{Port, left_in, Replies}
+use Rattle.herm_journal.specs.Ports.{Port, left_in}
+use Rattle.herm_journal.specs.PlaceStates.{Replies}
 use Rattle.herm_journal.specs.Messages.{CellReply, cells_in, message_of_port, types_of_reply}
 use Rattle.herm_system.specs.Machines.{Held, OpenCall, Machine}
 use Rattle.herm_system.specs.Systems.{System, numbered_from_one, console_port}

@@ -3,7 +3,8 @@ use Rattle.std.specs.Prelude.{ℕ, ◌+◌, ◌≤◌, Some, ◌≡◌}
 use Rattle.herm_model.specs.Lists.{total}
 use Rattle.herm_model.specs.Values.{Name, Cell}
 use Rattle.herm_journal.specs.Actions.{new_process, to_put, to_answer, make_process}
-use Rattle.herm_journal.specs.PlaceStates.{Port, left_in, Replies}
+use Rattle.herm_journal.specs.Ports.{Port, left_in}
+use Rattle.herm_journal.specs.PlaceStates.{Replies}
 use Rattle.herm_journal.specs.Messages.{CellReply, CellWant, CellAction}
 use Rattle.herm_journal.specs.Weights.{only, weigh, weigh_all, weigh_reply, weigh_serials}
 use Rattle.herm_system.specs.Machines.{Held, Machine, inport_of}

@@ -2,8 +2,8 @@
 use Rattle.std.specs.Prelude.{ℕ, List, [], ◌++◌, map, flat_map, codes}
 use Rattle.herm_model.specs.Lists.{list_of, numbered}
 use Rattle.herm_model.specs.Values.{Name, a_scalar, a_text, Cell, cell}
-use Rattle.herm_model.specs.Texts.{text_of}
-use Rattle.herm_journal.specs.PlaceStates.{Port, left_in, first_of}
+use Rattle.herm_model.specs.ValueTexts.{text_of}
+use Rattle.herm_journal.specs.Ports.{Port, left_in, first_of}
 use Rattle.herm_journal.specs.Entries.{Text, Entry, entry_text}
 use Rattle.herm_journal.specs.Journals.{ordered}
 use Rattle.herm_system.specs.Machines.{Machine}

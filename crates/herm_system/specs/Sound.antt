@@ -3,7 +3,7 @@ use Rattle.std.specs.Prelude.{ℕ, suc, ◌+◌, List, Bool, cond, nat_eq, Some,
 use Rattle.herm_model.specs.Lists.{IsIn}
 use Rattle.herm_model.specs.Calls.{led_to}
 use Rattle.herm_model.specs.Values.{Name, a_callmessage, an_inport, an_outport, Cell}
-use Rattle.herm_journal.specs.PlaceStates.{Port, left_in}
+use Rattle.herm_journal.specs.Ports.{Port, left_in}
 use Rattle.herm_journal.specs.Messages.{CellReply, is_inport, IsMessage, IsReplyTo}
 use Rattle.herm_system.specs.Machines.{OpenCall, Machine}
 use Rattle.herm_system.specs.Systems.{System, numbered_from_one}

@@ -2,7 +2,7 @@
 use Rattle.std.specs.Prelude.{ℕ, List, [], ◌∷◌, ◌++◌, flat_map, cond, Option, Some, codes}
 use Rattle.herm_model.specs.Lists.{any_pass, list_of, numbered}
 use Rattle.herm_model.specs.Values.{Name}
-use Rattle.herm_journal.specs.PlaceStates.{first_of}
+use Rattle.herm_journal.specs.Ports.{first_of}
 use Rattle.herm_journal.specs.Entries.{Text, and_number, name_in}
 use Rattle.herm_system.specs.Machines.{Machine, ended}
 use Rattle.herm_system.specs.Systems.{System}

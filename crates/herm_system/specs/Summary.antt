@@ -2,7 +2,7 @@
 use Rattle.std.specs.Prelude.{ℕ, ◌^◌, min, List, ◌++◌, Bool, length, filter, codes}
 use Rattle.herm_model.specs.Lists.{total}
 use Rattle.herm_model.specs.Values.{Name, Cell}
-use Rattle.herm_journal.specs.PlaceStates.{Port}
+use Rattle.herm_journal.specs.Ports.{Port}
 use Rattle.herm_journal.specs.Entries.{Text, and_number}
 use Rattle.herm_system.specs.Machines.{Machine, ended, waiting}
 use Rattle.herm_system.specs.Systems.{System}

@@ -13,7 +13,7 @@ use Rattle.herm_syntax.specs.declared.expressions.UnaryOp.TheVariants.{Neg, Not}
 use Rattle.herm_typed.specs.declared.expressions.TypedPrimary.TheBlock as expressions
 use Rattle.herm_typed.specs.declared.raises.Raises.{Raises}
 use Rattle.herm_typed.specs.View.{typed_sum_op_view, typed_prod_op_view, signed_view, typed_expr_view, typed_conjs_view, typed_conj_view, typed_comps_view, typed_comp_view, typed_sum_view, typed_prods_view, typed_prod_view, typed_unaries_view, typed_primary_view, typed_unary_view}
-use Rattle.herm_typed.specs.Raising.{raised_together, raised_each, raises_of, raises_behind, raised_signed, chained}
+use Rattle.herm_typed.specs.RaisedByExpressions.{raised_together, raised_each, raises_of, raises_behind, raised_signed, chained}
 
 -- operands from the left and operands one by one can raise the same
 or-behind : (a l e : Bool) → (a || (l || e)) ≡ (l || (a || e))

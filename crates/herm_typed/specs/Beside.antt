@@ -5,7 +5,7 @@ use Rattle.herm_model.specs.Lists.{IsIn, list_of}
 use Rattle.herm_model.specs.Paths.{Path}
 use Rattle.herm_model.specs.Types.{TypeTable, type_at}
 use Rattle.herm_model.specs.Statements.{Form, Unite, Dissolve, Reveal, Case, Statement}
-use Rattle.herm_naming.specs.Known.{paths_named}
+use Rattle.herm_naming.specs.UnknownNames.{paths_named}
 use Rattle.herm_typed.specs.declared.expressions.TypedAtom.{TypedAtom}
 use Rattle.herm_typed.specs.declared.expressions.TypedAtom.TheVariants as atoms
 use Rattle.herm_typed.specs.declared.expressions.TypedExpr.{TypedExpr}

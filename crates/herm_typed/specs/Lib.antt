@@ -1,6 +1,6 @@
 -- How contracts see the typed trees.
 pub mod View
-pub mod Raising
+pub mod RaisedByExpressions
 pub mod Outcomes
 pub mod Blocks
 pub mod Within

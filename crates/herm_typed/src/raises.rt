@@ -2,7 +2,7 @@
 ghost use Rattle.std.specs.Prelude.{◌≡◌, map};
 ghost use Rattle.herm_model.specs.Expressions.{logical_or, logical_and};
 ghost use Rattle.herm_typed.specs.View.{typed_sum_op_view, typed_prod_op_view, signed_view, typed_expr_view, typed_conj_view, typed_comp_view, typed_sum_view, typed_prod_view, typed_primary_view, typed_unary_view};
-ghost use Rattle.herm_typed.specs.Raising.{none_raised, raised_together, raised_each, raises_of, raises_by, raises_behind, raised_signed};
+ghost use Rattle.herm_typed.specs.RaisedByExpressions.{none_raised, raised_together, raised_each, raises_of, raises_by, raises_behind, raised_signed};
 
 use crate::expressions::{
     TypedComp, TypedConj, TypedExpr, TypedPrimary, TypedProd, TypedSum, TypedUnary,

@@ -12,7 +12,7 @@ use Rattle.herm_typed.specs.declared.statements.TypedForm.TheBlock as forms
 use Rattle.herm_typed.specs.View.{typed_path_view, typed_expr_view, components_view, typed_arms_view, typed_form_view, typed_block_view, case_blocks_view, select_blocks_view, typed_otherwise_view, typed_handlers_view, typed_stmts_view, form_of_statement}
 use Rattle.herm_typed.specs.Within.{statements_within, statements_in, statements_in_arms, statements_in_port_arms, statements_otherwise, statements_in_handlers, all_statements}
 use Rattle.herm_words.specs.Sites.{sites_in, variant_of}
-use Rattle.herm_words.specs.Words.{variable_types}
+use Rattle.herm_words.specs.MissingFactWords.{variable_types}
 use Rattle.herm_words.specs.laws.NodeLaws.{SitesAreOfNodes, SitesAreAsMany, NodesNameVariants}
 use Rattle.herm_words.proofs.NumbersSaid.{said, said_block, said_blocks, said_handlers, size_block, stand_in}
 use Rattle.herm_words.proofs.Variants.{components-named}

@@ -13,7 +13,7 @@ use Rattle.herm_typed.specs.Within.{all_statements}
 use Rattle.herm_typed.specs.Beside.{HasTypes}
 use Rattle.herm_words.specs.declared.sites.Site.{Site}
 use Rattle.herm_words.specs.Sites.{cases_of, site_of, sites_in, site_at}
-use Rattle.herm_words.specs.Words.{variable_types}
+use Rattle.herm_words.specs.MissingFactWords.{variable_types}
 use Rattle.herm_words.specs.laws.WordLaws.{ComponentsAreOfVariants}
 
 case-type : (table : TypeTable) (variables : List ℕ) (form : TypedForm) (v : Path) (cs : List ℕ) → HasTypes table variables form → form_of_statement (typed_form_view form) ≡ Some (Case v cs) → option_map (λ t. t.0) (cases_of form) ≡ type_at table variables v

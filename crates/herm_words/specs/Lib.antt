@@ -1,5 +1,5 @@
 -- The words of refusals, and what is looked up for them.
 pub mod Sites
-pub mod Words
+pub mod MissingFactWords
 pub mod Rows
 pub mod laws

@@ -2,7 +2,7 @@
 ghost use Rattle.std.specs.Prelude.{◌≡◌, map, slice_get, option_map};
 ghost use Rattle.herm_model.specs.Types.{part_type, part_of, type_below, type_at};
 ghost use Rattle.herm_types.specs.View.{shape_view, parts_view, param_view, path_view};
-ghost use Rattle.herm_words.specs.Words.{name_at, part_name, variable_names, variable_types};
+ghost use Rattle.herm_words.specs.MissingFactWords.{name_at, part_name, variable_names, variable_types};
 
 use herm_base::{TypeNo, Word};
 use herm_typed::{TypedProcess, TypedVar};

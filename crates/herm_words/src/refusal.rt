@@ -7,7 +7,7 @@ ghost use Rattle.herm_typed.specs.View.{outcome_view};
 ghost use Rattle.herm_check.specs.View.{hop_view};
 ghost use Rattle.herm_check.specs.Missing.{refusal_view};
 ghost use Rattle.herm_words.specs.Sites.{sites_in};
-ghost use Rattle.herm_words.specs.Words.{steps_text, path_text, fact_text, outcome_text, hop_text, refusal_words};
+ghost use Rattle.herm_words.specs.MissingFactWords.{steps_text, path_text, fact_text, outcome_text, hop_text, refusal_words};
 
 use crate::names::{name_at, part_name, part_of, type_at, variable_name, variable_type};
 use crate::sites::{Site, variant_of};

@@ -9,7 +9,7 @@ use Rattle.herm_model.specs.Values.{Cell}
 use Rattle.herm_model.specs.FactsOfValues.{satisfies}
 use Rattle.herm_model.specs.ControlPaths.{Flow, flow_of, held_at_start, Point, Holds}
 use Rattle.herm_model.specs.Labels.{AreExact}
-use Rattle.herm_model.specs.Refusals.{IsMissing, IsAccepted, AreRefusals, none, missing, holds, Demand, demands, demands_at, Refusal}
+use Rattle.herm_model.specs.MissingFacts.{IsMissing, IsAccepted, AreRefusals, none, missing, holds, Demand, demands, demands_at, Refusal}
 use Rattle.herm_model.specs.Lists.{IsIn, numbered}
 use Rattle.herm_model.proofs.Walks.{walk-common}
 use Rattle.herm_model.proofs.FactTests.{numbered-IsIn}

@@ -1,7 +1,7 @@
 -- The texts that are written are those of the values.
 use Rattle.std.proofs.Common.{◌≡◌, ℕ, List, [], ◌∷◌, ◌++◌, flat_map, refl, sym, ap, ◌∙◌, append_assoc, append-nil}
-use Rattle.herm_model.specs.Texts.{escaped}
-use Rattle.herm_world.specs.StringTexts.{escaped_all, quoted}
+use Rattle.herm_model.specs.Escapes.{escaped}
+use Rattle.herm_world.specs.StringsReadBack.{escaped_all, quoted}
 use Rattle.herm_world.specs.StraightRuns.{string_text, start_text}
 
 escaped-same : (s : List ℕ) → escaped_all s ≡ flat_map escaped s

@@ -9,7 +9,7 @@ use Rattle.herm_model.specs.Targets.{node, end, Target}
 use Rattle.herm_model.specs.Values.{Cell, Parts, gap, gaps}
 use Rattle.herm_model.specs.FactsOfValues.{satisfies}
 use Rattle.herm_journal.specs.Actions.{to_put}
-use Rattle.herm_journal.specs.PlaceStates.{Limits}
+use Rattle.herm_journal.specs.Books.{Limits}
 use Rattle.herm_journal.specs.Entries.{Text, Entry, port, reply_cell, book, Place, same_place}
 use Rattle.herm_forms.specs.Frames.{Name}
 use Rattle.herm_forms.specs.Acts.{is_action, wants}

@@ -6,9 +6,11 @@ use Rattle.herm_model.specs.Outcomes.{ok}
 use Rattle.herm_model.specs.Nodes.{Node}
 use Rattle.herm_model.specs.Targets.{Target, node}
 use Rattle.herm_model.specs.Values.{Cell, Parts, part}
-use Rattle.herm_model.specs.Texts.{text_of}
+use Rattle.herm_model.specs.ValueTexts.{text_of}
 use Rattle.herm_journal.specs.Actions.{to_put, put}
-use Rattle.herm_journal.specs.PlaceStates.{Limits, Port, first_book, PlaceState, a_port, after}
+use Rattle.herm_journal.specs.Books.{Limits, first_book}
+use Rattle.herm_journal.specs.Ports.{Port}
+use Rattle.herm_journal.specs.PlaceStates.{PlaceState, a_port, after}
 use Rattle.herm_journal.specs.Messages.{CellReply, CellAction}
 use Rattle.herm_journal.specs.Entries.{Text, Entry, Place, port}
 use Rattle.herm_journal.specs.Stamps.{entry_behind}

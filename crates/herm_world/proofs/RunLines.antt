@@ -8,7 +8,7 @@ use Rattle.herm_system.specs.Lines.{line}
 use Rattle.herm_system.specs.ProcessFates.{Fate, ended_normally}
 use Rattle.herm_compile.specs.declared.compiled.Line.{Line}
 use Rattle.herm_world.specs.Lines.{Values, sent_from}
-use Rattle.herm_world.specs.StringTexts.{quoted}
+use Rattle.herm_world.specs.StringsReadBack.{quoted}
 use Rattle.herm_world.specs.StraightRuns.{report_of, string_text, taken_at, sent_all, closed_at, journal_of, sets, counts_of, counts_from}
 use Rattle.herm_world.proofs.ModelTexts.{quoted_text}
 use Rattle.herm_world.proofs.StraightEnd.{same-counts}

@@ -11,7 +11,7 @@ use Rattle.herm_model.specs.Labels.{AreExact}
 use Rattle.herm_model.specs.Values.{gap, gaps, Cell}
 use Rattle.herm_model.specs.FactsOfValues.{satisfies}
 use Rattle.herm_journal.specs.Actions.{close}
-use Rattle.herm_journal.specs.PlaceStates.{Limits}
+use Rattle.herm_journal.specs.Books.{Limits}
 use Rattle.herm_journal.specs.Entries.{Text, Entry, port}
 use Rattle.herm_journal.specs.Stamps.{entry_behind}
 use Rattle.herm_forms.specs.Frames.{Name}

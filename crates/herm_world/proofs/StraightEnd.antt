@@ -10,7 +10,7 @@ use Rattle.herm_model.specs.ControlPaths.{Flow, held_at_start}
 use Rattle.herm_model.specs.Labels.{AreExact}
 use Rattle.herm_model.specs.Values.{Cell, gaps}
 use Rattle.herm_model.specs.FactsOfValues.{satisfies}
-use Rattle.herm_model.specs.Texts.{text_of}
+use Rattle.herm_model.specs.ValueTexts.{text_of}
 use Rattle.herm_journal.specs.Entries.{Text, Entry}
 use Rattle.herm_journal.specs.Journals.{IsRising, IsRisingFrom}
 use Rattle.herm_forms.specs.Frames.{Name}

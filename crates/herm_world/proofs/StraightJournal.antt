@@ -4,7 +4,7 @@ use Rattle.std.specs.Prelude.{⊤}
 use Rattle.std.specs.List.{AllByRecursion}
 use Rattle.std.proofs.Math.Nat.{max-eq_left}
 use Rattle.herm_model.specs.Values.{Cell}
-use Rattle.herm_model.specs.Texts.{text_of}
+use Rattle.herm_model.specs.ValueTexts.{text_of}
 use Rattle.herm_journal.specs.Actions.{put}
 use Rattle.herm_journal.specs.Entries.{Text, Entry, port, Record}
 use Rattle.herm_journal.specs.Stamps.{clock_of_process, clock_of_place, next_stamp, entry_behind}

@@ -4,7 +4,7 @@ use Rattle.herm_model.specs.Paths.{Fact}
 use Rattle.herm_model.specs.Nodes.{Node}
 use Rattle.herm_model.specs.Typed.{is_text}
 use Rattle.herm_model.specs.Values.{Cell}
-use Rattle.herm_journal.specs.PlaceStates.{Limits}
+use Rattle.herm_journal.specs.Books.{Limits}
 use Rattle.herm_journal.specs.Entries.{Text, Entry}
 use Rattle.herm_forms.specs.Frames.{Name}
 use Rattle.herm_forms.specs.Modules.{Module}

@@ -9,9 +9,11 @@ use Rattle.herm_model.specs.Nodes.{Node}
 use Rattle.herm_model.specs.Targets.{Target, node, end}
 use Rattle.herm_model.specs.Values.{Parts, part, gap, gaps, size}
 use Rattle.herm_model.specs.FactsOfValues.{satisfies}
-use Rattle.herm_model.specs.Texts.{text_of}
+use Rattle.herm_model.specs.ValueTexts.{text_of}
 use Rattle.herm_journal.specs.Actions.{take}
-use Rattle.herm_journal.specs.PlaceStates.{Limits, empty_port, port_with, a_port}
+use Rattle.herm_journal.specs.Books.{Limits}
+use Rattle.herm_journal.specs.Ports.{empty_port, port_with}
+use Rattle.herm_journal.specs.PlaceStates.{a_port}
 use Rattle.herm_journal.specs.Entries.{Text, port}
 use Rattle.herm_journal.specs.Stamps.{entry_behind}
 use Rattle.herm_forms.specs.Frames.{Name, Frame}

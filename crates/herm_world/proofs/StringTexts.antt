@@ -1,8 +1,8 @@
 -- A string is read back from its text.
 use Rattle.std.proofs.Common.{◌≡◌, ℕ, List, [], ◌∷◌, ◌++◌, false, refl, ap, arith, append_assoc}
 use Rattle.std.proofs.lemmas.Grind.{common_steps}
-use Rattle.herm_model.specs.Texts.{escaped}
-use Rattle.herm_world.specs.StringTexts.{escaped_all, quoted, unescaped, unquoted}
+use Rattle.herm_model.specs.Escapes.{escaped}
+use Rattle.herm_world.specs.StringsReadBack.{escaped_all, quoted, unescaped, unquoted}
 
 unescaped-byte : (b : ℕ) (rest : List ℕ) → unescaped false (escaped b ++ rest) ≡ b ∷ unescaped false rest
 unescaped-byte b rest = grind (arith, common_steps)

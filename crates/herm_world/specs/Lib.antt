@@ -1,4 +1,4 @@
-pub mod StringTexts
+pub mod StringsReadBack
 pub mod Lines
 pub mod Reports
 pub mod StraightRuns

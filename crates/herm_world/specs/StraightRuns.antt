@@ -4,13 +4,13 @@ use Rattle.std.specs.Prelude.{ℕ, suc, ◌≡◌, ◌+◌, ◌-◌, ◌≤◌, 
 use Rattle.herm_model.specs.Types.{predefined}
 use Rattle.herm_model.specs.Typed.{is_text}
 use Rattle.herm_model.specs.Values.{a_text, Name}
-use Rattle.herm_model.specs.Texts.{text_of}
+use Rattle.herm_model.specs.ValueTexts.{text_of}
 use Rattle.herm_journal.specs.Actions.{put, take, close}
 use Rattle.herm_journal.specs.Entries.{Text, Entry, Place, Record, port}
 use Rattle.herm_forms.specs.Evaluate.{scalar_value}
 use Rattle.herm_source.specs.Modules.{Program, Modules}
 use Rattle.herm_system.specs.Systems.{System, first_message, IsFinal, Event, Run, run, start}
-use Rattle.herm_journal.specs.PlaceStates.{Limits}
+use Rattle.herm_journal.specs.Books.{Limits}
 use Rattle.herm_system.specs.RunTexts.{plainly}
 use Rattle.herm_system.specs.Summary.{Counts}
 use Rattle.herm_system.specs.Lines.{line}

@@ -3,7 +3,7 @@ ghost use Rattle.std.specs.Prelude.{◌≡◌, ◌+◌, ◌<◌, ◌++◌, [], �
 ghost use Rattle.herm_compile.specs.declared.compiled.Line.{Line};
 ghost use Rattle.herm_world.specs.Lines.{held, sent_from, sent};
 ghost use Rattle.herm_world.specs.Reports.{queue_of};
-ghost use Rattle.herm_world.specs.StringTexts.{quoted};
+ghost use Rattle.herm_world.specs.StringsReadBack.{quoted};
 ghost use Rattle.herm_world.specs.StraightRuns.{IsRunnable, IsReported, an_entry, taken_at, counts_from, sent_at, sent_all, closed_at, journal_of, sets, counts_of, start_text, string_text};
 ghost use Rattle.herm_events.specs.View.{entries_view, place_view, action_view};
 ghost use Rattle.herm_world.specs.View.{proc_ends_view, numbered_queues, counts_view, report_view};

@@ -1,7 +1,7 @@
 //! The text of a string value, and the string that such a text stands for.
 ghost use Rattle.std.specs.Prelude.{◌≡◌, ◌++◌, OnOk, false};
-ghost use Rattle.herm_model.specs.Texts.{escaped};
-ghost use Rattle.herm_world.specs.StringTexts.{quoted, unescaped, unquoted};
+ghost use Rattle.herm_model.specs.Escapes.{escaped};
+ghost use Rattle.herm_world.specs.StringsReadBack.{quoted, unescaped, unquoted};
 
 use std::alloc::AllocError;
 

@@ -7,7 +7,7 @@ use Rattle.herm_model.proofs.Loads.{SparesPlain, load, load_all, weightless}
 use Rattle.herm_model.proofs.Options.{none-not_some, some-injective, chain-some}
 use Rattle.herm_journal.specs.Messages.{CellWant, CellAction}
 use Rattle.herm_journal.specs.Weights.{weigh, weight_received}
-use Rattle.herm_forms.specs.Exchanges
+use Rattle.herm_forms.specs.ClosesAndAnswers
 use Rattle.herm_forms.specs.Frames.{Name, Frame, Completion, goes, stays, stuck, counted_action}
 use Rattle.herm_forms.specs.Weights.{weight_made, weight_accounted, weight_sent}
 use Rattle.herm_forms.proofs.Balance.{Balanced, AllBalanced}
@@ -130,8 +130,8 @@ module _ (w : Name → ℕ) (name : Name → Name) where
       let b : Frame Name = counted_action (record (s.frame) { work = work }) in
       let front : s.frame.work ≡ item ∷ work = front-is s.frame.work (call_or_piece c s.position s.frame.call) item work (call-not_item c s.position s.frame.call) is in
       let whole : load_all w weightless s.frame.work ≡ load w weightless item + load_all w weightless work = ap (load_all w weightless) front in
-      let done = as-all m k 0 (Exchanges.work_done item action b) (kept-work_done w weightless name spared m k item action b (omega arith)) in
-      let e = is-worked m k s t (Exchanges.work_done item action b) done settles in
+      let done = as-all m k 0 (ClosesAndAnswers.work_done item action b) (kept-work_done w weightless name spared m k item action b (omega arith)) in
+      let e = is-worked m k s t (ClosesAndAnswers.work_done item action b) done settles in
       omega (arith, item-goes w weightless name item s.frame want action wants)
   is-answer c s t want at action (a_reply call i instruction) is wants settles =
       let m = weight_made w name s.frame in

@@ -17,7 +17,7 @@ use Rattle.herm_forms.specs.Evaluate.{scalar_then, two_then, operate, gives, val
 use Rattle.herm_forms.specs.Exchanges
 use Rattle.herm_forms.specs.Excess.{excess_over_full}
 use Rattle.herm_forms.specs.Forms
-use Rattle.herm_forms.specs.Forms.{next_row, rows_for}
+use Rattle.herm_forms.specs.LoopForms.{next_row, rows_for}
 use Rattle.herm_forms.specs.Frames.{Name, Frame, Completion, goes, stays, stuck, copying_parts, counted_action}
 use Rattle.herm_forms.proofs.Balance.{Balanced, AllBalanced, balanced-if_there, balanced-drop, balanced-copying_parts}
 use Rattle.herm_forms.proofs.Begun.{port_load, call_load, back_load, source_load}

@@ -8,7 +8,8 @@ use Rattle.herm_model.specs.Values.{parts_of, read_at, Value}
 use Rattle.herm_journal.specs.Messages.{CellAction}
 use Rattle.herm_forms.specs.Evaluate.{scalar_then, two_then, operate, gives, value_there, rows_there}
 use Rattle.herm_forms.specs.Frames.{Name, Loop, Frame, Completion, putting}
-use Rattle.herm_forms.specs.Forms.{change_rows, rows_for}
+use Rattle.herm_forms.specs.InsertForm.{change_rows}
+use Rattle.herm_forms.specs.LoopForms.{rows_for}
 use Rattle.herm_forms.specs.Callmessages.{Composed}
 use Rattle.herm_forms.specs.Excess.{excess_over_full}
 use Rattle.herm_forms.specs.Acts.{key_at, given_back, given_at}

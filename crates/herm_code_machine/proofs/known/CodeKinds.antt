@@ -7,7 +7,7 @@ use Rattle.herm_model.proofs.Options.{none-not_some, some-injective, chain-some}
 use Rattle.herm_journal.specs.Messages.{CellWant, CellAction}
 use Rattle.herm_journal.specs.Kinds.{HasKinds, HaveKinds, AllKinds, IfWant, ActionKinds}
 use Rattle.herm_forms.specs.Evaluate.{Evaluated, gives, raises, no_value}
-use Rattle.herm_forms.specs.Exchanges
+use Rattle.herm_forms.specs.ClosesAndAnswers
 use Rattle.herm_forms.specs.Frames.{Name, Frame, Completion, goes, stays, stuck, counted_action}
 use Rattle.herm_forms.proofs.known.HeldKinds.{gaps-kinds}
 use Rattle.herm_forms.proofs.known.KindsKept.{AllowsPlain, GivesKinds, BodyKinds, atom-kinds, is-arrive}
@@ -129,7 +129,7 @@ module _ {N : Type 0} (name : Name → N) (of : Kind → Type 0) (allows : Allow
   is-answer : (c : ReadyCode) (s t : CodeState N) (at : ℕ) (a : CellAction N) (next : CodeNext N) → NextKinds next → ActionKinds of a → StateKinds s → settle_next name c s at a next ≡ Some t → StateKinds t
   is-answer c s t at a (an_item item work) n g e is =
       let b : Frame N = counted_action (record (s.frame) { work = work }) in
-      is-worked s t (Exchanges.work_done item a b) e.1 (work-kinds name of allows item a b n.0 g (e.0.0, e.0.1, n.1, e.0.3)) is
+      is-worked s t (ClosesAndAnswers.work_done item a b) e.1 (work-kinds name of allows item a b n.0 g (e.0.0, e.0.1, n.1, e.0.3)) is
   is-answer c s t at a (a_reply call i instruction) n g e is =
       let k = is-settled name c (AllKinds of) (BodyKinds of) (keeps c) s t i instruction s.stack (code_hears instruction call a (counted_action s.frame)) e.1 (hears-kinds name of allows instruction call a (counted_action s.frame) g e.0) is in (k.0, k.1)
   is-answer c s t at a (an_action p m) n g e is =

@@ -5,7 +5,7 @@ use Rattle.herm_model.specs.Outcomes.{ok}
 use Rattle.herm_model.specs.Expressions.{Literal, Expression, Atom}
 use Rattle.herm_model.specs.Statements.{Form}
 use Rattle.herm_model.specs.Tables.{without_part}
-use Rattle.herm_model.specs.Texts.{signed_numeral}
+use Rattle.herm_model.specs.ValueTexts.{signed_numeral}
 use Rattle.herm_model.specs.Values.{Scalar, an_integer, a_text, a_boolean, Kind, Cell, Parts, parts_of, cell_at, read_at, Value}
 use Rattle.herm_journal.specs.Actions.{values}
 use Rattle.herm_journal.specs.Actions
@@ -17,7 +17,8 @@ use Rattle.herm_forms.specs.Callmessages.{caller_of}
 use Rattle.herm_forms.specs.Evaluate.{Evaluated, gives, raises, no_value, scalar_then, two_then, operate, value_there, rows_there}
 use Rattle.herm_forms.specs.Exchanges.{outport_at, inport_at, ports_at}
 use Rattle.herm_forms.specs.Excess.{excess_over_full}
-use Rattle.herm_forms.specs.Forms.{change_rows, rows_for}
+use Rattle.herm_forms.specs.InsertForm.{change_rows}
+use Rattle.herm_forms.specs.LoopForms.{rows_for}
 use Rattle.herm_forms.specs.Frames.{Name, Frame, Completion, goes, stays, stuck, drop, putting}
 use Rattle.herm_forms.proofs.known.HeldKinds.{cell-kinds, read-kinds, parts-kinds, without-kinds}
 use Rattle.herm_forms.proofs.known.KindsKept.{AllowsPlain, IfParts, Gives, GivesKinds, BodyKinds, All, went, stayed, never, scalar-kinds, scalar-then, two-then, boolean-then, integer-then, text-then, within-bits, operated, evaluate-kinds_from, atom-kinds, is-drop, is-leave, is-rows, all-there, all-cell, all-putting, all-copying, all-copying_parts, all-new_value, all-wrap, all-finding, all-next_row, all-tested, rows-for}
@@ -179,5 +180,5 @@ module _ {N : Type 0} (name : Name → N) (of : Kind → Type 0) (allows : Allow
   hears-kinds (Call o arguments keep) call a b g e = as-all _ (all-hear_call name of allows (returned arguments) (outs arguments) (kept_paths arguments keep) (left_paths arguments keep) call a b g e)
   hears-kinds _ call a b g e = tt
 
-  pub work-kinds : (item : Cell N) (a : CellAction N) (b : Frame N) → HasKinds of item → ActionKinds of a → BodyKinds of b → AllOf (BodyKinds of) (Rattle.herm_forms.specs.Exchanges.work_done item a b)
+  pub work-kinds : (item : Cell N) (a : CellAction N) (b : Frame N) → HasKinds of item → ActionKinds of a → BodyKinds of b → AllOf (BodyKinds of) (Rattle.herm_forms.specs.ClosesAndAnswers.work_done item a b)
   work-kinds item a b h g e = as-all _ (KindsExchanged.all-work name of allows item a b h g e)

@@ -9,7 +9,7 @@ use Rattle.herm_model.specs.CellNames.{rename, rename_in}
 use Rattle.herm_model.proofs.Renaming.{gaps-rename}
 use Rattle.herm_journal.specs.Messages.{CellWant, CellAction}
 use Rattle.herm_journal.specs.Renaming.{rename_want, rename_action}
-use Rattle.herm_forms.specs.Exchanges
+use Rattle.herm_forms.specs.ClosesAndAnswers
 use Rattle.herm_forms.specs.Frames.{Name, Frame, Completion, goes, stays, stuck, counted_action}
 use Rattle.herm_forms.specs.Renaming.{rename_body}
 use Rattle.herm_forms.proofs.renamed.RenamedBodies.{rename_result}
@@ -216,7 +216,7 @@ module _ {N M : Type 0} (f : N → M) (name : Name → N) where
       → settle_next other c (rename_code f s) at (rename_action f action) (rename_next next) ≡ option_map (rename_code f) (settle_next name c s at action next)
   settle_next-renamed c s at action (an_item item work) =
       let b : Frame N = counted_action (record (s.frame) { work = work }) in
-      ap (worked (rename_code f s)) (work_done-renamed f item action b) ∙ worked-renamed s (Exchanges.work_done item action b)
+      ap (worked (rename_code f s)) (work_done-renamed f item action b) ∙ worked-renamed s (ClosesAndAnswers.work_done item action b)
   settle_next-renamed c s at action (a_reply call i instruction) =
       ap (settled other c (rename_code f s) i instruction s.stack) (code_hears-renamed f name instruction call action (counted_action s.frame))
       ∙ settled-renamed c s i instruction s.stack (code_hears instruction call action (counted_action s.frame))

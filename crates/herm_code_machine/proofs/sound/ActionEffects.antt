@@ -11,7 +11,7 @@ use Rattle.herm_model.specs.Targets.{end}
 use Rattle.herm_model.specs.Expressions.{Literal}
 use Rattle.herm_model.specs.Outcomes.{Outcome, ok, arm, arms_from, exceptions, normal_outcomes, outcomes}
 use Rattle.herm_model.specs.Statements.{Form, Arm, Differ}
-use Rattle.herm_model.specs.StatementTable.{Row, row, closed, needs}
+use Rattle.herm_model.specs.FactsOfStatements.{Row, row, closed, needs}
 use Rattle.herm_model.specs.TypedExpressions.{IsLiteralOf}
 use Rattle.herm_model.specs.TypedStatements.{IsTypedForm}
 use Rattle.herm_model.specs.Values.{Cell, Value}

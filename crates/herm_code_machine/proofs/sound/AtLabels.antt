@@ -5,7 +5,7 @@ use Rattle.herm_model.specs.Lists.{IsIn, any_pass}
 use Rattle.herm_model.specs.Paths.{Fact, same_fact}
 use Rattle.herm_model.specs.Outcomes.{Outcome, ok, is_true, is_false, turn, done, component, arm, raised, outcomes}
 use Rattle.herm_model.specs.Statements.{Form, Differ}
-use Rattle.herm_model.specs.StatementTable.{needs}
+use Rattle.herm_model.specs.FactsOfStatements.{needs}
 use Rattle.herm_model.specs.Values.{Value}
 use Rattle.herm_journal.specs.Messages.{AreFull}
 use Rattle.herm_forms.specs.Acts.{is_action, act}

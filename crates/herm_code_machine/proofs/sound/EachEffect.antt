@@ -11,7 +11,7 @@ use Rattle.herm_model.specs.Targets.{end}
 use Rattle.herm_model.specs.Expressions.{Literal, Operator, logical_or, logical_and, equal, unequal, less, at_most, greater, at_least, plus, minus, times, divided, modulo, concatenated, Expression, is_arithmetic, is_joining}
 use Rattle.herm_model.specs.Outcomes.{Outcome, ok, is_true, is_false, component, raised, exceptions, normal_outcomes, outcomes}
 use Rattle.herm_model.specs.Statements.{Form, Differ, Process}
-use Rattle.herm_model.specs.StatementTable.{Row, row, closed, full, room_for}
+use Rattle.herm_model.specs.FactsOfStatements.{Row, row, closed, full, room_for}
 use Rattle.herm_model.specs.Typed.{IsFull}
 use Rattle.herm_model.specs.TypedExpressions.{HasShape, IsLiteralOf, shape_given}
 use Rattle.herm_model.specs.TypedStatements.{IsTypedForm}

@@ -15,7 +15,7 @@ use Rattle.herm_journal.specs.Actions.{gone, to_close, to_answer, make_port, mak
 use Rattle.herm_journal.specs.Messages.{CellWant, CellAction, CellReply, AreFull, IsMessage}
 use Rattle.herm_system.specs.Machines.{OpenCall, is_acting, local}
 use Rattle.herm_system.specs.Suiting.{Answers, Suits}
-use Rattle.herm_forms.specs.Exchanges
+use Rattle.herm_forms.specs.ClosesAndAnswers
 use Rattle.herm_forms.specs.Frames.{Frame, Completion, goes, stays, stuck, counted_action}
 use Rattle.herm_forms.specs.Incoming.{leads_from}
 use Rattle.herm_forms.proofs.KeptBodies.{LetsGo, All, stayed, all-work}
@@ -71,9 +71,9 @@ module _ (b : Frame Name) where
   }
 
 pub worked-sound : (c : ReadyCode) (s t : CodeState Name) (item : Cell Name) (work : List (Cell Name)) (a : CellAction Name) → IsLocallySoundCode c s → s.frame.work ≡ item ∷ work
-    → worked s (Exchanges.work_done item a (counted_action (record (s.frame) { work = work }))) ≡ Some t → IsLocallySoundCode c t × (t.frame.call ≡ s.frame.call) × (t.module_number ≡ s.module_number) × (t.position ≡ s.position)
+    → worked s (ClosesAndAnswers.work_done item a (counted_action (record (s.frame) { work = work }))) ≡ Some t → IsLocallySoundCode c t × (t.frame.call ≡ s.frame.call) × (t.module_number ≡ s.module_number) × (t.position ≡ s.position)
 worked-sound c s t item work a sound front is =
-    by (Exchanges.work_done item a (counted_action (record (s.frame) { work = work })))
+    by (ClosesAndAnswers.work_done item a (counted_action (record (s.frame) { work = work })))
     (all-work (OnlyWorks s.frame) (only-lets s.frame) item a (counted_action (record (s.frame) { work = work })) ((λ x h. sound.work x (subst (IsIn x) (sym front) (inr h))), refl, refl, refl)) is
   where
     by : (r : Completion Name) → All (OnlyWorks s.frame) (OnlyWorks s.frame) r → worked s r ≡ Some t → IsLocallySoundCode c t × (t.frame.call ≡ s.frame.call) × (t.module_number ≡ s.module_number) × (t.position ≡ s.position)
@@ -83,7 +83,7 @@ worked-sound c s t item work a sound front is =
     by stuck h is = none-not_some is
 
 -- the front of a work list wants to be finalised, and takes the answer
-pub item-wants : (item : Cell Name) → WaitsAlone item → (w : CellWant Name) × (Exchanges.work_wants item ≡ Some w)
+pub item-wants : (item : Cell Name) → WaitsAlone item → (w : CellWant Name) × (ClosesAndAnswers.work_wants item ≡ Some w)
 item-wants (cell n (an_inport port) no_parts) h = (to_close port, refl)
 item-wants (cell n (a_callmessage caller call) no_parts) h = (to_answer caller call gone, refl)
 item-wants (cell n k no_parts) h = not_true h
@@ -93,15 +93,15 @@ item-wants (cell n k (part d ps)) h = absurd h
 abbrev IsThere : CodeState Name → Completion Name → Type 0
 IsThere s r = (t : CodeState Name) × (worked s r ≡ Some t)
 
-closing : (s : CodeState Name) (item : Cell Name) (port : ℕ) (a : CellAction Name) (b : Frame Name) → Answers {M = Cell Name} {R = CellReply Name} (to_close port) a → IsThere s (Exchanges.work_done item a b)
+closing : (s : CodeState Name) (item : Cell Name) (port : ℕ) (a : CellAction Name) (b : Frame Name) → Answers {M = Cell Name} {R = CellReply Name} (to_close port) a → IsThere s (ClosesAndAnswers.work_done item a b)
 closing s item port (close count left) b h = (_, refl)
 closing s item port a b h = absurd h
 
-answering : (s : CodeState Name) (item : Cell Name) (caller call : ℕ) (r : CellReply Name) (a : CellAction Name) (b : Frame Name) → Answers {M = Cell Name} (to_answer caller call r) a → IsThere s (Exchanges.work_done item a b)
+answering : (s : CodeState Name) (item : Cell Name) (caller call : ℕ) (r : CellReply Name) (a : CellAction Name) (b : Frame Name) → Answers {M = Cell Name} (to_answer caller call r) a → IsThere s (ClosesAndAnswers.work_done item a b)
 answering s item caller call r (answer k v) b h = (_, refl)
 answering s item caller call r a b h = absurd h
 
-pub item-answered : (s : CodeState Name) (item : Cell Name) (w : CellWant Name) (a : CellAction Name) (b : Frame Name) → Exchanges.work_wants item ≡ Some w → Answers w a → IsThere s (Exchanges.work_done item a b)
+pub item-answered : (s : CodeState Name) (item : Cell Name) (w : CellWant Name) (a : CellAction Name) (b : Frame Name) → ClosesAndAnswers.work_wants item ≡ Some w → Answers w a → IsThere s (ClosesAndAnswers.work_done item a b)
 item-answered s (cell n (an_inport port) ps) w a b e h = closing s (cell n (an_inport port) ps) port a b (subst (λ w. Answers w a) (sym (some-injective e)) h)
 item-answered s (cell n (a_callmessage caller call) ps) w a b e h = answering s (cell n (a_callmessage caller call) ps) caller call gone a b (subst (λ w. Answers w a) (sym (some-injective e)) h)
 item-answered s (cell n k ps) w a b e h = none-not_some e

@@ -10,7 +10,7 @@ use Rattle.herm_model.specs.Types.{TypeTable, Shape, boolean, integer, text, nam
 use Rattle.herm_model.specs.Expressions.{Literal, Atom, paths_among}
 use Rattle.herm_model.specs.Outcomes.{Outcome}
 use Rattle.herm_model.specs.Statements.{Form}
-use Rattle.herm_model.specs.StatementTable.{row, room_for, present, full, full_of_each, at_ok}
+use Rattle.herm_model.specs.FactsOfStatements.{row, room_for, present, full, full_of_each, at_ok}
 use Rattle.herm_model.specs.TypedExpressions.{HasShape, IsLiteralOf, is_scalar_shape}
 use Rattle.herm_model.specs.TypedStatements.{IsTableOf}
 use Rattle.herm_model.specs.Values.{Scalar, a_boolean, an_integer, a_text, a_tag, Parts, Value}

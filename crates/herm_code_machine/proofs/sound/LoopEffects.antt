@@ -9,7 +9,7 @@ use Rattle.herm_model.specs.CellNames.{count_in, copy_in, rename_in}
 use Rattle.herm_model.specs.Expressions.{Literal}
 use Rattle.herm_model.specs.Outcomes.{Outcome, ok, turn, done}
 use Rattle.herm_model.specs.Statements.{Form, Differ}
-use Rattle.herm_model.specs.StatementTable.{present, room_for}
+use Rattle.herm_model.specs.FactsOfStatements.{present, room_for}
 use Rattle.herm_model.specs.Typed.{many, Fits}
 use Rattle.herm_model.specs.TypedStatements.{IsTarget}
 use Rattle.herm_model.specs.TypedExpressions.{IsLiteralOf}
@@ -20,7 +20,7 @@ use Rattle.herm_model.proofs.Lists.{in-map, in-map_from, in-filter_from}
 use Rattle.herm_model.proofs.Options.{none-not_some}
 use Rattle.herm_model.proofs.Typing.{renamed-Fits, Fits-renamed}
 use Rattle.herm_model.proofs.Renaming.{rename-copy_in, copy_in-constant}
-use Rattle.herm_forms.specs.Forms.{rows_for, set_rows, next_row}
+use Rattle.herm_forms.specs.LoopForms.{rows_for, set_rows, next_row}
 use Rattle.herm_forms.specs.Frames.{Name, Loop, Frame, goes, stuck, if_there, finalise_parts, put}
 use Rattle.herm_forms.specs.LeavingLoops.{finalise_loops}
 use Rattle.herm_forms.specs.laws.EdgeLaws.{AreDeep, AreSound, held_after}

@@ -1,7 +1,7 @@
 -- How the run of an image by rounds ends, and with what text.
 use Rattle.std.specs.Prelude.{ℕ, List, [], ◌∷◌, flat_map, Option, option_map, codes}
 use Rattle.herm_model.specs.Values.{Name}
-use Rattle.herm_journal.specs.PlaceStates.{Limits}
+use Rattle.herm_journal.specs.Books.{Limits}
 use Rattle.herm_journal.specs.Entries.{Text}
 use Rattle.herm_system.specs.Systems.{Run, start}
 use Rattle.herm_system.specs.Rounds.{rounds}

@@ -12,7 +12,7 @@ use Rattle.herm_journal.specs.Messages.{CellAction}
 use Rattle.herm_forms.specs.Acts.{act, wants, settle}
 use Rattle.herm_forms.specs.Evaluate.{gives, evaluate, key_values}
 use Rattle.herm_forms.specs.Excess.{excess_over_declared}
-use Rattle.herm_forms.specs.Forms.{rows_for}
+use Rattle.herm_forms.specs.LoopForms.{rows_for}
 use Rattle.herm_forms.specs.Frames.{Name, Frame, Completion, goes}
 use Rattle.herm_instructions.specs.Instructions.{Choice, Instruction, Store, JumpFalse, Move, New, Discard, Unite, Dissolve, Reveal, CaseOf, Wrap, Unwrap, Insert, Remove, Get, LoopNext, Connect, Send, Receive, Select, Return, ReturnBy, Create, Raise}
 use Rattle.herm_instructions.specs.Effects.{arm_of}

@@ -3,7 +3,7 @@ use Rattle.std.specs.Prelude.{List, Bool, IsTrue, ◌≡◌}
 use Rattle.herm_model.specs.Lists.{IsIn}
 use Rattle.herm_model.specs.Outcomes.{Outcome}
 use Rattle.herm_model.specs.Paths.{Fact}
-use Rattle.herm_model.specs.StatementTable.{needs}
+use Rattle.herm_model.specs.FactsOfStatements.{needs}
 use Rattle.herm_model.specs.Statements.{Form}
 use Rattle.herm_model.specs.Values.{Value}
 use Rattle.herm_forms.specs.Frames.{Name, Frame, goes}

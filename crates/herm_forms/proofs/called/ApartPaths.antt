@@ -7,7 +7,7 @@ use Rattle.herm_model.specs.Lists.{IsIn, any_pass, list_of}
 use Rattle.herm_model.specs.Paths.{Path, Fact, init, path_of, same_fact, is_at_or_below, are_apart}
 use Rattle.herm_model.specs.Types.{TypeTable, type_at, passes_component, full_parts, part_paths}
 use Rattle.herm_model.specs.Facts.{facts_to, prefixes, with_prefixes, full_facts}
-use Rattle.herm_model.specs.StatementTable.{full, closed}
+use Rattle.herm_model.specs.FactsOfStatements.{full, closed}
 use Rattle.herm_model.proofs.Lists.{and-both, both-and, or-either, in-append_cases, in-append_left, in-append_right, in-flat_map, in-flat_map_from, in-map_from}
 use Rattle.herm_model.proofs.Beginnings.{below-self, above-longer, below-trans}
 use Rattle.herm_model.proofs.FactTests.{listed-IsIn, IsIn-listed}

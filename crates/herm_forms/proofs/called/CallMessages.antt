@@ -10,7 +10,7 @@ use Rattle.herm_model.specs.Expressions.{Atom}
 use Rattle.herm_model.specs.Statements.{Call}
 use Rattle.herm_model.specs.TypedStatements.{AreApart}
 use Rattle.herm_model.specs.Calls.{inport_at, message_type, parameters_of, call_parameters, is_given}
-use Rattle.herm_model.specs.StatementTable.{needs, room_for, present, full, full_of_each, given, set_by_call}
+use Rattle.herm_model.specs.FactsOfStatements.{needs, room_for, present, full, full_of_each, given, set_by_call}
 use Rattle.herm_model.specs.Values.{a_callmessage, Cell, cell, Parts, no_parts, gap, part, has_value, Value}
 use Rattle.herm_model.specs.CellNames.{count, count_in, copy_from, copy_in}
 use Rattle.herm_model.specs.Typed.{whole, exactly, unfit, parameter_content, layout, is_bounded, Fits, IsFull}

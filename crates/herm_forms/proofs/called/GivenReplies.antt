@@ -7,7 +7,7 @@ use Rattle.herm_model.specs.Types.{TypeTable, callmessage, Parameter, Raised, na
 use Rattle.herm_model.specs.Facts.{full_facts}
 use Rattle.herm_model.specs.Calls.{shape_at, parameters_of, raises_of, returned_places, kept_for, is_returned}
 use Rattle.herm_model.specs.Statements.{Return, ReturnBy}
-use Rattle.herm_model.specs.StatementTable.{present, full, full_of_each, returned, returned_by, needs}
+use Rattle.herm_model.specs.FactsOfStatements.{present, full, full_of_each, returned, returned_by, needs}
 use Rattle.herm_model.specs.Values.{Cell, cell_at}
 use Rattle.herm_model.specs.Typed.{IsFull}
 use Rattle.herm_model.specs.Finalising.{clear_all}

@@ -8,7 +8,7 @@ use Rattle.herm_model.specs.Lists.{IsIn, same_numbers, any_pass}
 use Rattle.herm_model.specs.Paths.{Path, Fact, path_of, same_path, same_fact, is_at_or_below, are_apart}
 use Rattle.herm_model.specs.Types.{type_at, is_within_depth, greatest_depth}
 use Rattle.herm_model.specs.Statements.{Call}
-use Rattle.herm_model.specs.StatementTable.{full, full_of_each, closed, kept_by_call}
+use Rattle.herm_model.specs.FactsOfStatements.{full, full_of_each, closed, kept_by_call}
 use Rattle.herm_model.specs.Outcomes.{Outcome, ok, raised}
 use Rattle.herm_model.specs.Values.{Cell, cell_at, has_place, put_at}
 use Rattle.herm_model.specs.Typed.{IsFull}

@@ -9,7 +9,7 @@ use Rattle.herm_model.specs.Facts.{full_facts}
 use Rattle.herm_model.specs.Expressions.{Atom, literal, path}
 use Rattle.herm_model.specs.Calls.{call_parameters, call_raises, kept_for, is_returned, arguments_by, argument_path}
 use Rattle.herm_model.specs.Statements.{Call}
-use Rattle.herm_model.specs.StatementTable.{full_of_each, closed, set_by_call}
+use Rattle.herm_model.specs.FactsOfStatements.{full_of_each, closed, set_by_call}
 use Rattle.herm_model.specs.Outcomes.{Outcome, raised, disconnected}
 use Rattle.herm_model.specs.Values.{Cell, Parts, cell_at}
 use Rattle.herm_model.specs.CellNames.{copy_in, count_in}

@@ -6,7 +6,7 @@ use Rattle.herm_model.specs.Paths.{Path, Fact, path_of, is_at_or_below}
 use Rattle.herm_model.specs.Types.{type_at}
 use Rattle.herm_model.specs.Facts.{full_facts}
 use Rattle.herm_model.specs.Statements.{Form, Return, ReturnBy}
-use Rattle.herm_model.specs.StatementTable.{parameters_at}
+use Rattle.herm_model.specs.FactsOfStatements.{parameters_at}
 use Rattle.herm_model.specs.Calls.{shape_at, parameters_of, raises_of, returned_places, kept_for}
 use Rattle.herm_model.specs.Outcomes.{Outcome, ok}
 use Rattle.herm_model.specs.Values.{Cell, cell, cell_at, clear_at}

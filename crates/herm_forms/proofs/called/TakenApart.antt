@@ -5,7 +5,7 @@ use Rattle.herm_model.specs.Lists.{IsIn, list_of}
 use Rattle.herm_model.specs.Paths.{Path, Fact}
 use Rattle.herm_model.specs.Types.{type_at, is_within_depth, greatest_depth}
 use Rattle.herm_model.specs.Facts.{full_facts}
-use Rattle.herm_model.specs.StatementTable.{full, full_of_each}
+use Rattle.herm_model.specs.FactsOfStatements.{full, full_of_each}
 use Rattle.herm_model.specs.Values.{Cell, cell_at}
 use Rattle.herm_model.specs.Typed.{IsFull}
 use Rattle.herm_model.specs.Finalising.{clear_all}

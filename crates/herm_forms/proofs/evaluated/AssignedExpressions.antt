@@ -8,7 +8,7 @@ use Rattle.herm_model.specs.Facts.{facts_to}
 use Rattle.herm_model.specs.Expressions.{Expression, literal, copy, negation, logical_not, operation, size_of, decimal, length_of, paths_read}
 use Rattle.herm_model.specs.TypedExpressions.{IsPathOf, IsTyped}
 use Rattle.herm_model.specs.Statements.{Assign, If}
-use Rattle.herm_model.specs.StatementTable.{room_for, full, full_of_each}
+use Rattle.herm_model.specs.FactsOfStatements.{room_for, full, full_of_each}
 use Rattle.herm_model.specs.Values.{Cell, Parts, read_at}
 use Rattle.herm_model.specs.FactsOfValues.{satisfies}
 use Rattle.herm_model.specs.Typed.{whole, HasType}

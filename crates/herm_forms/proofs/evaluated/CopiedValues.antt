@@ -6,7 +6,7 @@ use Rattle.herm_model.specs.Lists.{IsIn, all_pass, map_or, list_of}
 use Rattle.herm_model.specs.Paths.{Path, Fact, init}
 use Rattle.herm_model.specs.Types.{TypeTable, Shape, fields, callmessage, named_types, part_type, part_of, type_below, type_at, is_variant, enters_component, passes_component, full_parts, held_parts, IsPartPath, part_paths, is_within_depth, greatest_depth}
 use Rattle.herm_model.specs.Copyable.{is_plain, is_composed, IsCopyable, plain, composed}
-use Rattle.herm_model.specs.StatementTable.{full}
+use Rattle.herm_model.specs.FactsOfStatements.{full}
 use Rattle.herm_model.specs.Values.{Cell, Parts, no_parts, part, part_at, readable_of, cell_at, read_at, has_value}
 use Rattle.herm_model.specs.Typed.{whole, partly, HasType, HaveTypes, IsFull}
 use Rattle.herm_model.proofs.Lists.{in-map, not_true, every-in}

@@ -4,7 +4,7 @@ use Rattle.std.proofs.lemmas.Bool.{le-leb, leb-true, ltb-true}
 use Rattle.std.specs.Fmt.{digit_glyph, digits_onto}
 use Rattle.herm_model.specs.Lists.{all_pass}
 use Rattle.herm_model.specs.Typed.{is_integer, is_text, is_text_byte, greatest_text}
-use Rattle.herm_model.specs.Texts.{digit_bound, numeral, signed_numeral, is_digit}
+use Rattle.herm_model.specs.ValueTexts.{digit_bound, numeral, signed_numeral, is_digit}
 use Rattle.herm_model.proofs.Lists.{and-both, both-and, or-left}
 use Rattle.herm_model.proofs.Numerals.{AreDigits, numeral-digits}
 

@@ -4,7 +4,7 @@ use Rattle.std.specs.Prelude.{IsTrue, ⊤, not, ◌+ℤ◌, ◌-ℤ◌, ◌*ℤ�
 use Rattle.herm_model.specs.Lists.{IsIn}
 use Rattle.herm_model.specs.Expressions.{Operator, logical_or, logical_and, equal, unequal, less, at_most, greater, at_least, plus, minus, times, divided, modulo, concatenated, Expression, literal, copy, negation, logical_not, operation, size_of, decimal, length_of, is_arithmetic, is_joining, can_overflow, can_deplete}
 use Rattle.herm_model.specs.Outcomes.{overflow, depletion, raised_by}
-use Rattle.herm_model.specs.Texts.{signed_numeral}
+use Rattle.herm_model.specs.ValueTexts.{signed_numeral}
 use Rattle.herm_model.specs.Tables.{same_integer}
 use Rattle.herm_model.specs.Typed.{is_integer, greatest_text}
 use Rattle.herm_model.specs.Values.{Scalar, a_boolean, an_integer, a_text, a_tag, a_scalar, a_record, a_variant, a_table, a_polymorph, a_callmessage, an_inport, an_outport, Cell, cell, Parts, read_at, Value}

@@ -11,7 +11,7 @@ use Rattle.herm_model.specs.Tables.{same_integer, has_distinct_keys}
 use Rattle.herm_model.specs.Typed.{is_integer, is_text, is_text_byte, greatest_text, greatest_rows, whole, unfit, leaf_if, layout, is_bounded, Fits, HasType, IsFull}
 use Rattle.herm_model.specs.Outcomes.{overflow, depletion}
 use Rattle.herm_model.proofs.Lists.{not_true, and-both, both-and}
-use Rattle.herm_model.specs.Texts.{signed_numeral}
+use Rattle.herm_model.specs.ValueTexts.{signed_numeral}
 use Rattle.herm_forms.specs.Frames.{Name}
 use Rattle.herm_forms.specs.Modules.{Module}
 use Rattle.herm_forms.specs.Evaluate.{Evaluated, gives, raises, no_value, scalar_value, gives_scalar, gives_boolean, scalar_then, one_then, two_then, boolean_then, integer_then, text_then, within_bits, by_divisor, within_length, compared, on_booleans, on_integers, on_texts, operate, scalar_of, rows_there}

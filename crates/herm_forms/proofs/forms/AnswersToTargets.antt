@@ -6,7 +6,7 @@ use Rattle.herm_model.specs.Lists.{any_pass, list_of}
 use Rattle.herm_model.specs.Paths.{Path, Fact, init, path_of, same_fact, is_at_or_below}
 use Rattle.herm_model.specs.Types.{inport, outport, type_at}
 use Rattle.herm_model.specs.Statements.{Form, Arm, New, Create, Select}
-use Rattle.herm_model.specs.StatementTable.{closed, received_from}
+use Rattle.herm_model.specs.FactsOfStatements.{closed, received_from}
 use Rattle.herm_model.specs.Outcomes.{Outcome, ok, arm, raised, depletion}
 use Rattle.herm_model.specs.Values.{an_inport, an_outport, Cell, cell, no_parts, has_place}
 use Rattle.herm_model.proofs.NothingThere.{nothing-there}

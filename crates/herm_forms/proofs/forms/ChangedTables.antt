@@ -13,7 +13,7 @@ use Rattle.herm_model.proofs.Options.{map-some, some-injective}
 use Rattle.herm_model.proofs.FullFacts.{type_of}
 use Rattle.herm_model.proofs.Places.{cell_below, cell-below, read_below, read-below, part_at-change_same, part_at-change_other, change_behind_same}
 use Rattle.herm_forms.specs.Frames.{Name}
-use Rattle.herm_forms.specs.Forms.{with_parts}
+use Rattle.herm_forms.specs.InsertForm.{with_parts}
 use Rattle.herm_forms.specs.Modules.{Module}
 use Rattle.herm_forms.specs.laws.EdgeLaws.{AreSound}
 use Rattle.herm_forms.proofs.forms.ReadTypes.{behind-there, variant-component}

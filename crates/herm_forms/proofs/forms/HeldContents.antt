@@ -9,7 +9,7 @@ use Rattle.herm_model.specs.Lists.{IsIn, any_pass}
 use Rattle.herm_model.specs.Paths.{Path, Fact, init, case, path_of, same_fact, is_at_or_below}
 use Rattle.herm_model.specs.Types.{cases, polymorph, type_at, is_within_depth, greatest_depth}
 use Rattle.herm_model.specs.Statements.{Form, Unite, Wrap}
-use Rattle.herm_model.specs.StatementTable.{full, room_for, closed, needs}
+use Rattle.herm_model.specs.FactsOfStatements.{full, room_for, closed, needs}
 use Rattle.herm_model.specs.Outcomes.{Outcome, ok, raised, depletion}
 use Rattle.herm_model.specs.Values.{a_variant, a_polymorph, Cell, cell, Parts, no_parts, part, has_value, cell_at, has_place, put_at, polymorph_depth}
 use Rattle.herm_model.specs.FactsOfValues.{is_component, satisfies}

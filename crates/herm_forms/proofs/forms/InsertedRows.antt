@@ -6,7 +6,7 @@ use Rattle.herm_model.specs.Lists.{IsIn, numbered, list_of}
 use Rattle.herm_model.specs.Paths.{Fact, path_of, is_at_or_below}
 use Rattle.herm_model.specs.Types.{TypeTable, Shape, fields, rows, type_at, held_parts, full_parts, IsPartPath, is_within_depth, greatest_depth}
 use Rattle.herm_model.specs.Statements.{Insert}
-use Rattle.herm_model.specs.StatementTable.{full, present}
+use Rattle.herm_model.specs.FactsOfStatements.{full, present}
 use Rattle.herm_model.specs.Outcomes.{Outcome, ok, raised, depletion, duplicate_key}
 use Rattle.herm_model.specs.Values.{Cell, cell, a_table, Parts, no_parts, gap, part, part_at, parts_of, inside, size, joined, cell_at, read_at, clear_at}
 use Rattle.herm_model.specs.Tables.{scalars_of, key_of, has_key, has_distinct_keys}
@@ -17,8 +17,9 @@ use Rattle.herm_model.proofs.Keys.{distinct-joined}
 use Rattle.herm_model.proofs.FullFacts.{leads-full}
 use Rattle.herm_model.proofs.Options.{some-injective}
 use Rattle.herm_forms.specs.Frames.{Name, Frame, goes, if_there, reading}
-use Rattle.herm_forms.specs.Forms
-use Rattle.herm_forms.specs.Forms.{moving, change_rows, add_row}
+use Rattle.herm_forms.specs.InsertForm
+use Rattle.herm_forms.specs.Forms.{moving}
+use Rattle.herm_forms.specs.InsertForm.{change_rows, add_row}
 use Rattle.herm_forms.specs.Excess.{excess_over_full}
 use Rattle.herm_forms.specs.Modules.{Module}
 use Rattle.herm_forms.specs.Acts.{key_fields}
@@ -129,7 +130,7 @@ module _ (c : Module) (i : ℕ) (q : List ℕ) (j : ℕ) (r : List ℕ) (row u :
   tested d0 at0 t0 read0 o b' false e false f is = goes-sound c (Insert (i ∷ q) (j ∷ r)) has has b sound (raised depletion) (λ f. refl) o b' is
   tested d0 at0 t0 read0 o b' false e true f is = inserting d0 at0 t0 read0 e f o b' is
 
-  inserted : (o : Outcome) (b' : Frame Name) → Forms.insert key (excess_over_full c (i ∷ q) b) (i ∷ q) (j ∷ r) b ≡ goes o b' → Goal o b'
+  inserted : (o : Outcome) (b' : Frame Name) → InsertForm.insert key (excess_over_full c (i ∷ q) b) (i ∷ q) (j ∷ r) b ≡ goes o b' → Goal o b'
   inserted o b' is = by (cell_at (i ∷ q) b.variables) refl is
     where
       with_table : (d0 : Cell Name) → cell_at (i ∷ q) b.variables ≡ Some d0 → (y : Option (Cell Name)) → read_at (j ∷ r) b.variables ≡ y
@@ -154,4 +155,4 @@ pub rows-inserted : (c : Module) → RowsAreInserted c
 rows-inserted c i q j r row u key ts table shape record' source deep name s has b b' o sound there is =
     inserted c i q j r row u key ts table shape record' source deep has b sound
     (λ f h. there f (in-closed c.types c.variables (full c.types c.variables (i ∷ q) ++ present c.types c.variables (j ∷ r)) f (in-append_left f (full c.types c.variables (i ∷ q)) (present c.types c.variables (j ∷ r)) h))) o b'
-    (ap (λ key. Forms.insert key (excess_over_full c (i ∷ q) b) (i ∷ q) (j ∷ r) b) (sym (ap key_fields (ap (option_and_then (slice_get c.types)) table ∙ shape))) ∙ is)
+    (ap (λ key. InsertForm.insert key (excess_over_full c (i ∷ q) b) (i ∷ q) (j ∷ r) b) (sym (ap key_fields (ap (option_and_then (slice_get c.types)) table ∙ shape))) ∙ is)

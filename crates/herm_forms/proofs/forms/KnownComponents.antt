@@ -7,7 +7,7 @@ use Rattle.herm_model.specs.Lists.{IsIn, any_pass}
 use Rattle.herm_model.specs.Paths.{Path, Fact, case, same_fact}
 use Rattle.herm_model.specs.Facts.{facts_to, prefixes, with_prefixes}
 use Rattle.herm_model.specs.Statements.{Reveal, Case}
-use Rattle.herm_model.specs.StatementTable.{present, closed}
+use Rattle.herm_model.specs.FactsOfStatements.{present, closed}
 use Rattle.herm_model.specs.Outcomes.{Outcome, ok, raised, component, case_error}
 use Rattle.herm_model.specs.Values.{a_variant, Cell, cell, Parts, read_at}
 use Rattle.herm_model.specs.FactsOfValues.{is_component, satisfies}

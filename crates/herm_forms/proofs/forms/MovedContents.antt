@@ -6,7 +6,7 @@ use Rattle.herm_model.specs.Lists.{any_pass}
 use Rattle.herm_model.specs.Paths.{Fact, path_of, same_fact, is_at_or_below}
 use Rattle.herm_model.specs.Types.{TypeTable, Shape, cases, polymorph, type_at, type_below, is_within_depth, greatest_depth}
 use Rattle.herm_model.specs.Statements.{Form, Dissolve, Unwrap}
-use Rattle.herm_model.specs.StatementTable.{full, closed}
+use Rattle.herm_model.specs.FactsOfStatements.{full, closed}
 use Rattle.herm_model.specs.Outcomes.{Outcome, ok, raised}
 use Rattle.herm_model.specs.Values.{Kind, a_variant, a_polymorph, Cell, cell, Parts, no_parts, part, cell_at, has_place}
 use Rattle.herm_model.specs.Typed.{partly, unfit, layout, one_whole, Fits, HasType, IsFull}

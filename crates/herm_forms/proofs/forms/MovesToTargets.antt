@@ -6,7 +6,7 @@ use Rattle.herm_model.specs.Paths.{Fact, path_of, same_fact, is_at_or_below}
 use Rattle.herm_model.specs.Types.{type_at, passes_component, is_within_depth, greatest_depth}
 use Rattle.herm_model.specs.Facts.{full_facts}
 use Rattle.herm_model.specs.Statements.{Move}
-use Rattle.herm_model.specs.StatementTable.{room_for, full, closed, needs}
+use Rattle.herm_model.specs.FactsOfStatements.{room_for, full, closed, needs}
 use Rattle.herm_model.specs.Outcomes.{Outcome, ok}
 use Rattle.herm_model.specs.Values.{Cell, cell_at, has_place}
 use Rattle.herm_model.proofs.Lists.{in-append_right}

@@ -7,7 +7,7 @@ use Rattle.herm_model.specs.Paths.{Path, Fact, init, case, path_of, same_fact, i
 use Rattle.herm_model.specs.Types.{TypeTable, Shape, type_at}
 use Rattle.herm_model.specs.Facts.{said_at, message_facts, message_of, declared_facts}
 use Rattle.herm_model.specs.Statements.{Receive}
-use Rattle.herm_model.specs.StatementTable.{closed, received_from}
+use Rattle.herm_model.specs.FactsOfStatements.{closed, received_from}
 use Rattle.herm_model.specs.Outcomes.{ok}
 use Rattle.herm_model.specs.Values.{Cell, Parts, no_parts, part, has_value, has_place, put_at}
 use Rattle.herm_model.specs.FactsOfValues.{is_component, satisfies}

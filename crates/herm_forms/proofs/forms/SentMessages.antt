@@ -9,7 +9,7 @@ use Rattle.herm_model.specs.Types.{TypeTable, inport, type_at, type_below, full_
 use Rattle.herm_model.specs.Facts.{facts_to, prefixes, with_prefixes, IsClosed, said_at, message_facts, declared_facts, component_count, IsFactOf}
 use Rattle.herm_model.specs.Calls.{message_type, inport_at}
 use Rattle.herm_model.specs.Statements.{Send}
-use Rattle.herm_model.specs.StatementTable.{present, sent_to, closed, needs}
+use Rattle.herm_model.specs.FactsOfStatements.{present, sent_to, closed, needs}
 use Rattle.herm_model.specs.Outcomes.{Outcome, raised, disconnected}
 use Rattle.herm_model.specs.Values.{Cell, no_parts, part, cell_at, has_place}
 use Rattle.herm_model.specs.FactsOfValues.{is_component, satisfies}

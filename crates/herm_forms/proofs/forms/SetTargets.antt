@@ -9,7 +9,7 @@ use Rattle.herm_model.specs.Types.{TypeTable, Shape, fields, rows, outport, type
 use Rattle.herm_model.specs.Facts.{facts_to, full_facts}
 use Rattle.herm_model.specs.Expressions.{Expression}
 use Rattle.herm_model.specs.Statements.{Form, Assign, New, Connect}
-use Rattle.herm_model.specs.StatementTable.{full, closed}
+use Rattle.herm_model.specs.FactsOfStatements.{full, closed}
 use Rattle.herm_model.specs.Outcomes.{Outcome, ok, raised}
 use Rattle.herm_model.specs.Values.{a_record, a_table, an_outport, Cell, cell, Parts, no_parts, gaps, part, inside, cell_at, read_at, readable_of, has_value, has_place, put_at, Value}
 use Rattle.herm_model.specs.CellNames.{count, copy_from}

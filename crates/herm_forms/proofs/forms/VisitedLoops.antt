@@ -6,7 +6,7 @@ use Rattle.herm_model.specs.Outcomes.{Outcome, turn, done}
 use Rattle.herm_model.specs.Values.{Cell, Parts, no_parts, gap, part, parts_of, cell_at, read_at, has_place, put_at}
 use Rattle.herm_model.specs.CellNames.{count_in, copy_in}
 use Rattle.herm_forms.specs.Frames.{Name, Loop, Frame, goes, stuck, if_there, put}
-use Rattle.herm_forms.specs.Forms.{rows_for, set_rows, next_row, visit}
+use Rattle.herm_forms.specs.LoopForms.{rows_for, set_rows, next_row, visit}
 use Rattle.herm_forms.specs.laws.FormsSound.{AreSameLoops}
 use Rattle.herm_forms.proofs.forms.PlainForms.{same_body, never}
 use Rattle.herm_forms.proofs.forms.VisitedRows.{old-loops}

@@ -12,7 +12,7 @@ use Rattle.herm_model.specs.Typed.{many, Fits}
 use Rattle.herm_model.proofs.Renaming.{rename-copy_in, copy_in-constant}
 use Rattle.herm_model.proofs.Typing.{Fits-renamed, renamed-Fits}
 use Rattle.herm_forms.specs.Frames.{Name, Loop, Frame, goes, stuck, if_there, finalise_old, put}
-use Rattle.herm_forms.specs.Forms.{rows_for, set_rows, next_row, visit}
+use Rattle.herm_forms.specs.LoopForms.{rows_for, set_rows, next_row, visit}
 use Rattle.herm_forms.specs.Modules.{Module}
 use Rattle.herm_forms.specs.laws.EdgeLaws.{AreSound, held_after}
 use Rattle.herm_forms.specs.laws.ComponentLaws.{RowsAreVisited}

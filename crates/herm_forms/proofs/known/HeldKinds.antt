@@ -5,7 +5,7 @@ use Rattle.herm_model.specs.Values.{a_variant, Kind, Cell, cell, Parts, no_parts
 use Rattle.herm_model.specs.CellNames.{count, copy_from, copy_in, rename, rename_in}
 use Rattle.herm_model.specs.Tables.{without_part}
 use Rattle.herm_model.specs.Finalising.{waits, pending, pending_in}
-use Rattle.herm_forms.specs.Forms.{with_parts}
+use Rattle.herm_forms.specs.InsertForm.{with_parts}
 use Rattle.herm_journal.specs.Kinds.{HasKinds, HaveKinds, AllKinds}
 
 -- the same of a value that may be there

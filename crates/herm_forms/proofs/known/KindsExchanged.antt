@@ -7,7 +7,7 @@ use Rattle.herm_model.specs.Outcomes.{ok, arm, raised, disconnected}
 use Rattle.herm_model.specs.Statements.{Form, New, Send, Receive, Select, Call, Return, ReturnBy, Create}
 use Rattle.herm_model.specs.Expressions.{Atom}
 use Rattle.herm_model.specs.Calls.{call_parameters}
-use Rattle.herm_model.specs.StatementTable.{set_by_call}
+use Rattle.herm_model.specs.FactsOfStatements.{set_by_call}
 use Rattle.herm_model.specs.Values.{Kind, a_callmessage, an_outport, an_inport, Cell, cell, Parts, no_parts, gap, part, cell_at, read_at}
 use Rattle.herm_model.specs.CellNames.{copy_in, count_in}
 use Rattle.herm_forms.specs.Evaluate.{Evaluated, gives, raises, no_value, atom_value}
@@ -15,6 +15,7 @@ use Rattle.herm_journal.specs.Actions.{Reply, values, gone, new_port, new_proces
 use Rattle.herm_journal.specs.Actions
 use Rattle.herm_forms.specs.Frames.{Name, Frame, Completion, if_there, finalise_all, finalise_at_once, cleared, drop, putting, Taken, with_taken, take_all}
 use Rattle.herm_forms.specs.Exchanges
+use Rattle.herm_forms.specs.ClosesAndAnswers
 use Rattle.herm_forms.specs.Callmessages as callmessages
 use Rattle.herm_journal.specs.Messages.{CellReply, CellAction}
 use Rattle.herm_forms.specs.Exchanges.{receive_at, place_of_port, ports_at, inport_at, outport_at}
@@ -189,7 +190,7 @@ module _ {N : Type 0} (name : Name → N) (of : Kind → Type 0) (allows : Allow
   return-wants reply None o on h k = tt
   return-wants reply (Some c) o on h k = answer-kinds reply c o on h k
 
-  pub work-wants : (c : Cell N) → HasKinds of c → IfWant of (Exchanges.work_wants c)
+  pub work-wants : (c : Cell N) → HasKinds of c → IfWant of (ClosesAndAnswers.work_wants c)
   work-wants (cell n (an_inport port) ps) h = h.0
   work-wants (cell n (a_callmessage caller call) ps) h = (h.0, tt)
   work-wants c h = tt
@@ -260,7 +261,7 @@ module _ {N : Type 0} (name : Name → N) (of : Kind → Type 0) (allows : Allow
   all-hear_call back outs keep left call (hear k r) b h e = all-cond name of allows (nat_eq k call) _ _ (all-hear_reply back outs keep left r (record b { call = None }) h e) never
   all-hear_call back outs keep left call _ b h e = never
 
-  pub all-work : (item : Cell N) (a : CellAction N) (b : Frame N) → HasKinds of item → ActionKinds of a → BodyKinds of b → All name of allows (Exchanges.work_done item a b)
+  pub all-work : (item : Cell N) (a : CellAction N) (b : Frame N) → HasKinds of item → ActionKinds of a → BodyKinds of b → All name of allows (ClosesAndAnswers.work_done item a b)
   all-work item (close count left) b h g e = stayed (finalise_at_once item (finalise_all left b)) (is-end name of allows item (finalise_all left b) h (is-all name of allows left b g e))
   all-work item (answer k r) b h g e = stayed (finalise_at_once item b) (is-end name of allows item b h e)
   all-work item _ b h g e = never

@@ -12,14 +12,18 @@ use Rattle.herm_model.specs.Finalising.{excess, pending, pending_in}
 use Rattle.herm_model.specs.Values.{has_place, Scalar, a_boolean, an_integer, a_text, Kind, a_scalar, a_record, a_variant, a_table, a_polymorph, a_callmessage, an_outport, an_inport, Cell, cell, Parts, no_parts, gap, part, part_at, parts_of, size, has_value, cell_at, read_at, put_at, polymorph_depth, Value}
 use Rattle.herm_model.specs.CellNames.{copy_from, copy_in, count, count_in, forget}
 use Rattle.herm_model.specs.Tables.{has_key, key_of, place_of_key, without_part, same_integer, same_scalar}
-use Rattle.herm_model.specs.Texts.{signed_numeral}
+use Rattle.herm_model.specs.ValueTexts.{signed_numeral}
 use Rattle.herm_model.specs.Typed.{greatest_rows, greatest_polymorph, is_integer, greatest_text}
 use Rattle.herm_forms.specs.Evaluate
 use Rattle.herm_forms.specs.Evaluate.{Evaluated, gives, raises, no_value, one_then, two_then, scalar_then, boolean_then, integer_then, text_then, within_bits, within_length, by_divisor, compared, on_booleans, on_integers, on_texts, operate, value_there, rows_there, evaluate, atom_value, key_values, gives_boolean, gives_scalar}
 use Rattle.herm_forms.specs.Frames.{Name, Loop, Frame, Completion, goes, stays, stuck, if_there, finalise, finalise_parts, finalise_old, finalise_all, finalise_name, finalise_at_once, cleared, drop_at, drop, reading, taking, putting, putting_all, making, copying, copying_parts, counted_step, counted_action}
 use Rattle.herm_forms.specs.Frames
 use Rattle.herm_forms.specs.Forms
-use Rattle.herm_forms.specs.Forms.{with_value, moving, moving_content, Opened, component_in, content_of, component_of, change_rows, add_row, finding, rows_for, set_rows, next_row, inport_number, tested}
+use Rattle.herm_forms.specs.InsertForm
+use Rattle.herm_forms.specs.Forms.{with_value, moving, moving_content, Opened, component_in, content_of, component_of, inport_number, tested}
+use Rattle.herm_forms.specs.InsertForm.{change_rows, add_row}
+use Rattle.herm_forms.specs.KeyForms.{finding}
+use Rattle.herm_forms.specs.LoopForms.{rows_for, set_rows, next_row}
 use Rattle.herm_forms.specs.EdgeFinalising.{arrive, keeps}
 use Rattle.herm_forms.specs.LeavingLoops.{keeps_loop, finalise_loops, leave_loops}
 use Rattle.herm_forms.specs.Excess.{excess_over_full}
@@ -301,9 +305,9 @@ module _ {N : Type 0} (name : Name → N) (of : Kind → Type 0) (allows : Allow
       all-cell _ (cell_at p b.variables) (cell-kinds of p b.variables e.0) (λ c h. all-opened (content_of t c) _ _ (content-kinds t c h) (went (raised polymorph_mismatch) b e) (λ o g. all-content y o (cleared p b) g (is-cleared p b e)))
 
   pub is-rows : (t : Path) (f : Parts N → Parts N) (b : Frame N) → ((ps : Parts N) → HaveKinds of ps → HaveKinds of (f ps)) → BodyKinds of b → BodyKinds of (change_rows t f b)
-  is-rows t f b on e = (change-kinds_at of t (Forms.with_parts f) b.variables (λ c. with-kinds of f c on) e.0, e.1, e.2, e.3)
+  is-rows t f b on e = (change-kinds_at of t (InsertForm.with_parts f) b.variables (λ c. with-kinds of f c on) e.0, e.1, e.2, e.3)
 
-  all-insert : (key : List ℕ) (lost : List Path) (r t : Path) (b : Frame N) → BodyKinds of b → All (Forms.insert key lost r t b)
+  all-insert : (key : List ℕ) (lost : List Path) (r t : Path) (b : Frame N) → BodyKinds of b → All (InsertForm.insert key lost r t b)
   all-insert key lost r t b e =
       all-there _ (cell_at r b.variables) (λ row. all-there _ (read_at t b.variables) (λ table.
       all-cond (has_key key (key_of key row) (parts_of table)) _ _ (went (raised duplicate_key) b e) (all-cond (nat_lt (size (parts_of table)) greatest_rows) _ _

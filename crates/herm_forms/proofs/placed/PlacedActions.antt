@@ -11,7 +11,8 @@ use Rattle.herm_journal.specs.PartTypes.{part_types_at, IsPlaced, ArePlaced}
 use Rattle.herm_forms.specs.Frames
 use Rattle.herm_forms.specs.Frames.{Name, Frame, goes, stuck, cleared, drop, putting, putting_all, finalise_all, finalise_at_once}
 use Rattle.herm_forms.specs.Exchanges
-use Rattle.herm_forms.specs.Exchanges.{receive_at, work_done}
+use Rattle.herm_forms.specs.Exchanges.{receive_at}
+use Rattle.herm_forms.specs.ClosesAndAnswers.{work_done}
 use Rattle.herm_forms.specs.Modules.{Module}
 use Rattle.herm_forms.proofs.placed.PlacedParts.{Agrees}
 use Rattle.herm_forms.proofs.placed.PlacedForms.{BodyIs, AllAre, put-is, all-cond, all-putting, all-moving, all-is, end-is}

@@ -6,7 +6,7 @@ use Rattle.herm_model.specs.Paths.{Path}
 use Rattle.herm_model.specs.Types.{Shape, Mode, inport, type_at}
 use Rattle.herm_model.specs.Expressions.{Atom}
 use Rattle.herm_model.specs.Calls.{message_type, call_parameters}
-use Rattle.herm_model.specs.StatementTable.{set_by_call}
+use Rattle.herm_model.specs.FactsOfStatements.{set_by_call}
 use Rattle.herm_model.specs.Statements.{Process, Arm, Form, New, Send, Receive, Select, Call, Return, ReturnBy, Create}
 use Rattle.herm_model.specs.Outcomes.{ok, arm, raised}
 use Rattle.herm_model.specs.Values.{Kind, an_inport, an_outport, Cell, cell, Parts, no_parts, cell_at}

@@ -8,7 +8,7 @@ use Rattle.herm_model.specs.Types.{Shape, Parameter, Raised, callmessage, type_a
 use Rattle.herm_model.specs.Expressions.{Atom}
 use Rattle.herm_model.specs.Calls.{led_to, message_type, parameters_of, raises_of, is_returned, returned_places, kept_for, shape_at}
 use Rattle.herm_model.specs.Statements.{Process, Form, Call, Return, ReturnBy}
-use Rattle.herm_model.specs.StatementTable.{parameters_at}
+use Rattle.herm_model.specs.FactsOfStatements.{parameters_at}
 use Rattle.herm_model.specs.Values.{Kind, an_outport, a_callmessage, Cell, cell, kind_of, read_at}
 use Rattle.herm_model.specs.TypedStatements.{IsTypedForm, IsReturned, GoesTo}
 use Rattle.herm_model.proofs.Options.{none-not_some, some-injective, chain-some}

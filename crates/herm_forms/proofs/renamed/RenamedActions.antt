@@ -12,6 +12,7 @@ use Rattle.herm_journal.specs.Actions.{values, raised, gone, to_put, to_take, to
 use Rattle.herm_forms.specs.Frames.{Name, Frame, goes, stays, stuck, finalise_all, finalise_at_once, drop, taking, putting, putting_all, Taken, take_all, making}
 use Rattle.herm_forms.specs.Forms.{inport_number, outport_number}
 use Rattle.herm_forms.specs.Exchanges
+use Rattle.herm_forms.specs.ClosesAndAnswers
 use Rattle.herm_forms.specs.Callmessages as callmessages
 use Rattle.herm_journal.specs.Messages.{CellReply, CellWant, CellAction}
 use Rattle.herm_forms.specs.Exchanges.{inport_at, outport_at, ports_at, place_of_port, receive_at}
@@ -102,7 +103,7 @@ module _ {N M : Type 0} (f : N → M) where
       (λ c. mapped_want (rename_taken f) (λ (t : Taken N). to_answer c.0 c.1 (reply t.cells)) (λ (t : Taken M). to_answer c.0 c.1 (reply' t.cells)) (λ t. ap (to_answer c.0 c.1) (e t.cells)) taken)
       (option_and_then caller_of (cell_at m b.variables))
 
-  pub work_wants-renamed : (item : Cell N) → Exchanges.work_wants (rename f item) ≡ option_map (rename_want f) (Exchanges.work_wants item)
+  pub work_wants-renamed : (item : Cell N) → ClosesAndAnswers.work_wants (rename f item) ≡ option_map (rename_want f) (ClosesAndAnswers.work_wants item)
   work_wants-renamed (cell n (an_inport port) ps) = refl
   work_wants-renamed (cell n (a_callmessage caller call) ps) = refl
   work_wants-renamed (cell n k ps) = refl
@@ -130,7 +131,7 @@ module _ {N M : Type 0} (f : N → M) where
       (option_and_then (place_of_port 0 from) (ports_at ports b)) (option_and_then (place_of_port 0 from) (ports_at ports (rename_body f b))) (ap (option_and_then (place_of_port 0 from)) (ports_at-renamed ports b))
   select-renamed targets ports from _ b = refl
 
-  pub work_done-renamed : (item : Cell N) (action : CellAction N) (b : Frame N) → Exchanges.work_done (rename f item) (rename_action f action) (rename_body f b) ≡ rename_result f (Exchanges.work_done item action b)
+  pub work_done-renamed : (item : Cell N) (action : CellAction N) (b : Frame N) → ClosesAndAnswers.work_done (rename f item) (rename_action f action) (rename_body f b) ≡ rename_result f (ClosesAndAnswers.work_done item action b)
   work_done-renamed item (close n left) b = ap stays (ap (finalise_at_once (rename f item)) (finalise_all-renamed f left b) ∙ end_cell-renamed f item (finalise_all left b))
   work_done-renamed item (answer n r) b = ap stays (end_cell-renamed f item b)
   work_done-renamed item _ b = refl

@@ -9,13 +9,15 @@ use Rattle.herm_model.specs.Expressions.{Atom}
 use Rattle.herm_model.specs.Statements.{Form, Assign, Move, New, Discard, Unite, Dissolve, Reveal, Case, Wrap, Unwrap, Insert, Remove, Get, For, Connect, Send, Receive, Select, Call, Return, ReturnBy, Create, If, While, Raise, Leave, Arm}
 use Rattle.herm_model.specs.Calls
 use Rattle.herm_model.specs.Calls.{shape_at, call_parameters}
-use Rattle.herm_model.specs.StatementTable.{set_by_call}
+use Rattle.herm_model.specs.FactsOfStatements.{set_by_call}
 use Rattle.herm_model.specs.Values.{Parts}
 use Rattle.herm_model.specs.CellNames.{rename_in}
 use Rattle.herm_forms.specs.Evaluate.{evaluate, key_values}
 use Rattle.herm_journal.specs.Actions.{values, raised}
 use Rattle.herm_forms.specs.Frames.{Name, Frame, Completion, if_there}
 use Rattle.herm_forms.specs.Forms
+use Rattle.herm_forms.specs.InsertForm
+use Rattle.herm_forms.specs.KeyForms
 use Rattle.herm_forms.specs.Exchanges
 use Rattle.herm_forms.specs.Callmessages as callmessages
 use Rattle.herm_journal.specs.Messages.{CellAction}
@@ -74,12 +76,12 @@ module _ {N M : Type 0} (f : N → M) (name : Name → N) where
       (λ t. ap (λ lost. Forms.wrap again t lost y p (rename_body f b)) (beyond_full-renamed c y b) ∙ RenamedForms.wrap-renamed f name t (excess_over_full c y b) y p b)
       (type_at c.types c.variables y) (type_at c.types c.variables y) refl
   act-renamed c s (Unwrap p t y) b = RenamedForms.unwrap-renamed f t p y b
-  act-renamed c s (Insert r t) b = ap (λ lost. Forms.insert (key_at c t) lost r t (rename_body f b)) (beyond_full-renamed c r b) ∙ RenamedForms.insert-renamed f (key_at c t) (excess_over_full c r b) r t b
+  act-renamed c s (Insert r t) b = ap (λ lost. InsertForm.insert (key_at c t) lost r t (rename_body f b)) (beyond_full-renamed c r b) ∙ RenamedForms.insert-renamed f (key_at c t) (excess_over_full c r b) r t b
   act-renamed c s (Remove r t keys) b =
-      same-renamed (λ v. Forms.remove (key_at c t) v r t b) (λ v. Forms.remove (key_at c t) v r t (rename_body f b)) (λ v. RenamedForms.remove-renamed f (key_at c t) v r t b)
+      same-renamed (λ v. KeyForms.remove (key_at c t) v r t b) (λ v. KeyForms.remove (key_at c t) v r t (rename_body f b)) (λ v. RenamedForms.remove-renamed f (key_at c t) v r t b)
       (key_values b.variables keys) (key_values (rename_in f b.variables) keys) (key_values-renamed f b.variables keys)
   act-renamed c s (Get r t keys) b =
-      same-renamed (λ v. Forms.get name (key_at c t) v r t b) (λ v. Forms.get again (key_at c t) v r t (rename_body f b)) (λ v. RenamedForms.get-renamed f name (key_at c t) v r t b)
+      same-renamed (λ v. KeyForms.get name (key_at c t) v r t b) (λ v. KeyForms.get again (key_at c t) v r t (rename_body f b)) (λ v. RenamedForms.get-renamed f name (key_at c t) v r t b)
       (key_values b.variables keys) (key_values (rename_in f b.variables) keys) (key_values-renamed f b.variables keys)
   act-renamed c s (For r t) b = RenamedForms.visit-renamed f name s r t b
   act-renamed c s (Connect o i) b = RenamedForms.connect-renamed f name o i b

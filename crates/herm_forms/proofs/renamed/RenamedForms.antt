@@ -19,7 +19,13 @@ use Rattle.herm_forms.specs.Evaluate.{Evaluated, gives, raises, no_value, value_
 use Rattle.herm_forms.specs.Evaluate
 use Rattle.herm_forms.specs.Frames.{Name, Loop, Frame, Completion, goes, if_there, finalise, finalise_parts, finalise_name, cleared, drop, reading, taking, putting, making, copying, copying_parts}
 use Rattle.herm_forms.specs.Forms
-use Rattle.herm_forms.specs.Forms.{Opened, component_in, content_of, moving, moving_content, component_of, change_rows, with_parts, add_row, finding, rows_for, set_rows, next_row, inport_number, outport_number, tested, with_value}
+use Rattle.herm_forms.specs.InsertForm
+use Rattle.herm_forms.specs.KeyForms
+use Rattle.herm_forms.specs.LoopForms
+use Rattle.herm_forms.specs.Forms.{Opened, component_in, content_of, moving, moving_content, component_of, inport_number, outport_number, tested, with_value}
+use Rattle.herm_forms.specs.InsertForm.{change_rows, with_parts, add_row}
+use Rattle.herm_forms.specs.KeyForms.{finding}
+use Rattle.herm_forms.specs.LoopForms.{rows_for, set_rows, next_row}
 use Rattle.herm_forms.specs.EdgeFinalising.{keeps, arrive}
 use Rattle.herm_forms.specs.LeavingLoops.{keeps_loop, finalise_loops, leave_loops}
 use Rattle.herm_forms.specs.Excess.{excess_at, below}
@@ -56,7 +62,7 @@ module _ {N M : Type 0} (f : N → M) where
   evaluate-renamed ps (logical_not e) = ap (one_then (Evaluate.boolean_then (λ b. Evaluate.gives_boolean (Rattle.std.specs.Prelude.not b)))) (evaluate-renamed ps e)
   evaluate-renamed ps (operation o left right) = ap₂ (two_then (operate o)) (evaluate-renamed ps left) (evaluate-renamed ps right)
   evaluate-renamed ps (Expression.size_of p) = ap rows_there (read_at-rename f p ps) ∙ rows_there-renamed (read_at p ps)
-  evaluate-renamed ps (decimal e) = ap (one_then (Evaluate.integer_then (λ z. gives_scalar (a_text (Rattle.herm_model.specs.Texts.signed_numeral z))))) (evaluate-renamed ps e)
+  evaluate-renamed ps (decimal e) = ap (one_then (Evaluate.integer_then (λ z. gives_scalar (a_text (Rattle.herm_model.specs.ValueTexts.signed_numeral z))))) (evaluate-renamed ps e)
   evaluate-renamed ps (length_of e) = ap (one_then (Evaluate.text_then (λ bytes. gives_scalar (an_integer (Rattle.std.specs.Prelude.pos (length bytes)))))) (evaluate-renamed ps e)
 
   pub atom_value-renamed : (ps : Parts N) (a : Atom) → atom_value (rename_in f ps) a ≡ atom_value ps a
@@ -212,7 +218,7 @@ module _ {N M : Type 0} (f : N → M) where
   cond-both : (t t' : Bool) (r s : Completion N) (r' s' : Completion M) → t' ≡ t → r' ≡ rename_result f r → s' ≡ rename_result f s → cond t' r' s' ≡ rename_result f (cond t r s)
   cond-both t t' r s r' s' e x y = ap (λ q. cond q r' s') e ∙ ap₂ (cond t) x y ∙ cond-renamed f t r s
 
-  pub insert-renamed : (key : List ℕ) (lost : List Path) (r t : Path) (b : Frame N) → Forms.insert key lost r t (rename_body f b) ≡ rename_result f (Forms.insert key lost r t b)
+  pub insert-renamed : (key : List ℕ) (lost : List Path) (r t : Path) (b : Frame N) → InsertForm.insert key lost r t (rename_body f b) ≡ rename_result f (InsertForm.insert key lost r t b)
   insert-renamed key lost r t b =
       let added : Frame N → Completion N = λ b. moving lost r (λ row b. reading t (λ table. goes ok (change_rows t (add_row row) b)) b) b in
       let added' : Frame M → Completion M = λ b. moving lost r (λ row b. reading t (λ table. goes ok (change_rows t (add_row row) b)) b) b in
@@ -261,7 +267,7 @@ module _ {N M : Type 0} (f : N → M) where
       ∙ ap (λ (o : Option ℕ). elim o [ None ↦ goes (raised not_found) (rename_body f b) | Some i ↦ if_there (next' i) (part_at i (rename_in f (parts_of table))) ]) (place_of_key-rename f key v (parts_of table))
       ∙ found-renamed next next' e b (parts_of table) (place_of_key key v (parts_of table))) b
 
-  pub remove-renamed : (key : List ℕ) (v : List Scalar) (r t : Path) (b : Frame N) → Forms.remove key v r t (rename_body f b) ≡ rename_result f (Forms.remove key v r t b)
+  pub remove-renamed : (key : List ℕ) (v : List Scalar) (r t : Path) (b : Frame N) → KeyForms.remove key v r t (rename_body f b) ≡ rename_result f (KeyForms.remove key v r t b)
   remove-renamed key v r t b =
       finding-renamed key v t (λ i row. putting r ok row (change_rows t (without_part i) b)) (λ i row. putting r ok row (change_rows t (without_part i) (rename_body f b)))
       (λ i row. ap (putting r ok (rename f row)) (change_rows-renamed t (without_part i) (without_part i) (λ rows. sym (without_part-rename f i rows)) b)
@@ -341,7 +347,7 @@ module _ {N M : Type 0} (f : N → M) where
         (ap (λ d. nat_lt d greatest_polymorph) (polymorph_depth-rename f c)) (moving-renamed lost y held held' (holding-renamed (a_polymorph t) p) b) refl)
         (cell_at y (drop lost b).variables)
 
-    pub get-renamed : (key : List ℕ) (v : List Scalar) (r t : Path) (b : Frame N) → Forms.get again key v r t (rename_body f b) ≡ rename_result f (Forms.get name key v r t b)
+    pub get-renamed : (key : List ℕ) (v : List Scalar) (r t : Path) (b : Frame N) → KeyForms.get again key v r t (rename_body f b) ≡ rename_result f (KeyForms.get name key v r t b)
     get-renamed key v r t b =
         finding-renamed key v t (λ i row. copying name row (putting r ok) b) (λ i row. copying again row (putting r ok) (rename_body f b))
         (λ i row. copying_cell-renamed f name row (putting r ok) (putting r ok) (putting-renamed f r ok) b) b
@@ -363,7 +369,7 @@ module _ {N M : Type 0} (f : N → M) where
         (λ table. ap (λ ps. copying_parts again ps next' (rename_body f b)) (parts_of-renamed table)
         ∙ copying_parts-renamed f name (parts_of table) next next' (λ left b. next_row-renamed s r left (record b { loops = record { statement = s; rows = left } ∷ b.loops })) b) b
 
-    pub visit-renamed : (s : ℕ) (r t : Path) (b : Frame N) → Forms.visit again s r t (rename_body f b) ≡ rename_result f (Forms.visit name s r t b)
+    pub visit-renamed : (s : ℕ) (r t : Path) (b : Frame N) → LoopForms.visit again s r t (rename_body f b) ≡ rename_result f (LoopForms.visit name s r t b)
     visit-renamed s r t b =
         ap (λ (o : Option (Parts M)). elim o [
           | None ↦ reading t (λ table. copying_parts again (parts_of table) (λ rows b. next_row s r rows (record b { loops = record { statement = s; rows = rows } ∷ b.loops })) (rename_body f b)) (rename_body f b)

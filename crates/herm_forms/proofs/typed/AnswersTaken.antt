@@ -9,7 +9,7 @@ use Rattle.herm_model.specs.Types.{Shape, inport, Raised, type_at, passes_compon
 use Rattle.herm_model.specs.Expressions.{Atom}
 use Rattle.herm_model.specs.Calls.{call_raises, shape_at}
 use Rattle.herm_model.specs.Statements.{Form, Arm, New, Send, Receive, Select, Call, Return, ReturnBy, Create, Process}
-use Rattle.herm_model.specs.StatementTable.{room_for, present, full, full_of_each, closed, needs, given, set_by_call, kept_by_call, parameters_at}
+use Rattle.herm_model.specs.FactsOfStatements.{room_for, present, full, full_of_each, closed, needs, given, set_by_call, kept_by_call, parameters_at}
 use Rattle.herm_model.specs.Outcomes.{Outcome, ok, arm, raised, depletion, disconnected, with_number, rising, raised_by_new, arms_from, outcomes}
 use Rattle.herm_model.specs.TypedStatements.{AreApart}
 use Rattle.herm_model.specs.Values.{kind_of, Cell, part_at, inside, cell_at, has_place}

@@ -9,7 +9,7 @@ use Rattle.herm_model.specs.Types.{Mode, by_in, by_inout, by_out, Raised, inport
 use Rattle.herm_model.specs.Expressions.{Atom}
 use Rattle.herm_model.specs.Calls.{call_parameters, is_returned}
 use Rattle.herm_model.specs.Statements.{Form, Call, Return, ReturnBy, Process}
-use Rattle.herm_model.specs.StatementTable.{set_by_call, kept_by_call}
+use Rattle.herm_model.specs.FactsOfStatements.{set_by_call, kept_by_call}
 use Rattle.herm_model.specs.Outcomes.{Outcome}
 use Rattle.herm_model.specs.TypedStatements.{AreArguments, IsReturned, AreApart}
 use Rattle.herm_model.specs.laws.ArgumentLaws.{AreTargetsOf, types_by, ArgumentsFit}

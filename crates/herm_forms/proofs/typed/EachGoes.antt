@@ -5,13 +5,14 @@ use Rattle.herm_model.specs.Lists.{IsIn}
 use Rattle.herm_model.specs.Paths.{Path, Fact}
 use Rattle.herm_model.specs.Types.{type_at}
 use Rattle.herm_model.specs.Statements.{Form, Assign, Move, New, Discard, Unite, Dissolve, Reveal, Case, Wrap, Unwrap, Insert, Remove, Get, For, Connect, If, While, Raise, Leave, Process}
-use Rattle.herm_model.specs.StatementTable.{needs}
+use Rattle.herm_model.specs.FactsOfStatements.{needs}
 use Rattle.herm_model.specs.Outcomes.{Outcome, outcomes}
 use Rattle.herm_model.specs.Values.{a_variant, Cell, cell, Parts}
 use Rattle.herm_model.specs.Typed.{partly, Fits, many, HasType}
 use Rattle.herm_model.proofs.Options.{none-not_some, some-injective}
 use Rattle.herm_forms.specs.Frames.{Name, Frame, Completion, goes}
-use Rattle.herm_forms.specs.Forms.{rows_for, component_of}
+use Rattle.herm_forms.specs.LoopForms.{rows_for}
+use Rattle.herm_forms.specs.Forms.{component_of}
 use Rattle.herm_forms.specs.Modules.{Module}
 use Rattle.herm_forms.specs.Acts.{is_action, act}
 use Rattle.herm_forms.specs.laws.EdgeLaws.{AreSound}

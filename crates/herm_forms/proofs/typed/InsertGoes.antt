@@ -8,7 +8,7 @@ use Rattle.herm_model.specs.Facts.{facts_to}
 use Rattle.herm_model.specs.TypedExpressions.{HasShape}
 use Rattle.herm_model.specs.WellFormedTables.{IsWellFormedTable, Reaches, at_once, further}
 use Rattle.herm_model.specs.Statements.{Insert, Process}
-use Rattle.herm_model.specs.StatementTable.{present, full}
+use Rattle.herm_model.specs.FactsOfStatements.{present, full}
 use Rattle.herm_model.specs.Outcomes.{raised, duplicate_key, depletion, ok}
 use Rattle.herm_model.specs.Tables.{has_key, key_of}
 use Rattle.herm_model.specs.Values.{parts_of, size, cell_at, read_at}
@@ -18,7 +18,8 @@ use Rattle.herm_model.proofs.Options.{none-not_some, some-injective}
 use Rattle.herm_model.proofs.Beginnings.{below-trans, begins-with}
 use Rattle.herm_model.proofs.TypedPaths.{at-append}
 use Rattle.herm_forms.specs.Frames.{goes, reading}
-use Rattle.herm_forms.specs.Forms.{moving, change_rows, add_row}
+use Rattle.herm_forms.specs.Forms.{moving}
+use Rattle.herm_forms.specs.InsertForm.{change_rows, add_row}
 use Rattle.herm_forms.specs.Excess.{excess_over_full}
 use Rattle.herm_forms.specs.Modules.{Module}
 use Rattle.herm_forms.specs.Acts.{key_at}

@@ -11,7 +11,7 @@ use Rattle.herm_model.specs.Expressions.{Expression, Atom}
 use Rattle.herm_model.specs.TypedExpressions.{HasShape, IsPathOf}
 use Rattle.herm_model.specs.Calls.{shape_at}
 use Rattle.herm_model.specs.Statements.{Form, Assign, Move, New, Discard, Unite, Dissolve, Reveal, Case, Wrap, Unwrap, Remove, Get, For, Connect, If, While, Raise, Leave, Process}
-use Rattle.herm_model.specs.StatementTable.{room_for, present, full, full_of_each, needs, row}
+use Rattle.herm_model.specs.FactsOfStatements.{room_for, present, full, full_of_each, needs, row}
 use Rattle.herm_model.specs.Expressions.{paths_read, paths_among}
 use Rattle.herm_model.specs.Tables.{same_key, key_of, place_of_key, without_part}
 use Rattle.herm_model.specs.Outcomes.{Outcome, ok, is_true, is_false, component, raised, depletion, polymorph_mismatch, not_found, done, turn}
@@ -24,7 +24,10 @@ use Rattle.herm_model.proofs.Lists.{not_true, in-flat_map, in-append_left, in-ap
 use Rattle.herm_model.proofs.Options.{none-not_some, some-injective, map-some}
 use Rattle.herm_model.proofs.TypedCalls.{shape-is}
 use Rattle.herm_forms.specs.Frames.{Name, Frame, Completion, goes, stuck, if_there, finalise, finalise_name, cleared, drop, put, taking, putting, making, copying_parts}
-use Rattle.herm_forms.specs.Forms.{moving, change_rows, rows_for, set_rows, next_row, moving_content, Opened, component_in, component_of, content_of, inport_number, finding, with_value, tested}
+use Rattle.herm_forms.specs.Forms.{moving, moving_content, Opened, component_in, component_of, content_of, inport_number, with_value, tested}
+use Rattle.herm_forms.specs.InsertForm.{change_rows}
+use Rattle.herm_forms.specs.LoopForms.{rows_for, set_rows, next_row}
+use Rattle.herm_forms.specs.KeyForms.{finding}
 use Rattle.herm_forms.specs.Forms
 use Rattle.herm_forms.specs.Evaluate.{Evaluated, gives, raises, no_value, evaluate, key_values}
 use Rattle.herm_forms.specs.Excess.{excess_over_full}

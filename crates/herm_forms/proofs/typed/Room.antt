@@ -5,7 +5,7 @@ use Rattle.std.proofs.lemmas.Bool.{lt-ltb}
 use Rattle.herm_model.specs.Lists.{IsIn, map_or}
 use Rattle.herm_model.specs.Paths.{Path, Fact, init, parent, are_apart, is_at_or_below}
 use Rattle.herm_model.specs.Types.{TypeTable, Shape, Parameter, Raised, fields, cases, callmessage, part_type, part_of, type_at, is_cases, is_variant, passes_component}
-use Rattle.herm_model.specs.StatementTable.{room_for}
+use Rattle.herm_model.specs.FactsOfStatements.{room_for}
 use Rattle.herm_model.specs.Values.{Kind, a_scalar, a_record, a_variant, a_table, a_polymorph, a_callmessage, an_inport, an_outport, Cell, cell, Parts, no_parts, gap, part, part_at, opens, inside, size, cell_at, has_place}
 use Rattle.herm_model.specs.Typed.{Content, a_value, partly, unfit, exactly, layout, Fits, HasType}
 use Rattle.herm_model.proofs.Lists.{slice_get-map}

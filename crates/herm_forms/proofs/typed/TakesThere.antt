@@ -8,7 +8,7 @@ use Rattle.herm_model.specs.Facts.{facts_to}
 use Rattle.herm_model.specs.Expressions.{Atom, literal, path}
 use Rattle.herm_model.specs.Calls.{arguments_by, is_returned, returned_places}
 use Rattle.herm_model.specs.Statements.{Differ}
-use Rattle.herm_model.specs.StatementTable.{full_of_each}
+use Rattle.herm_model.specs.FactsOfStatements.{full_of_each}
 use Rattle.herm_model.specs.TypedStatements.{AreApart, IsArgument, AreArguments}
 use Rattle.herm_model.specs.Values.{Cell, Parts, no_parts, gap, part, cell_at}
 use Rattle.herm_model.specs.CellNames.{count, copy_from, copy_in}

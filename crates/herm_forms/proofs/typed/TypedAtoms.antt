@@ -7,7 +7,7 @@ use Rattle.herm_model.specs.Types.{TypeTable, fields, rows, Mode, by_in, by_inou
 use Rattle.herm_model.specs.Expressions.{Atom, literal, path, copy, paths_among}
 use Rattle.herm_model.specs.Calls.{call_parameters, is_given, arguments_by}
 use Rattle.herm_model.specs.Statements.{Form, Process, Remove, Get, Call}
-use Rattle.herm_model.specs.StatementTable.{room_for, present, full, full_of_each, given, set_by_call}
+use Rattle.herm_model.specs.FactsOfStatements.{room_for, present, full, full_of_each, given, set_by_call}
 use Rattle.herm_model.specs.Values.{Cell, Parts, part, read_at, Value}
 use Rattle.herm_model.specs.CellNames.{forget}
 use Rattle.herm_model.specs.Typed.{IsFull}

@@ -8,7 +8,7 @@ use Rattle.herm_model.specs.Expressions.{Atom}
 use Rattle.herm_model.specs.TypedExpressions.{HasShape}
 use Rattle.herm_model.specs.Calls.{call_parameters, is_given, parameters_of, raises_of, shape_at, returned_places, kept_for}
 use Rattle.herm_model.specs.Statements.{Form, Arm, New, Send, Receive, Select, Call, Return, ReturnBy, Create, Process, Differ}
-use Rattle.herm_model.specs.StatementTable.{sent_to, room_for, present, full, full_of_each, needs, given, set_by_call, returned, returned_by, parameters_at}
+use Rattle.herm_model.specs.FactsOfStatements.{sent_to, room_for, present, full, full_of_each, needs, given, set_by_call, returned, returned_by, parameters_at}
 use Rattle.herm_model.specs.TypedStatements.{AreArguments, IsReceived, IsLookedAt, IsReturned}
 use Rattle.herm_model.specs.Values.{Kind, a_callmessage, an_outport, Cell, cell, cell_at}
 use Rattle.herm_model.specs.CellNames.{count_in, copy_in}

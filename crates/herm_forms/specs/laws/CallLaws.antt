@@ -6,7 +6,7 @@ use Rattle.herm_model.specs.Types.{callmessage, by_in, Parameter, Raised, type_a
 use Rattle.herm_model.specs.Calls.{inport_at, call_raises, kept_for}
 use Rattle.herm_model.specs.Statements.{Form, Call, Return, ReturnBy, Process}
 use Rattle.herm_model.specs.TypedStatements.{AreApart}
-use Rattle.herm_model.specs.StatementTable.{needs, set_by_call, kept_by_call}
+use Rattle.herm_model.specs.FactsOfStatements.{needs, set_by_call, kept_by_call}
 use Rattle.herm_model.specs.Outcomes.{Outcome, disconnected}
 use Rattle.herm_model.specs.Values.{Cell, Parts, Value}
 use Rattle.herm_model.specs.Typed.{IsFull}

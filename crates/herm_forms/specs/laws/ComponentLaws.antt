@@ -9,7 +9,7 @@ use Rattle.herm_model.specs.Outcomes.{Outcome}
 use Rattle.herm_model.specs.Values.{Parts}
 use Rattle.herm_model.specs.Typed.{many, Fits}
 use Rattle.herm_forms.specs.Frames.{Name, Loop, Frame, goes}
-use Rattle.herm_forms.specs.Forms.{rows_for}
+use Rattle.herm_forms.specs.LoopForms.{rows_for}
 use Rattle.herm_forms.specs.Modules.{Module}
 use Rattle.herm_forms.specs.Acts.{act}
 use Rattle.herm_forms.specs.laws.EdgeLaws.{AreSound, held_after, PreservesSoundness}

@@ -8,7 +8,7 @@ use Rattle.herm_model.specs.Expressions.{Expression}
 use Rattle.herm_model.specs.Statements.{Form, Send, Discard, If, While, Raise, Leave, Process, IsWellFormedBlock}
 use Rattle.herm_model.specs.Targets.{Target, node, end}
 use Rattle.herm_model.specs.Outcomes.{Outcome}
-use Rattle.herm_model.specs.StatementTable.{makes, kills}
+use Rattle.herm_model.specs.FactsOfStatements.{makes, kills}
 use Rattle.herm_model.specs.ControlPaths.{Point, Edge, flow_of, held_after_edge, IsReached}
 use Rattle.herm_model.specs.Labels.{Labels, label_at, AreExact}
 use Rattle.herm_model.specs.Values.{Cell, Parts, has_place, put_at, clear_at}

@@ -6,7 +6,7 @@ use Rattle.herm_model.specs.Types.{TypeTable, by_in, by_out, predefined, boolean
 use Rattle.herm_model.specs.Expressions.{Literal, logical_and, less, plus, concatenated, Expression, literal, copy, negation, logical_not, operation, size_of, decimal, length_of}
 use Rattle.herm_model.specs.TypedExpressions.{HasShape, IsTyped, passes_out}
 use Rattle.herm_model.specs.Statements.{Form, Assign, If, While}
-use Rattle.herm_model.specs.StatementTable.{needs}
+use Rattle.herm_model.specs.FactsOfStatements.{needs}
 use Rattle.herm_model.specs.Outcomes.{raised_by}
 use Rattle.herm_model.specs.Values.{a_boolean, a_scalar, cell, no_parts, Parts}
 use Rattle.herm_model.specs.Typed.{IsFull}

@@ -4,7 +4,7 @@ use Rattle.herm_model.specs.Lists.{IsIn}
 use Rattle.herm_model.specs.Paths.{Fact}
 use Rattle.herm_model.specs.Statements.{Form}
 use Rattle.herm_model.specs.Outcomes.{Outcome}
-use Rattle.herm_model.specs.StatementTable.{needs}
+use Rattle.herm_model.specs.FactsOfStatements.{needs}
 use Rattle.herm_forms.specs.Frames.{Name, Frame, goes}
 use Rattle.herm_forms.specs.Modules.{Module}
 use Rattle.herm_forms.specs.Acts.{act}

@@ -4,12 +4,12 @@ use Rattle.herm_model.specs.Lists.{IsIn}
 use Rattle.herm_model.specs.Paths.{Path, Fact}
 use Rattle.herm_model.specs.Expressions.{Expression, Atom}
 use Rattle.herm_model.specs.Statements.{Form, Assign, Move, New, Discard, Unite, Dissolve, Reveal, Case, Wrap, Unwrap, Insert, Remove, Get, For, Connect, If, While, Raise, Leave, Process}
-use Rattle.herm_model.specs.StatementTable.{needs}
+use Rattle.herm_model.specs.FactsOfStatements.{needs}
 use Rattle.herm_model.specs.Outcomes.{Outcome}
 use Rattle.herm_model.specs.Types.{type_at}
 use Rattle.herm_model.specs.Values.{Parts}
 use Rattle.herm_model.specs.Typed.{Fits, many}
-use Rattle.herm_forms.specs.Forms.{rows_for}
+use Rattle.herm_forms.specs.LoopForms.{rows_for}
 use Rattle.herm_forms.specs.Frames.{Name, Frame, goes}
 use Rattle.herm_forms.specs.Modules.{Module}
 use Rattle.herm_forms.specs.Acts.{is_action, act}

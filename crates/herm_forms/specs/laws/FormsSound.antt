@@ -7,14 +7,14 @@ use Rattle.herm_model.specs.Types.{type_at}
 use Rattle.herm_model.specs.Expressions.{Expression, Atom}
 use Rattle.herm_model.specs.Calls.{inport_at}
 use Rattle.herm_model.specs.Statements.{Form, Assign, Move, New, Discard, Unite, Dissolve, Reveal, Case, Wrap, Unwrap, Insert, Remove, Get, For, Connect, Send, Receive, Select, Arm, Call, Return, ReturnBy, Create, If, While, Raise, Leave, Process}
-use Rattle.herm_model.specs.StatementTable.{needs}
+use Rattle.herm_model.specs.FactsOfStatements.{needs}
 use Rattle.herm_model.specs.Outcomes.{Outcome}
 use Rattle.herm_model.specs.Values.{Cell, Parts}
 use Rattle.herm_model.specs.Typed.{Fits, many}
 use Rattle.herm_journal.specs.Actions.{to_put, put, hear}
 use Rattle.herm_journal.specs.Messages.{CellAction, CellReply, IsMessage}
 use Rattle.herm_forms.specs.Frames.{Name, Loop, Frame, goes, stays}
-use Rattle.herm_forms.specs.Forms.{rows_for}
+use Rattle.herm_forms.specs.LoopForms.{rows_for}
 use Rattle.herm_forms.specs.Modules.{Module}
 use Rattle.herm_forms.specs.Acts.{is_action, act, wants, settle, settle_reply}
 use Rattle.herm_forms.specs.OpenCalls.{Calling, call_type, IsReply}

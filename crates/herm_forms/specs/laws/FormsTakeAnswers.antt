@@ -5,7 +5,7 @@ use Rattle.herm_model.specs.Lists.{IsIn}
 use Rattle.herm_model.specs.Paths.{Path, Fact}
 use Rattle.herm_model.specs.Expressions.{Atom}
 use Rattle.herm_model.specs.Statements.{Form, New, Send, Receive, Select, Arm, Call, Return, ReturnBy, Create, Process}
-use Rattle.herm_model.specs.StatementTable.{needs}
+use Rattle.herm_model.specs.FactsOfStatements.{needs}
 use Rattle.herm_model.specs.Outcomes.{Outcome, outcomes}
 use Rattle.herm_journal.specs.Actions.{make_port, make_process, put, take, answer, hear}
 use Rattle.herm_journal.specs.Messages.{CellWant, CellAction, CellReply}

@@ -8,7 +8,7 @@ use Rattle.herm_model.specs.Expressions.{Expression}
 use Rattle.herm_model.specs.Statements.{Form, Arm, Assign, Move, New, Connect, Receive, Select, Send, Create}
 use Rattle.herm_model.specs.Calls.{inport_at}
 use Rattle.herm_model.specs.Outcomes.{Outcome}
-use Rattle.herm_model.specs.StatementTable.{needs}
+use Rattle.herm_model.specs.FactsOfStatements.{needs}
 use Rattle.herm_model.specs.Values.{Cell, Parts, Value}
 use Rattle.herm_model.specs.Typed.{IsFull}
 use Rattle.herm_forms.specs.Evaluate.{gives, evaluate}

@@ -5,7 +5,7 @@ use Rattle.herm_model.specs.Paths.{Fact, same_fact}
 use Rattle.herm_model.specs.Types.{TypeTable}
 use Rattle.herm_model.specs.Facts.{IsClosed}
 use Rattle.herm_model.specs.Outcomes.{Outcome, raised}
-use Rattle.herm_model.specs.StatementTable.{closed}
+use Rattle.herm_model.specs.FactsOfStatements.{closed}
 use Rattle.herm_model.specs.Targets.{end}
 use Rattle.herm_model.specs.ControlPaths.{held_after_edge}
 use Rattle.herm_model.specs.Values.{Name, Parts}

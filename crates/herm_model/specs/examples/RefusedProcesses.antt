@@ -6,7 +6,7 @@ use Rattle.herm_model.specs.Expressions.{Expression, literal, copy, operation, e
 use Rattle.herm_model.specs.Statements.{Assign, New, Discard, Insert, Receive, Send, If, While, Create, Call, ReturnBy, Statement, simple, choosing, repeating, trying, Block, no_statements, statement, no_blocks, block, Handlers, no_handlers, handler, Process}
 use Rattle.herm_model.specs.Outcomes.{ok, is_true, is_false, raised, duplicate_key, disconnected}
 use Rattle.herm_model.specs.ControlPaths.{Hop}
-use Rattle.herm_model.specs.Refusals.{Refusal}
+use Rattle.herm_model.specs.MissingFacts.{Refusal}
 
 -- a hop that goes on normally
 abbrev pub normally : ℕ → Hop

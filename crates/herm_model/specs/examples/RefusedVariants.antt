@@ -4,7 +4,7 @@ use Rattle.herm_model.specs.Paths.{case}
 use Rattle.herm_model.specs.Types.{TypeTable, predefined, cases}
 use Rattle.herm_model.specs.Expressions.{literal, integer, path}
 use Rattle.herm_model.specs.Statements.{Assign, Move, Unite, Dissolve, Reveal, Statement, simple, Process}
-use Rattle.herm_model.specs.Refusals.{Refusal}
+use Rattle.herm_model.specs.MissingFacts.{Refusal}
 use Rattle.herm_model.specs.examples.RefusedProcesses.{normally, in_order}
 
 --   definitions d { type v = variant { a: integer, b: string }; }

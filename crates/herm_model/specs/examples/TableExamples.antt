@@ -6,7 +6,7 @@ use Rattle.herm_model.specs.Types.{TypeTable, predefined, fields, cases, rows, i
 use Rattle.herm_model.specs.Expressions.{literal, copy, size_of, operation, plus, equal, boolean, integer, Atom, path}
 use Rattle.herm_model.specs.Statements.{Form, Assign, Move, New, Discard, Unite, Dissolve, Reveal, Case, Wrap, Unwrap, Insert, Remove, Get, For, Connect, Send, Receive, Select, Call, Return, ReturnBy, Create, If, While, Raise, Leave}
 use Rattle.herm_model.specs.Outcomes.{Outcome, ok, is_true, is_false, turn, done, component, arm, raised, outcomes, overflow, depletion, case_error, polymorph_mismatch, duplicate_key, not_found, disconnected}
-use Rattle.herm_model.specs.StatementTable.{needs, makes, kills}
+use Rattle.herm_model.specs.FactsOfStatements.{needs, makes, kills}
 
 --   8 pair = record { n: integer, s: string }           13 ask = callmessage (in k: integer, inout p: pair, out s: string)
 --   9 either = variant { p: pair, n: integer }               raises (e7 { full(p) }, e8)

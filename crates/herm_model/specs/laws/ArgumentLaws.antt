@@ -6,7 +6,7 @@ use Rattle.herm_model.specs.Types.{Mode, Parameter, TypeTable, is_within_depth, 
 use Rattle.herm_model.specs.Expressions.{Atom}
 use Rattle.herm_model.specs.Statements.{Call, Process}
 use Rattle.herm_model.specs.Calls.{call_parameters, call_raises, kept_for, is_returned, arguments_by}
-use Rattle.herm_model.specs.StatementTable.{kept_by_call}
+use Rattle.herm_model.specs.FactsOfStatements.{kept_by_call}
 use Rattle.herm_model.specs.WellFormedTables.{IsWellFormedTable}
 use Rattle.herm_model.specs.TypedStatements.{AreApart, IsTarget, IsTypedForm}
 

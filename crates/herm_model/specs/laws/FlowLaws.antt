@@ -8,9 +8,9 @@ use Rattle.herm_model.specs.Statements.{Form, Leave, Statement, simple, choosing
 use Rattle.herm_model.specs.Outcomes.{Outcome, outcomes}
 use Rattle.herm_model.specs.Nodes.{Node, process_nodes, Exit, exits}
 use Rattle.herm_model.specs.Targets.{Target, node, end, end_by}
-use Rattle.herm_model.specs.StatementTable.{needs, makes}
+use Rattle.herm_model.specs.FactsOfStatements.{needs, makes}
 use Rattle.herm_model.specs.ControlPaths.{Edge, Point, Flow, flow_of, Hop, walk, IsControlPath, IsReached, Holds}
-use Rattle.herm_model.specs.Refusals.{Demand, demands, Refusal, AreRefusals, IsAccepted}
+use Rattle.herm_model.specs.MissingFacts.{Demand, demands, Refusal, AreRefusals, IsAccepted}
 use Rattle.herm_model.specs.Labels.{Labels, AreInductive, AreExact}
 
 -- each number is below all that come after it

@@ -4,7 +4,7 @@ use Rattle.herm_model.specs.Paths.{Fact}
 use Rattle.herm_model.specs.Types.{TypeTable}
 use Rattle.herm_model.specs.Statements.{Process}
 use Rattle.herm_model.specs.ControlPaths.{Flow, Holds, Lacks}
-use Rattle.herm_model.specs.Refusals.{Demand, Refusal, AreRefusals, IsMissing}
+use Rattle.herm_model.specs.MissingFacts.{Demand, Refusal, AreRefusals, IsMissing}
 use Rattle.herm_model.specs.Labels.{Labels, AreExact}
 
 -- At each point of each flow a fact is held on every control path, or there is one on which it is not held.

@@ -6,7 +6,7 @@ use Rattle.herm_model.specs.Types.{TypeTable}
 use Rattle.herm_model.specs.Facts.{facts_to, prefixes, IsFactOf}
 use Rattle.herm_model.specs.Statements.{Form}
 use Rattle.herm_model.specs.Outcomes.{Outcome}
-use Rattle.herm_model.specs.StatementTable.{needs, makes}
+use Rattle.herm_model.specs.FactsOfStatements.{needs, makes}
 
 -- each fact of the list stands behind the facts before it
 abbrev pub StandBehindPrefixes : TypeTable → List ℕ → List Fact → Type 0

@@ -4,7 +4,7 @@ use Rattle.std.specs.Fmt.{decimal, signed_decimal}
 use Rattle.herm_model.specs.Types.{TypeTable}
 use Rattle.herm_model.specs.Values.{Value}
 use Rattle.herm_model.specs.Typed.{Degree, IsOf, is_integer}
-use Rattle.herm_model.specs.Texts.{text_of, numeral, signed_numeral, begins_with_digit}
+use Rattle.herm_model.specs.ValueTexts.{text_of, numeral, signed_numeral, begins_with_digit}
 
 -- Two values of one type, with more behind each of their texts that does not begin with a digit: where the whole is
 -- the same, the values and what follows are. So it is for values of which parts may be missing, and for full ones.

@@ -9,7 +9,7 @@ use Rattle.herm_model.specs.Statements.{Form, Assign, Move, New, Discard, Unite,
 use Rattle.herm_model.specs.Outcomes.{Outcome, outcomes, disconnected}
 use Rattle.herm_model.specs.Targets.{Target}
 use Rattle.herm_model.specs.Calls.{call_raises, kept_for}
-use Rattle.herm_model.specs.StatementTable.{needs, makes, kills, set_by_call, kept_by_call}
+use Rattle.herm_model.specs.FactsOfStatements.{needs, makes, kills, set_by_call, kept_by_call}
 use Rattle.herm_model.specs.ControlPaths.{flow_of, Hop, IsControlPath}
 use Rattle.herm_model.specs.TypedExpressions.{HasShape, IsLiteralOf}
 use Rattle.herm_model.specs.WellFormedTables.{IsType, IsWellFormedTable}

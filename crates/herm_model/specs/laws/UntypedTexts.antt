@@ -5,7 +5,7 @@ use Rattle.herm_model.specs.Types.{TypeTable}
 use Rattle.herm_model.specs.Values.{Name, Value, Cell}
 use Rattle.herm_model.specs.CellNames.{forget}
 use Rattle.herm_model.specs.Typed.{Degree, IsOf}
-use Rattle.herm_model.specs.Texts.{text_of}
+use Rattle.herm_model.specs.ValueTexts.{text_of}
 use Rattle.herm_model.specs.WellMade.{is_well_made, may_go_on}
 
 -- Two well made values, with more behind each of their texts that cannot go on with it: where the whole is the same,

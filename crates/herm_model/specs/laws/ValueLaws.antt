@@ -10,7 +10,7 @@ use Rattle.herm_model.specs.FactsOfValues.{satisfies}
 use Rattle.herm_model.specs.Tables.{key_of, has_key, place_of_key, has_distinct_keys, without_part}
 use Rattle.herm_model.specs.Typed.{Degree, IsOf, IsFull, HasType}
 use Rattle.herm_model.specs.Finalising.{finalised, pending, excess_from, cells_at, clear_all}
-use Rattle.herm_model.specs.Texts.{text_of}
+use Rattle.herm_model.specs.ValueTexts.{text_of}
 
 -- What is at a path behind a change at another. The parts are those of the ledger's cells.
 pub record IsChangedAt (p : Path) (o : Option (Cell Name)) (ps : Parts Name) : Type 0 where

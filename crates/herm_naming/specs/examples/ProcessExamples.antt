@@ -3,7 +3,7 @@ use Rattle.std.specs.Prelude.{ℕ, List, [], ◌∷◌, map, codes, Option, Some
 use Rattle.herm_syntax.specs.Trees.{Letters, Field, Statement, Assign, Leave, While, Raise, New, If, Else, Try, Arm, NoArm}
 use Rattle.herm_naming.specs.Meaning.{ProcessText, process_meaning}
 use Rattle.herm_naming.specs.StatementFaults.{Code, unknown, twice, wrong_type, no_main, too_many, name_code, process_codes}
-use Rattle.herm_naming.specs.Refusals.{main_refusals}
+use Rattle.herm_naming.specs.RefusalsOfNames.{main_refusals}
 use Rattle.herm_naming.specs.examples.ExampleScope.{known, one, atom, at, number, string, in_order}
 
 abbrev pub process : Letters → Letters → List Field → List Statement → ProcessText

@@ -5,7 +5,7 @@ use Rattle.herm_syntax.specs.Trees.{Module}
 use Rattle.herm_meaning.specs.Names.{NamedTable, IsWellNamed}
 use Rattle.herm_naming.specs.Meaning.{processes_in, meaning, main_number}
 use Rattle.herm_naming.specs.StatementFaults.{Code}
-use Rattle.herm_naming.specs.Refusals.{Places, ArePlaced, AreRefusals}
+use Rattle.herm_naming.specs.RefusalsOfNames.{Places, ArePlaced, AreRefusals}
 
 -- Modules without a refusal mean a typed program.
 abbrev pub UnrefusedIsTyped : Type 0

@@ -3,8 +3,10 @@ use Rattle.std.proofs.Common.{◌≡◌, ℕ, zero, suc, ◌+◌, List, [], ◌�
 use Rattle.std.specs.Prelude.{is_some}
 use Rattle.herm_model.specs.Lists.{any_pass, list_of, numbered, total}
 use Rattle.herm_model.specs.Values.{Name, Cell}
-use Rattle.herm_model.specs.Texts.{text_of}
-use Rattle.herm_journal.specs.PlaceStates.{Port, left_in, first_of, Book, a_port, replies, a_book}
+use Rattle.herm_model.specs.ValueTexts.{text_of}
+use Rattle.herm_journal.specs.Ports.{Port, left_in, first_of}
+use Rattle.herm_journal.specs.Books.{Book}
+use Rattle.herm_journal.specs.PlaceStates.{a_port, replies, a_book}
 use Rattle.herm_journal.specs.Entries.{Text, Place, port, reply_cell, book, Entry}
 use Rattle.herm_journal.specs.Messages.{CellWant}
 use Rattle.herm_journal.specs.Weights.{weigh_serials}

@@ -5,7 +5,8 @@ use Rattle.herm_model.specs.Lists.{any_pass}
 use Rattle.herm_model.specs.Values.{Name, Cell, cell, an_inport, no_parts}
 use Rattle.herm_model.proofs.Options.{some-injective, none-not_some, map-some}
 use Rattle.herm_journal.specs.Actions.{make_port, make_process, put, take, close, answer, hear}
-use Rattle.herm_journal.specs.PlaceStates.{empty_port, PlaceState, a_port, replies, a_book, after}
+use Rattle.herm_journal.specs.Ports.{empty_port}
+use Rattle.herm_journal.specs.PlaceStates.{PlaceState, a_port, replies, a_book, after}
 use Rattle.herm_journal.specs.Entries.{Place, port, reply_cell, book, same_place}
 use Rattle.herm_journal.specs.Messages.{CellReply, CellAction}
 use Rattle.herm_system.specs.Machines.{Machine, is_local, is_acting, inport_of}

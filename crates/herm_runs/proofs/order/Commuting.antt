@@ -4,7 +4,8 @@ use Rattle.std.specs.Prelude.{nat_eq}
 use Rattle.std.proofs.lemmas.Bool.{eqb-true}
 use Rattle.herm_model.specs.Values.{Cell, Name}
 use Rattle.herm_model.proofs.Options.{none-not_some, map-some}
-use Rattle.herm_journal.specs.PlaceStates.{empty_port, PlaceState, a_port, replies, a_book}
+use Rattle.herm_journal.specs.Ports.{empty_port}
+use Rattle.herm_journal.specs.PlaceStates.{PlaceState, a_port, replies, a_book}
 use Rattle.herm_journal.specs.Entries.{Place, port, reply_cell, book, same_place}
 use Rattle.herm_journal.specs.Messages.{CellReply}
 use Rattle.herm_system.specs.Systems.{System, holding_at, set_holding, numbered_from_one, set_from_one, set_process}

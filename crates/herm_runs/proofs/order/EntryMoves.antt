@@ -4,7 +4,8 @@ use Rattle.herm_model.specs.Lists.{any_pass}
 use Rattle.herm_model.specs.Values.{Cell, Name}
 use Rattle.herm_model.proofs.Options.{some-injective, none-not_some, map-some}
 use Rattle.herm_journal.specs.Actions.{to_put, to_take, to_close, to_answer, to_hear, make_port, make_process}
-use Rattle.herm_journal.specs.PlaceStates.{PlaceState, a_port, replies, Port, Replies, first_of, after}
+use Rattle.herm_journal.specs.PlaceStates.{PlaceState, a_port, replies, Replies, after}
+use Rattle.herm_journal.specs.Ports.{Port, first_of}
 use Rattle.herm_journal.specs.Entries.{Place, port, reply_cell, book, same_place, Entry, recorded}
 use Rattle.herm_journal.specs.Messages.{CellReply, CellWant, CellAction}
 use Rattle.herm_system.specs.Machines.{Machine, acting, is_local, is_acting, inport_of}

@@ -5,7 +5,7 @@ use Rattle.herm_model.specs.Lists.{list_of}
 use Rattle.herm_model.specs.Types.{predefined}
 use Rattle.herm_model.specs.Values.{Name, a_scalar, a_text, an_inport, Cell, cell, no_parts}
 use Rattle.herm_model.specs.Finalising.{finalised}
-use Rattle.herm_model.specs.Texts.{numeral}
+use Rattle.herm_model.specs.ValueTexts.{numeral}
 use Rattle.herm_journal.specs.Actions.{to_put, to_close, put, close}
 use Rattle.herm_journal.specs.Entries.{Text}
 use Rattle.herm_journal.specs.Messages.{CellWant, CellAction}

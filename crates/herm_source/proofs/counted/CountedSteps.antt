@@ -19,7 +19,7 @@ use Rattle.herm_journal.specs.Messages.{CellReply, CellWant, CellAction}
 use Rattle.herm_forms.specs.Frames.{counted_step, counted_action, Frame, goes, stays, cleared, drop, if_there}
 use Rattle.herm_forms.specs.Exchanges
 use Rattle.herm_forms.specs.Callmessages as callmessages
-use Rattle.herm_forms.specs.Exchanges.{work_wants}
+use Rattle.herm_forms.specs.ClosesAndAnswers.{work_wants}
 use Rattle.herm_forms.specs.Callmessages.{Composed}
 use Rattle.herm_forms.specs.EdgeFinalising.{arrive}
 use Rattle.herm_forms.specs.Excess.{excess_over_declared}

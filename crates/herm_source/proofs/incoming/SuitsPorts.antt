@@ -19,7 +19,7 @@ use Rattle.herm_forms.specs.Frames
 use Rattle.herm_forms.specs.Forms.{inport_number}
 use Rattle.herm_journal.specs.Messages.{CellWant, CellReply}
 use Rattle.herm_forms.specs.Exchanges.{inport_at, outport_at, ports_at}
-use Rattle.herm_forms.specs.Exchanges
+use Rattle.herm_forms.specs.ClosesAndAnswers
 use Rattle.herm_forms.specs.Callmessages as callmessages
 use Rattle.herm_forms.specs.Modules.{Module}
 use Rattle.herm_source.specs.States.{State, node_at, item_or, call_or_statement, wanted, wanted_next, own_name}
@@ -99,7 +99,7 @@ record Takes (c : Module) (s : State Name) (ports : List ℕ) : Type 0 where
   here : node_at c s.point ≡ Some node
   looked : ports_at (ports_of node.form) s.frame ≡ Some ports
 
-item-takes : {A : Type 0} (item : Cell Name) (ports : List ℕ) → Exchanges.work_wants item ≡ Some (to_take ports) → A
+item-takes : {A : Type 0} (item : Cell Name) (ports : List ℕ) → ClosesAndAnswers.work_wants item ≡ Some (to_take ports) → A
 item-takes (cell n (an_inport port) qs) ports e = not-take (to_close port) ports refl (some-injective e)
 item-takes (cell n (a_callmessage caller call) qs) ports e = not-take (to_answer caller call Actions.gone) ports refl (some-injective e)
 item-takes (cell n k qs) ports e = none-not_some e

@@ -6,7 +6,7 @@ use Rattle.herm_model.specs.Targets.{Target}
 use Rattle.herm_model.specs.Values.{Kind, a_callmessage, Cell}
 use Rattle.herm_model.proofs.Options.{none-not_some, some-injective, map-some}
 use Rattle.herm_forms.specs.Frames.{Name, Frame, Completion, goes, stays, stuck, counted_step, counted_action}
-use Rattle.herm_forms.specs.Exchanges
+use Rattle.herm_forms.specs.ClosesAndAnswers
 use Rattle.herm_journal.specs.Messages.{CellWant, CellAction}
 use Rattle.herm_forms.specs.EdgeFinalising.{arrive}
 use Rattle.herm_forms.specs.Modules.{Module}
@@ -72,7 +72,7 @@ module _ {N : Type 0} (name : Name → N) (of : Kind → Type 0) (allows : Allow
 
   is-settle_next : (c : Module) (s t : State N) (at : ℕ) (a : CellAction N) (next : Next N) → NextKinds next → ActionKinds of a → BodyKinds of s.frame → settle_next name c s at a next ≡ Some t → BodyKinds of t.frame
   is-settle_next c s t at a (an_item item work) n h e is =
-      is-behind c s t None (Exchanges.work_done item a (counted_action (record (s.frame) { work = work }))) (all-work name of allows item a (counted_action (record (s.frame) { work = work })) n.0 h (e.0, e.1, n.1, e.3)) is
+      is-behind c s t None (ClosesAndAnswers.work_done item a (counted_action (record (s.frame) { work = work }))) (all-work name of allows item a (counted_action (record (s.frame) { work = work })) n.0 h (e.0, e.1, n.1, e.3)) is
   is-settle_next c s t at a (a_reply call node) n h e is = is-behind c s t (Some node) (settle_reply c node.form call a (counted_action s.frame)) (all-settle_reply name of allows c node.form call a (counted_action s.frame) h e) is
   is-settle_next c s t at a (a_statement node) n h e is = is-behind c s t (Some node) (settle name c node.form at a (counted_action (counted_step s.frame))) (all-settle name of allows c node.form at a (counted_action (counted_step s.frame)) h e) is
   is-settle_next c s t at a nothing n h e is = none-not_some is

@@ -18,7 +18,7 @@ use Rattle.herm_journal.specs.Actions
 use Rattle.herm_journal.specs.Messages.{CellReply, CellWant, CellAction, OfType, AreFull, is_inport, IsReplyTo, message_of_port, types_of_reply, cells_in}
 use Rattle.herm_journal.specs.PartTypes.{PartTypes, each, all_of, part_types_at, is_kind_at, IsPlaced, ArePlaced}
 use Rattle.herm_forms.specs.Frames.{Frame, counted_step, counted_action}
-use Rattle.herm_forms.specs.Exchanges
+use Rattle.herm_forms.specs.ClosesAndAnswers
 use Rattle.herm_forms.specs.Modules.{Module}
 use Rattle.herm_forms.specs.Acts.{is_action, wants, settle, settle_reply}
 use Rattle.herm_forms.specs.OpenCalls.{Calling, calling_form, call_type, returned_types, kept_types}
@@ -162,7 +162,7 @@ module _ (Is : ℕ → Kind → Type 0) (c : Module) where
 
       pub answer-is : (next : Next Name) → next_of c x ≡ next → wanted_next own_name c x.frame next ≡ Some want → settle_next own_name c x place a next ≡ Some y → Body' Is c y.frame
       answer-is (an_item item work) next wants' is =
-          behind-is Is c x y None (Exchanges.work_done item a (counted_action (record (x.frame) { work = work }))) (work-is own_name c (Own Is c) agrees' (row_type c) item a (counted_action (record (x.frame) { work = work })) own) is
+          behind-is Is c x y None (ClosesAndAnswers.work_done item a (counted_action (record (x.frame) { work = work }))) (work-is own_name c (Own Is c) agrees' (row_type c) item a (counted_action (record (x.frame) { work = work })) own) is
       answer-is (a_reply call n) next wants' is =
           let at = node-of_reply call n next in
           behind-is Is c x y (Some n) (settle_reply c n.form call a (counted_action x.frame))

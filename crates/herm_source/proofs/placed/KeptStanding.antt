@@ -18,7 +18,8 @@ use Rattle.herm_journal.specs.Actions.{gone, new_port, new_process, to_put, to_t
 use Rattle.herm_journal.specs.Messages.{CellReply, CellWant, CellAction, is_inport, message_of_port, types_of_reply, cells_in}
 use Rattle.herm_journal.specs.PartTypes.{is_kind_at}
 use Rattle.herm_forms.specs.Frames.{Frame, stays, if_there, counted_step, counted_action}
-use Rattle.herm_forms.specs.Exchanges.{outport_at, work_wants}
+use Rattle.herm_forms.specs.Exchanges.{outport_at}
+use Rattle.herm_forms.specs.ClosesAndAnswers.{work_wants}
 use Rattle.herm_forms.specs.Callmessages.{Composed}
 use Rattle.herm_forms.specs.Modules.{Module}
 use Rattle.herm_forms.specs.Acts.{is_action, composed, wants, settle}

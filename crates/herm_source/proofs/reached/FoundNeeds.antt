@@ -5,11 +5,11 @@ use Rattle.herm_model.specs.Lists.{IsIn, list_of, any_pass, numbered}
 use Rattle.herm_model.specs.Paths.{Fact, init, case, path_of, is_at_or_below}
 use Rattle.herm_model.specs.Types.{TypeTable}
 use Rattle.herm_model.specs.Statements.{Process}
-use Rattle.herm_model.specs.StatementTable.{needs}
+use Rattle.herm_model.specs.FactsOfStatements.{needs}
 use Rattle.herm_model.specs.Nodes.{Node, process_nodes}
 use Rattle.herm_model.specs.Targets.{Target, node, end, end_by}
 use Rattle.herm_model.specs.ControlPaths.{flow_of, point, IsReached}
-use Rattle.herm_model.specs.Refusals.{Demand, demands_at, demands, IsAccepted}
+use Rattle.herm_model.specs.MissingFacts.{Demand, demands_at, demands, IsAccepted}
 use Rattle.herm_model.specs.Labels.{Labels, AreExact}
 use Rattle.herm_model.specs.Values.{Parts}
 use Rattle.herm_model.specs.FactsOfValues.{satisfies, HasExactly}

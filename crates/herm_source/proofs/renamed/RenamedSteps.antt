@@ -7,7 +7,7 @@ use Rattle.herm_model.specs.Values.{Cell, part}
 use Rattle.herm_model.specs.CellNames.{rename}
 use Rattle.herm_model.proofs.Renaming.{gaps-rename}
 use Rattle.herm_forms.specs.Frames.{Name, Frame, Completion, goes, stays, stuck, counted_step, counted_action}
-use Rattle.herm_forms.specs.Exchanges
+use Rattle.herm_forms.specs.ClosesAndAnswers
 use Rattle.herm_journal.specs.Messages.{CellWant, CellAction}
 use Rattle.herm_forms.specs.EdgeFinalising.{arrive}
 use Rattle.herm_forms.specs.Modules.{Module}
@@ -84,7 +84,7 @@ module _ {N M : Type 0} (f : N → M) (name : Name → N) where
       → settle_next (again f name) c (rename_state f s) at (rename_action f action) (rename_next next) ≡ option_map (rename_state f) (settle_next name c s at action next)
   settle_next-renamed c s at action (an_item item work) =
       let b : Frame N = counted_action (record (s.frame) { work = work }) in
-      ap (state_after c (rename_state f s) None) (work_done-renamed f item action b) ∙ behind-renamed c s None (Exchanges.work_done item action b)
+      ap (state_after c (rename_state f s) None) (work_done-renamed f item action b) ∙ behind-renamed c s None (ClosesAndAnswers.work_done item action b)
   settle_next-renamed c s at action (a_reply call n) =
       ap (state_after c (rename_state f s) (Some n)) (settle_reply-renamed f name c n.form call action (counted_action s.frame)) ∙ behind-renamed c s (Some n) (settle_reply c n.form call action (counted_action s.frame))
   settle_next-renamed c s at action (a_statement n) =

@@ -17,7 +17,9 @@ use Rattle.herm_journal.specs.Messages.{CellWant, CellAction, CellReply, is_inpo
 use Rattle.herm_journal.specs.PartTypes.{each}
 use Rattle.herm_forms.specs.Frames.{Name, Frame, counted_action}
 use Rattle.herm_forms.specs.Exchanges
-use Rattle.herm_forms.specs.Exchanges.{work_wants, inport_at, ports_at}
+use Rattle.herm_forms.specs.ClosesAndAnswers
+use Rattle.herm_forms.specs.ClosesAndAnswers.{work_wants}
+use Rattle.herm_forms.specs.Exchanges.{inport_at, ports_at}
 use Rattle.herm_forms.specs.Modules.{Module, module_of}
 use Rattle.herm_forms.specs.Acts.{is_action, wants, given_back, given_at, given_by, settle_reply}
 use Rattle.herm_forms.specs.OpenCalls.{Calling, call_type, IsReply}
@@ -136,15 +138,15 @@ module _ (exceptions : ℕ) (types : TypeTable) (processes : List Process) (p : 
 
   -- answers
   module _ (at : ℕ) (w : CellWant Name) where
-    item-answered : (item : Cell Name) (work : List (Cell Name)) (a : CellAction Name) → work_wants item ≡ Some w → Answers w a → (y : State Name) × (state_after c s None (Exchanges.work_done item a (counted_action (record (s.frame) { work = work }))) ≡ Some y)
+    item-answered : (item : Cell Name) (work : List (Cell Name)) (a : CellAction Name) → work_wants item ≡ Some w → Answers w a → (y : State Name) × (state_after c s None (ClosesAndAnswers.work_done item a (counted_action (record (s.frame) { work = work }))) ≡ Some y)
     item-answered (cell n (an_inport port) ps) work a e h = by a (subst (λ w. Answers w a) (sym (some-injective e)) h)
       where
-        by : (a : CellAction Name) → Answers {M = Cell Name} {R = CellReply Name} (to_close port) a → (y : State Name) × (state_after c s None (Exchanges.work_done (cell n (an_inport port) ps) a (counted_action (record (s.frame) { work = work }))) ≡ Some y)
+        by : (a : CellAction Name) → Answers {M = Cell Name} {R = CellReply Name} (to_close port) a → (y : State Name) × (state_after c s None (ClosesAndAnswers.work_done (cell n (an_inport port) ps) a (counted_action (record (s.frame) { work = work }))) ≡ Some y)
         by (close count left) h = (_, refl)
         by a h = absurd h
     item-answered (cell n (a_callmessage caller call) ps) work a e h = by a (subst (λ w. Answers w a) (sym (some-injective e)) h)
       where
-        by : (a : CellAction Name) → Answers {M = Cell Name} {R = CellReply Name} (to_answer caller call gone) a → (y : State Name) × (state_after c s None (Exchanges.work_done (cell n (a_callmessage caller call) ps) a (counted_action (record (s.frame) { work = work }))) ≡ Some y)
+        by : (a : CellAction Name) → Answers {M = Cell Name} {R = CellReply Name} (to_answer caller call gone) a → (y : State Name) × (state_after c s None (ClosesAndAnswers.work_done (cell n (a_callmessage caller call) ps) a (counted_action (record (s.frame) { work = work }))) ≡ Some y)
         by (answer k r) h = (_, refl)
         by a h = absurd h
     item-answered (cell n k ps) work a e h = none-not_some e

@@ -13,7 +13,7 @@ use Rattle.herm_model.proofs.Lists.{not_true, in-map, in-map_from, in-filter, in
 use Rattle.herm_journal.proofs.Rising.{same-true}
 use Rattle.herm_model.proofs.Options.{none-not_some}
 use Rattle.herm_forms.specs.Frames.{Name, Loop, Frame, drop}
-use Rattle.herm_forms.specs.Forms.{rows_for}
+use Rattle.herm_forms.specs.LoopForms.{rows_for}
 use Rattle.herm_forms.specs.EdgeFinalising.{arrive, keeps}
 use Rattle.herm_forms.specs.LeavingLoops.{keeps_loop}
 use Rattle.herm_forms.specs.Modules.{Module}

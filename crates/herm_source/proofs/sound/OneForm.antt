@@ -7,7 +7,7 @@ use Rattle.herm_model.specs.Lists.{IsIn}
 use Rattle.herm_model.specs.Paths.{Path, Fact}
 use Rattle.herm_model.specs.Expressions.{Atom}
 use Rattle.herm_model.specs.Statements.{Form, For, Call, Process}
-use Rattle.herm_model.specs.StatementTable.{needs}
+use Rattle.herm_model.specs.FactsOfStatements.{needs}
 use Rattle.herm_model.specs.Outcomes.{Outcome, raised, disconnected}
 use Rattle.herm_model.specs.Values.{Parts}
 use Rattle.herm_model.specs.Typed.{Fits, many}
@@ -15,7 +15,7 @@ use Rattle.herm_model.proofs.Options.{none-not_some, some-injective}
 use Rattle.herm_journal.specs.Actions.{put, hear}
 use Rattle.herm_journal.specs.Messages.{CellAction, CellReply}
 use Rattle.herm_forms.specs.Frames.{Name, Loop, Frame, Completion, goes, stays, stuck, if_there, drop, finalise_at_once}
-use Rattle.herm_forms.specs.Forms.{rows_for}
+use Rattle.herm_forms.specs.LoopForms.{rows_for}
 use Rattle.herm_forms.specs.Modules.{Module}
 use Rattle.herm_forms.specs.Callmessages.{Composed}
 use Rattle.herm_forms.specs.Acts.{is_action, is_out, arguments_at, composed, act, settle, settle_reply}

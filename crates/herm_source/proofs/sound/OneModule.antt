@@ -12,7 +12,7 @@ use Rattle.herm_model.specs.Nodes.{Node, Exit, exits, process_nodes, entry_of}
 use Rattle.herm_model.specs.Targets.{Target, node, end, end_by}
 use Rattle.herm_model.specs.ControlPaths.{flow_of, IsReached}
 use Rattle.herm_model.specs.Labels.{Labels, label_at, AreExact}
-use Rattle.herm_model.specs.Refusals.{IsAccepted}
+use Rattle.herm_model.specs.MissingFacts.{IsAccepted}
 use Rattle.herm_model.specs.Values.{Cell, cell, an_inport, no_parts}
 use Rattle.herm_model.proofs.Lists.{not_true, in-map_from}
 use Rattle.herm_model.proofs.NodeExits.{exits-outcomes}
@@ -23,7 +23,7 @@ use Rattle.herm_model.proofs.Options.{none-not_some, some-injective, map-some}
 use Rattle.herm_journal.specs.Actions.{hear, to_put, to_answer, put, take}
 use Rattle.herm_journal.specs.Messages.{CellAction, CellReply, CellWant}
 use Rattle.herm_forms.specs.Frames.{Name, Loop, Frame, Completion, goes, stays, stuck, counted_step, counted_action}
-use Rattle.herm_forms.specs.Exchanges
+use Rattle.herm_forms.specs.ClosesAndAnswers
 use Rattle.herm_forms.specs.EdgeFinalising.{arrive}
 use Rattle.herm_forms.specs.Modules.{Module, module_of}
 use Rattle.herm_forms.specs.Acts.{is_action, leads_to, act, settle, settle_reply, wants}
@@ -318,9 +318,9 @@ module _ (exceptions : ℕ) (types : TypeTable) (processes : List Process) (p : 
 
     -- what was done with the front of the work list
     pub worked-well : (item : Cell Name) (work : List (Cell Name)) → s.frame.work ≡ item ∷ work → (action : CellAction Name)
-        → state_after c s None (Exchanges.work_done item action (counted_action (record (s.frame) { work = work }))) ≡ Some t → StandsWell t
+        → state_after c s None (ClosesAndAnswers.work_done item action (counted_action (record (s.frame) { work = work }))) ≡ Some t → StandsWell t
     worked-well item work front action is =
-        by (Exchanges.work_done item action (counted_action (record (s.frame) { work = work })))
+        by (ClosesAndAnswers.work_done item action (counted_action (record (s.frame) { work = work })))
         (all-work (OnlyWorks c s.frame.variables s.frame.loops s.frame.call) (only-lets c s.frame.variables s.frame.loops s.frame.call) item action (counted_action (record (s.frame) { work = work }))
         ((λ x h. sound.work x (subst (IsIn x) (sym front) (inr h))), refl, refl, refl)) is
       where

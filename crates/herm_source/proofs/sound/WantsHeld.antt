@@ -7,7 +7,7 @@ use Rattle.herm_model.specs.Types.{type_at}
 use Rattle.herm_model.specs.Calls.{led_to}
 use Rattle.herm_model.specs.Calls
 use Rattle.herm_model.specs.Statements.{Process, Form, Return, ReturnBy}
-use Rattle.herm_model.specs.StatementTable.{needs}
+use Rattle.herm_model.specs.FactsOfStatements.{needs}
 use Rattle.herm_model.specs.Values.{kind_of, a_callmessage, an_outport, Cell, cell, Parts, read_at}
 use Rattle.herm_model.proofs.Options.{none-not_some, some-injective, chain-some}
 use Rattle.herm_journal.specs.Actions.{values, new_port, new_process, to_put, to_take, to_answer}

@@ -1,6 +1,7 @@
 -- Programs made ready, and the text of their runs by rounds.
 use Rattle.std.specs.Prelude.{ℕ, List, [], ◌∷◌, map, flat_map, Option, option_map, codes, ℤ}
-use Rattle.herm_journal.specs.PlaceStates.{Limits, port_with}
+use Rattle.herm_journal.specs.Books.{Limits}
+use Rattle.herm_journal.specs.Ports.{port_with}
 use Rattle.herm_journal.specs.Entries.{Text}
 use Rattle.herm_source.specs.LabelRounds.{ready}
 use Rattle.herm_source.specs.Modules.{Program, Modules}

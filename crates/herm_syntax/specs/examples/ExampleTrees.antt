@@ -1,6 +1,6 @@
 -- Computed examples: trees beside the symbols that they spell.
 use Rattle.std.specs.Prelude.{◌≡◌, pos, true, List, [], ◌∷◌, Some, None, codes, map, false}
-use Rattle.herm_readers.specs.Brackets.{Opening, Closing, Neither}
+use Rattle.herm_readers.specs.BracketBalance.{Opening, Closing, Neither}
 use Rattle.herm_readers.specs.Reader.{Read, Fault}
 use Rattle.herm_alphabet.specs.KeywordLetters.{keywords as all_keywords, letters as word}
 use Rattle.herm_syntax.specs.Symbols.{Symbol, Number, Quoted, paren_open, paren_close, brace_open, brace_close, bracket_open, bracket_close, comma, semicolon, colon, becomes, dot, hash, equal, plus, minus, star, ampersand, unequal, less, at_most, greater, at_least, level, side}

@@ -3,7 +3,7 @@ use Rattle.std.specs.Prelude.{◌≡◌, ◌≢◌, ℕ, zero, suc, List, [], �
 use Rattle.std.specs.List.{AllByRecursion}
 use Rattle.herm_alphabet.specs.Tokens.{IsSourceKind}
 use Rattle.herm_readers.specs.Reader.{Reader, Read, Fault, Reads}
-use Rattle.herm_readers.specs.Brackets.{too_deep}
+use Rattle.herm_readers.specs.BracketBalance.{too_deep}
 use Rattle.herm_syntax.specs.declared.modules.Module.{Module as ModuleForm}
 use Rattle.herm_syntax.specs.Symbols.{Symbol, side}
 use Rattle.herm_syntax.specs.Trees.{Module}

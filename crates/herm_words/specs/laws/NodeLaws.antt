@@ -12,7 +12,7 @@ use Rattle.herm_typed.specs.View.{typed_form_view, typed_process_view, form_of_s
 use Rattle.herm_typed.specs.Within.{all_statements}
 use Rattle.herm_typed.specs.Beside.{KnowsTypes}
 use Rattle.herm_words.specs.Sites.{sites_in, variant_of}
-use Rattle.herm_words.specs.Words.{variable_types}
+use Rattle.herm_words.specs.MissingFactWords.{variable_types}
 
 -- The statement at the place before a node's number is the node's own: it says what the node says. Language reference, "Statements".
 abbrev pub SitesAreOfNodes : Type 0

@@ -10,7 +10,7 @@ use Rattle.herm_typed.specs.View.{typed_form_view, form_of_statement}
 use Rattle.herm_typed.specs.Within.{all_statements}
 use Rattle.herm_typed.specs.Beside.{KnowsTypes}
 use Rattle.herm_words.specs.Sites.{sites_in, variant_of}
-use Rattle.herm_words.specs.Words.{variable_types}
+use Rattle.herm_words.specs.MissingFactWords.{variable_types}
 
 -- In a process whose types beside its paths are those of the values there: the outcomes of a `case` are named by the type of the variant
 -- at its path. Statements are counted from 1 on. Language reference, "Refusals of typestate".

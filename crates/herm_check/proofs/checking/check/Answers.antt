@@ -1,6 +1,6 @@
 use Rattle.std.proofs.Common.{◌≡◌, length, map, ap, arith}
 use Rattle.std.proofs.lemmas.List.{nil_from_length}
-use Rattle.herm_model.specs.Refusals.{demands}
+use Rattle.herm_model.specs.MissingFacts.{demands}
 use Rattle.herm_flow.specs.View.{flow_view}
 use Rattle.herm_check.specs.Missing.{refusal_view}
 use Rattle.herm_check.proofs.Reported.{none-reported, all-shortest}

@@ -3,7 +3,7 @@ use Rattle.std.proofs.lemmas.List.{map_more, take_all, length-take-le}
 use Rattle.std.proofs.lemmas.Option.{slice_get_read}
 use Rattle.herm_model.specs.Lists.{map_or, numbered}
 use Rattle.herm_model.specs.ControlPaths.{Holds}
-use Rattle.herm_model.specs.Refusals.{demands_at}
+use Rattle.herm_model.specs.MissingFacts.{demands_at}
 use Rattle.herm_model.proofs.Lists.{length-map}
 use Rattle.herm_typestate.specs.declared.state.State.{State}
 use Rattle.herm_typestate.specs.Facts.{has_fact}

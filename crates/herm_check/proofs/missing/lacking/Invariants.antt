@@ -1,6 +1,6 @@
 use Rattle.std.proofs.Common.{map, flat_map, take}
 use Rattle.herm_model.specs.Lists.{numbered}
-use Rattle.herm_model.specs.Refusals.{demands_at}
+use Rattle.herm_model.specs.MissingFacts.{demands_at}
 use Rattle.herm_flow.specs.View.{point_view, flow_view}
 use Rattle.herm_check.specs.Shortest.{AreReported}
 use Rattle.herm_check.specs.Missing.{refusal_view}

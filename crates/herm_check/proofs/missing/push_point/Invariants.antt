@@ -1,5 +1,5 @@
 use Rattle.std.proofs.Common.{◌++◌, List, map, take}
-use Rattle.herm_model.specs.Refusals.{Demand}
+use Rattle.herm_model.specs.MissingFacts.{Demand}
 use Rattle.herm_types.specs.View.{fact_view}
 use Rattle.herm_flow.specs.View.{flow_view}
 use Rattle.herm_check.specs.Shortest.{AreReported}

@@ -1,5 +1,5 @@
 use Rattle.std.proofs.Common.{◌≡◌, map, subst, IfOk}
-use Rattle.herm_model.specs.StatementTable.{row}
+use Rattle.herm_model.specs.FactsOfStatements.{row}
 use Rattle.herm_types.specs.View.{fact_view}
 use Rattle.herm_judge.specs.View.{table_of, variables_of}
 use Rattle.herm_effects.proofs.Arms.{of_select}

@@ -1,5 +1,5 @@
 use Rattle.std.proofs.Common.{◌≡◌, ◌++◌, map, take, flat_map}
-use Rattle.herm_model.specs.StatementTable.{room_for}
+use Rattle.herm_model.specs.FactsOfStatements.{room_for}
 use Rattle.herm_types.specs.View.{fact_view}
 use Rattle.herm_typed.specs.Blocks.{typed_arm_view}
 use Rattle.herm_judge.specs.View.{table_of, variables_of}

@@ -2,7 +2,7 @@ use Rattle.std.proofs.Common.{◌≡◌, ◌≤◌, ◌++◌, ◌∷◌, [], map
 use Rattle.herm_model.specs.Lists.{all_pass, any_pass, range}
 use Rattle.herm_model.specs.Statements.{Arm}
 use Rattle.herm_naming.specs.Fits.{fits_arm}
-use Rattle.herm_naming.specs.Known.{is_there}
+use Rattle.herm_naming.specs.UnknownNames.{is_there}
 use Rattle.herm_typed.specs.View.{typed_path_view}
 use Rattle.herm_typed.specs.Blocks.{typed_arm_view}
 use Rattle.herm_judge.specs.View.{table_of, variables_of}

@@ -3,7 +3,7 @@ use Rattle.herm_model.specs.Lists.{all_pass, list_of}
 use Rattle.herm_model.specs.Expressions.{paths_among}
 use Rattle.herm_model.specs.Calls.{arguments_by}
 use Rattle.herm_naming.specs.Fits.{is_fit_atom, are_arguments, are_keys, field_types, is_in_mode}
-use Rattle.herm_naming.specs.Known.{is_there, is_literal_there, literals_among}
+use Rattle.herm_naming.specs.UnknownNames.{is_there, is_literal_there, literals_among}
 use Rattle.herm_naming.specs.Copies.{may_copy_each}
 use Rattle.herm_types.specs.View.{param_view}
 use Rattle.herm_typed.specs.View.{typed_atom_view}

@@ -1,5 +1,5 @@
 use Rattle.std.proofs.Common.{◌≡◌, drop}
-use Rattle.herm_naming.specs.Known.{are_parts_there}
+use Rattle.herm_naming.specs.UnknownNames.{are_parts_there}
 use Rattle.herm_judge.specs.View.{kind}
 use Rattle.herm_judge.proofs.paths.are_parts_there.Given as goal
 

@@ -1,5 +1,5 @@
 use Rattle.std.proofs.Common.{◌≡◌, ◌++◌, flat_map, drop}
-use Rattle.herm_model.specs.Texts.{escaped}
+use Rattle.herm_model.specs.Escapes.{escaped}
 use Rattle.herm_letters.proofs.scalars.push_all_escaped.Given as goal
 
 abbrev pub invariant-loop-byte : goal.invariant-loop-byte

@@ -1,6 +1,6 @@
 use Rattle.std.proofs.Common.{◌++◌, ◌∷◌, [], option_map, sym, ap, ◌∙◌}
 use Rattle.herm_model.specs.Values.{a_callmessage}
-use Rattle.herm_model.specs.Texts.{parts_text, opening}
+use Rattle.herm_model.specs.ValueTexts.{parts_text, opening}
 use Rattle.herm_values.specs.Parts.{parts_from}
 use Rattle.herm_values.specs.View.{value_view, views_of, table_parts}
 use Rattle.std.proofs.lemmas.List.{append-nil}

@@ -1,5 +1,5 @@
 use Rattle.std.proofs.Common.{◌≡◌, ◌++◌, [], drop, length, IfSome}
-use Rattle.herm_model.specs.Texts.{parts_text}
+use Rattle.herm_model.specs.ValueTexts.{parts_text}
 use Rattle.herm_rows.specs.Nodes.{HasNode}
 use Rattle.herm_values.specs.Parts.{parts_from}
 use Rattle.herm_values.specs.View.{views_of, rows_from, table_parts}

@@ -1,6 +1,6 @@
 use Rattle.std.specs.Prelude.{[], ◌∷◌}
 use Rattle.herm_model.specs.Facts.{prefixes}
-use Rattle.herm_model.specs.StatementTable.{row}
+use Rattle.herm_model.specs.FactsOfStatements.{row}
 use Rattle.herm_model.proofs.Lists.{in-append_left}
 use Rattle.herm_model.proofs.TypedPaths.{with-facts}
 use Rattle.herm_model.proofs.OrderedFacts.{to-stand, closed-stand}

@@ -1,5 +1,5 @@
 use Rattle.herm_model.specs.ControlPaths.{flow_of}
-use Rattle.herm_model.specs.Refusals.{demands}
+use Rattle.herm_model.specs.MissingFacts.{demands}
 use Rattle.herm_model.proofs.HeldDecided.{refusals-exist}
 use Rattle.herm_model.proofs.refusals.refusals_exist.Goals as goal
 

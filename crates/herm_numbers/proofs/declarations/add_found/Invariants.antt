@@ -1,5 +1,5 @@
 use Rattle.std.proofs.Common.{◌≡◌, ◌++◌, map, drop}
-use Rattle.herm_naming.specs.Refusals.{at_places}
+use Rattle.herm_naming.specs.RefusalsOfNames.{at_places}
 use Rattle.herm_numbers.specs.Faults.{name_fault_view, codes_found, spans_found}
 use Rattle.herm_numbers.proofs.declarations.add_found.Given as goal
 

@@ -1,7 +1,7 @@
 use Rattle.std.proofs.Common.{◌≡◌, ◌++◌, ◌+◌, map, drop, take}
 use Rattle.herm_syntax.specs.View.{field_view}
 use Rattle.herm_naming.specs.StatementFaults.{variable_codes}
-use Rattle.herm_naming.specs.Refusals.{at_places}
+use Rattle.herm_naming.specs.RefusalsOfNames.{at_places}
 use Rattle.herm_numbers.specs.Faults.{name_fault_view}
 use Rattle.herm_numbers.proofs.declarations.add_variables.Given as goal
 

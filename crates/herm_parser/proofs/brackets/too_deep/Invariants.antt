@@ -1,8 +1,8 @@
 use Rattle.std.proofs.Common.{◌≡◌, ◌+◌, ◌≤◌, length}
-use Rattle.herm_readers.specs.Brackets.{too_deep}
+use Rattle.herm_readers.specs.BracketBalance.{too_deep}
 use Rattle.herm_syntax.specs.Symbols.{side}
 use Rattle.herm_parser.specs.Gives.{kinds}
-use Rattle.herm_parser.specs.OpenBrackets.{most_brackets}
+use Rattle.herm_parser.specs.BracketDepth.{most_brackets}
 use Rattle.herm_parser.proofs.brackets.too_deep.Given as goal
 
 abbrev pub invariant-tokens : goal.invariant-tokens

@@ -3,7 +3,7 @@ use Rattle.std.proofs.lemmas.List.{length-map}
 use Rattle.herm_model.specs.Types.{all_parts, variable_paths}
 use Rattle.herm_syntax.specs.View.{name_view, field_view}
 use Rattle.herm_naming.specs.StatementFaults.{is_among, twice, too_many, declaration_code, variable_codes}
-use Rattle.herm_naming.specs.Refusals.{at_places}
+use Rattle.herm_naming.specs.RefusalsOfNames.{at_places}
 use Rattle.herm_numbers.specs.Faults.{codes_found, spans_found, name_fault_view}
 use Rattle.herm_resolve.proofs.Refusing.{three_parts, variable_count}
 use Rattle.herm_resolve.proofs.process.add_codes.Goals as goal

@@ -1,6 +1,6 @@
 use Rattle.std.proofs.Common.{◌≡◌, ◌++◌, ◌∙◌, map, length, cond, Some, None, ap, arith}
 use Rattle.herm_naming.specs.StatementFaults.{unreachable}
-use Rattle.herm_naming.specs.Refusals.{at_places}
+use Rattle.herm_naming.specs.RefusalsOfNames.{at_places}
 use Rattle.herm_numbers.specs.Faults.{name_fault_view, spans_found}
 use Rattle.herm_typed.specs.View.{typed_stmts_view}
 use Rattle.herm_resolve.specs.Judged.{found_codes, found_places}

@@ -1,6 +1,6 @@
 use Rattle.std.proofs.Common.{◌≡◌, ◌++◌, map, drop, cond, Some, None}
 use Rattle.herm_naming.specs.StatementFaults.{unreachable}
-use Rattle.herm_naming.specs.Refusals.{at_places}
+use Rattle.herm_naming.specs.RefusalsOfNames.{at_places}
 use Rattle.herm_numbers.specs.Faults.{name_fault_view, spans_found}
 use Rattle.herm_resolve.proofs.process.add_unreached.Given as goal
 

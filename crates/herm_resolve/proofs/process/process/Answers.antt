@@ -1,7 +1,7 @@
 use Rattle.std.proofs.Common.{◌≡◌, ◌∙◌, ◌++◌, [], map, length, sym, ap, ap₂, subst, false, IsTrue}
 use Rattle.herm_model.specs.Statements.{Process, numbers_of_block, IsWellFormedBlock}
 use Rattle.herm_syntax.specs.View.{stmts_view}
-use Rattle.herm_naming.specs.Refusals.{are_none}
+use Rattle.herm_naming.specs.RefusalsOfNames.{are_none}
 use Rattle.herm_typed.specs.View.{typed_stmts_view}
 use Rattle.herm_numbers.specs.View.{scope_view}
 use Rattle.herm_numbers.specs.Faults.{name_fault_view, codes_found, spans_found, body_spans}

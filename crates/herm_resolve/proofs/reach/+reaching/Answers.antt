@@ -2,7 +2,7 @@ use Rattle.std.proofs.Common.{◌≡◌, ◌++◌, ◌+◌, ◌||◌, drop, get_
 use Rattle.herm_typed.specs.View.{typed_form_view, typed_stmts_view}
 use Rattle.herm_typed.specs.Blocks.{case_blocks, select_blocks, handlers_list}
 use Rattle.herm_judge.specs.View.{table_of, variables_of}
-use Rattle.herm_resolve.specs.Reach.{Control, raise_all, control, control_of_block, control_of_blocks, control_of_handlers}
+use Rattle.herm_resolve.specs.ControlInOnePass.{Control, raise_all, control, control_of_block, control_of_blocks, control_of_handlers}
 use Rattle.herm_resolve.proofs.ReachCode.{beside_next, behind_next, arms_left, ports_left, handlers_left, statements_left, case_control, select_control, if_control, for_control, while_control, try_control, case_number, select_number, if_number, for_number, while_number, try_number}
 use Rattle.herm_resolve.proofs.reach.+reaching.Goals as goal
 

@@ -3,7 +3,7 @@ use Rattle.herm_model.specs.Statements.{numbers_of, numbers_of_block, numbers_of
 use Rattle.herm_typed.specs.View.{typed_form_view, typed_stmts_view}
 use Rattle.herm_typed.specs.Blocks.{case_blocks, select_blocks, else_block, handlers_list}
 use Rattle.herm_judge.specs.View.{table_of, variables_of}
-use Rattle.herm_resolve.specs.Reach.{control_of_block, control_of_blocks, control_of_handlers, raise_all}
+use Rattle.herm_resolve.specs.ControlInOnePass.{control_of_block, control_of_blocks, control_of_handlers, raise_all}
 use Rattle.herm_resolve.proofs.reach.+reaching.Given as goal
 
 -- Each invariant: what control did so far, joined with what it does in what is left, is what it does in the whole.

@@ -1,5 +1,5 @@
 use Rattle.std.proofs.Common.{◌≡◌, ◌+◌, ◌-◌, length}
-use Rattle.herm_resolve.specs.Reach.{raise_one}
+use Rattle.herm_resolve.specs.ControlInOnePass.{raise_one}
 use Rattle.herm_resolve.proofs.reach.raise.Given as goal
 
 -- With the exception, the table that has grown is the table at first.

@@ -1,6 +1,6 @@
 use Rattle.std.proofs.Common.{◌≡◌, map, drop}
 use Rattle.herm_types.specs.View.{raise_decl_view}
-use Rattle.herm_resolve.specs.Reach.{raise_all}
+use Rattle.herm_resolve.specs.ControlInOnePass.{raise_all}
 use Rattle.herm_resolve.proofs.reach.raise_call.Given as goal
 
 abbrev pub invariant-raises : goal.invariant-raises

@@ -1,5 +1,5 @@
 use Rattle.std.proofs.Common.{◌≡◌, drop}
-use Rattle.herm_resolve.specs.Reach.{raise_all, members}
+use Rattle.herm_resolve.specs.ControlInOnePass.{raise_all, members}
 use Rattle.herm_resolve.proofs.reach.raise_each.Given as goal
 
 abbrev pub invariant-inner : goal.invariant-inner

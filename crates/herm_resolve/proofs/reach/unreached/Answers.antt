@@ -1,9 +1,9 @@
 use Rattle.std.proofs.Common.{◌≡◌, ◌++◌, map, true, sym, ap, subst, ◌∙◌}
 use Rattle.herm_model.specs.Types.{TypeTable}
 use Rattle.herm_model.specs.Statements.{Process}
-use Rattle.herm_naming.specs.Refusals.{MarksUnreached}
+use Rattle.herm_naming.specs.UnreachedStatements.{MarksUnreached}
 use Rattle.herm_typed.specs.View.{typed_stmts_view}
-use Rattle.herm_resolve.specs.Reach.{control_of_block}
+use Rattle.herm_resolve.specs.ControlInOnePass.{control_of_block}
 use Rattle.herm_resolve.proofs.ReachMarks.{marks_of, marks_are_right}
 use Rattle.herm_resolve.proofs.reach.unreached.Goals as goal
 

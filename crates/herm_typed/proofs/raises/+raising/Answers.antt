@@ -1,6 +1,6 @@
 use Rattle.std.proofs.Common.{map, ap₂, ◌∙◌}
 use Rattle.herm_typed.specs.View.{typed_sum_op_view, typed_prod_op_view, typed_prod_view, typed_unary_view}
-use Rattle.herm_typed.specs.Raising.{raised_each, raises_behind}
+use Rattle.herm_typed.specs.RaisedByExpressions.{raised_each, raises_behind}
 use Rattle.herm_typed.proofs.Chains.{product_raises, sum_raises}
 use Rattle.herm_typed.proofs.raises.+raising.Goals as goal
 

@@ -1,7 +1,7 @@
 use Rattle.std.proofs.Common.{◌≡◌, map, drop}
 use Rattle.herm_model.specs.Expressions.{logical_or, logical_and}
 use Rattle.herm_typed.specs.View.{typed_sum_op_view, typed_prod_op_view, typed_prod_view, typed_conj_view, typed_comp_view, typed_unary_view}
-use Rattle.herm_typed.specs.Raising.{raised_each, raises_behind}
+use Rattle.herm_typed.specs.RaisedByExpressions.{raised_each, raises_behind}
 use Rattle.herm_typed.proofs.raises.+raising.Given as goal
 
 -- Each invariant: what was found so far, together with what is left, is the whole.

@@ -1,6 +1,6 @@
 use Rattle.std.proofs.Common.{◌≡◌, ◌++◌, map, flat_map, drop}
 use Rattle.herm_check.specs.View.{hop_view}
-use Rattle.herm_words.specs.Words.{hop_text}
+use Rattle.herm_words.specs.MissingFactWords.{hop_text}
 use Rattle.herm_words.proofs.refusal.push_hops.Given as goal
 
 abbrev pub invariant-loop-hop : goal.invariant-loop-hop

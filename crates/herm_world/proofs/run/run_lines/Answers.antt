@@ -3,7 +3,7 @@ use Rattle.std.proofs.Common.{flat_map, ◌≡◌, ℕ, ◌+◌, List, [], ◌�
 use Rattle.std.proofs.Math.ListN.{drop_of_length-le}
 use Rattle.herm_world.specs.Lines.{sent}
 use Rattle.herm_world.specs.StraightRuns.{journal_of, sets, counts_of, report_of, IsReported}
-use Rattle.herm_world.specs.StringTexts.{quoted}
+use Rattle.herm_world.specs.StringsReadBack.{quoted}
 use Rattle.herm_events.specs.View.{entries_view}
 use Rattle.herm_world.specs.View.{proc_ends_view, numbered_queues, counts_view, report_view}
 use Rattle.herm_world.proofs.StraightEnd.{sets-few}

@@ -1,5 +1,5 @@
 use Rattle.std.proofs.Common.{◌≡◌, ◌++◌, drop, ◌∷◌, []}
-use Rattle.herm_world.specs.StringTexts.{escaped_all}
+use Rattle.herm_world.specs.StringsReadBack.{escaped_all}
 use Rattle.herm_world.proofs.texts.push_quoted.Given as goal
 
 -- what is written so far, joined with the rest, is the whole

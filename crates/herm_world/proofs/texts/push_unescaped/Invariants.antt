@@ -1,5 +1,5 @@
 use Rattle.std.proofs.Common.{◌≡◌, ◌++◌, drop, false}
-use Rattle.herm_world.specs.StringTexts.{unescaped}
+use Rattle.herm_world.specs.StringsReadBack.{unescaped}
 use Rattle.herm_world.proofs.texts.push_unescaped.Given as goal
 
 -- what is written so far, joined with the rest, is the whole

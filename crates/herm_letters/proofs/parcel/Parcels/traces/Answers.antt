@@ -1,8 +1,8 @@
 use Rattle.std.proofs.Common.{map, ap, ◌∙◌}
-use Rattle.herm_model.specs.Texts.{text_of}
+use Rattle.herm_model.specs.ValueTexts.{text_of}
 use Rattle.herm_values.specs.View.{value_view}
 use Rattle.herm_letters.specs.declared.parcel.Parcel.{Parcel}
-use Rattle.herm_letters.specs.Queues.{QueueState}
+use Rattle.herm_letters.specs.LettersInOrder.{QueueState}
 use Rattle.herm_letters.proofs.Told.{told_in_parts}
 use Rattle.herm_letters.proofs.parcel.Parcels.traces.Goals as goal
 

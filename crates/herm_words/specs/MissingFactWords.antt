@@ -6,7 +6,7 @@ use Rattle.herm_model.specs.Paths.{Path, Fact, init, case}
 use Rattle.herm_model.specs.Types.{part_of, type_at}
 use Rattle.herm_model.specs.Outcomes.{Outcome, ok, is_true, is_false, turn, done, component, arm, raised}
 use Rattle.herm_model.specs.ControlPaths.{Hop}
-use Rattle.herm_model.specs.Refusals.{Refusal}
+use Rattle.herm_model.specs.MissingFacts.{Refusal}
 use Rattle.herm_syntax.specs.Trees.{Letters}
 use Rattle.herm_meaning.specs.Names.{NamedTable}
 use Rattle.herm_typed.specs.declared.statements.TypedProcess.{TypedProcess}

@@ -1,7 +1,7 @@
 -- The text of a string value, and how the string is read back from it.
 -- Language reference, "Text of a value".
 use Rattle.std.specs.Prelude.{ℕ, List, [], ◌∷◌, ◌++◌, nat_eq, if◌then◌else◌, Bool, true, false}
-use Rattle.herm_model.specs.Texts.{escaped}
+use Rattle.herm_model.specs.Escapes.{escaped}
 
 -- the bytes as they stand inside the quotes
 abbrev pub escaped_all : List ℕ → List ℕ

@@ -1,7 +1,8 @@
 -- The text of a value.
-use Rattle.std.specs.Prelude.{ℕ, suc, ◌^◌, ◌/◌, ◌+◌, List, Bool, [], ◌∷◌, ◌++◌, true, false, cond, ℤ, pos, negsuc, flat_map, nat_eq, nat_le, ◌&&◌, codes}
+use Rattle.std.specs.Prelude.{ℕ, suc, ◌^◌, ◌/◌, ◌+◌, List, Bool, [], ◌∷◌, ◌++◌, true, false, ℤ, pos, negsuc, flat_map, nat_le, ◌&&◌, codes}
 use Rattle.std.specs.Fmt.{digits_onto}
 use Rattle.herm_model.specs.Values.{Scalar, a_boolean, an_integer, a_text, a_tag, Kind, a_scalar, a_record, a_variant, a_table, a_polymorph, a_callmessage, an_inport, an_outport, Cell, cell, Parts, no_parts, gap, part}
+use Rattle.herm_model.specs.Escapes.{escaped}
 
 -- a bound on how many digits a number has: 64, and more for one that may have more
 abbrev pub digit_bound : ℕ → ℕ
@@ -15,10 +16,6 @@ numeral n = digits_onto (digit_bound n) 10 false n []
 abbrev pub signed_numeral : ℤ → List ℕ
 signed_numeral (pos n) = numeral n
 signed_numeral (negsuc n) = 45 ∷ numeral (suc n)
-
--- a byte of a string as in source: the newline, the quote and the backslash have a backslash before them
-abbrev pub escaped : ℕ → List ℕ
-escaped b = cond (nat_eq b 10) (codes "\\n") (cond (nat_eq b 34) (codes "\\\"") (cond (nat_eq b 92) (codes "\\\\") (b ∷ [])))
 
 abbrev pub scalar_text : Scalar → List ℕ
 scalar_text (a_boolean true) = codes "true"

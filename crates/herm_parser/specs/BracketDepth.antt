@@ -1,7 +1,7 @@
 -- How many brackets may be open at once, and where one is open too many. Language reference, "Open brackets".
 use Rattle.std.specs.Prelude.{ℕ, ◌≡◌, List}
 use Rattle.herm_alphabet.specs.declared.token.Token.{Token}
-use Rattle.herm_readers.specs.Brackets.{IsTooDeep}
+use Rattle.herm_readers.specs.BracketBalance.{IsTooDeep}
 use Rattle.herm_syntax.specs.Symbols.{side}
 use Rattle.herm_parser.specs.Gives.{kinds}
 use Rattle.herm_parser.specs.TokenPlaces.{place_of}
