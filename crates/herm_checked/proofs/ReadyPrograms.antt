@@ -14,7 +14,7 @@ use Rattle.herm_model.proofs.DifferentOutcomes.{process-EdgesDiffer}
 use Rattle.herm_model.proofs.ExampleRefusals.{computed}
 use Rattle.herm_model.proofs.Labels.{confirms, labels_found}
 use Rattle.herm_model.proofs.Options.{map-some}
-use Rattle.herm_journal.specs.Books.{Limits}
+use Rattle.herm_journal.specs.NextNumbers.{Limits}
 use Rattle.herm_system.specs.Machines.{Machine, is_local}
 use Rattle.herm_system.specs.Rounds.{one_round}
 use Rattle.herm_system.specs.Rounds as Rounds

@@ -24,7 +24,8 @@ use Rattle.herm_system.specs.Sound.{console_type}
 use Rattle.herm_source.specs.Checked.{IsChecked}
 use Rattle.herm_source.specs.Instance.{source, code_at, ready_if}
 use Rattle.herm_source.specs.Modules.{Program, Modules}
-use Rattle.herm_source.specs.States.{State, own_name, begin, Next, an_item, a_reply, a_statement, nothing, next_of, state_after, step_next, settle_next, ready_for, ready_in}
+use Rattle.herm_source.specs.States.{State, own_name, begin, Next, an_item, a_reply, a_statement, nothing, next_of, state_after, step_next, settle_next}
+use Rattle.herm_source.specs.StepLimit.{ready_for, ready_in}
 use Rattle.herm_source.specs.laws.SoundProcesses.{IsSoundProcess}
 use Rattle.herm_source.proofs.OpeningFrame.{opening_frame}
 use Rattle.herm_source.proofs.instance.SourceLaws.{local-code, answer-code}

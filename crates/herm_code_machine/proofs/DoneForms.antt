@@ -12,7 +12,7 @@ use Rattle.herm_forms.specs.Evaluate.{gives, evaluate, key_values}
 use Rattle.herm_forms.specs.Excess.{excess_over_full}
 use Rattle.herm_forms.specs.Exchanges
 use Rattle.herm_forms.specs.Forms
-use Rattle.herm_forms.specs.KeyForms
+use Rattle.herm_forms.specs.RemoveAndGet
 use Rattle.herm_forms.specs.LoopForms.{rows_for, next_row}
 use Rattle.herm_forms.specs.Frames.{Name, Frame, Completion, goes, if_there, reading, copying_parts}
 use Rattle.herm_instructions.specs.Instructions.{Choice}
@@ -78,8 +78,8 @@ module _ (name : Name → Name) (c : ReadyCode) (s : ℕ) (b : Frame Name) where
     wrap = λ y t p is stack. ap (λ o. leaving stack (if_there (λ t. Forms.wrap name t (excess_over_full c.scope y b) y p b) o)) (sym is);
     unwrap = λ p t y stack. refl;
     insert = λ r t stack. refl;
-    remove = λ r t n keys values stack rest k popped scalars are. keyed n (λ k. KeyForms.remove (key_at c.scope t) k r t b) keys values stack rest k popped scalars are;
-    get = λ r t n keys values stack rest k popped scalars are. keyed n (λ k. KeyForms.get name (key_at c.scope t) k r t b) keys values stack rest k popped scalars are;
+    remove = λ r t n keys values stack rest k popped scalars are. keyed n (λ k. RemoveAndGet.remove (key_at c.scope t) k r t b) keys values stack rest k popped scalars are;
+    get = λ r t n keys values stack rest k popped scalars are. keyed n (λ k. RemoveAndGet.get name (key_at c.scope t) k r t b) keys values stack rest k popped scalars are;
     first_visit = λ r t is. visited r t None is ∙ copied r (read_at t b.variables);
     visit = λ r t i rows is stack. ap (λ o. leaving stack (if_there (λ rows. next_row s r rows b) o)) is ∙ ap (leaving stack) (sym (visited r t (Some rows) is));
     connect = λ o i stack. refl;

@@ -9,7 +9,7 @@ use Rattle.herm_forms.specs.Evaluate.{Evaluated, gives, no_value, scalar_then, t
 use Rattle.herm_forms.specs.Frames.{Name, Frame, Completion, goes, if_there, drop_at, reading, copying_parts}
 use Rattle.herm_forms.specs.Forms
 use Rattle.herm_forms.specs.InsertForm
-use Rattle.herm_forms.specs.KeyForms
+use Rattle.herm_forms.specs.RemoveAndGet
 use Rattle.herm_forms.specs.LoopForms.{rows_for, next_row}
 use Rattle.herm_forms.specs.LeavingLoops.{leave_loops}
 use Rattle.herm_forms.specs.Excess.{excess_over_full}
@@ -63,8 +63,8 @@ effect name c (CaseOf v indices) stack b = leaving stack (Forms.choose v b)
 effect name c (Wrap y t p) stack b = leaving stack (Forms.wrap name t (excess_over_full c.scope y b) y p b)
 effect name c (Unwrap p t y) stack b = leaving stack (Forms.unwrap t p y b)
 effect name c (Insert r t) stack b = leaving stack (InsertForm.insert (key_at c.scope t) (excess_over_full c.scope r b) r t b)
-effect name c (Remove r t n) stack b = with_key n (λ k. KeyForms.remove (key_at c.scope t) k r t b) stack
-effect name c (Get r t n) stack b = with_key n (λ k. KeyForms.get name (key_at c.scope t) k r t b) stack
+effect name c (Remove r t n) stack b = with_key n (λ k. RemoveAndGet.remove (key_at c.scope t) k r t b) stack
+effect name c (Get r t n) stack b = with_key n (λ k. RemoveAndGet.get name (key_at c.scope t) k r t b) stack
 effect name c (LoopStart t slot) stack b = leaving stack (start_loop name slot t b)
 effect name c (LoopNext r slot i) stack b = leaving stack (next_of_loop slot r b)
 effect name c (LoopDrop slot) stack b = leaving stack (goes ok (drop_loop slot b))

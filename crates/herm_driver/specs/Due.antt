@@ -15,7 +15,7 @@ use Rattle.herm_compile.specs.ThirdPhase.{HaveProgram}
 use Rattle.herm_compile.specs.Refused.{AreRefused}
 use Rattle.herm_model.specs.Types.{predefined}
 use Rattle.herm_model.specs.MissingFacts.{IsAccepted}
-use Rattle.herm_world.specs.Lines.{sent}
+use Rattle.herm_world.specs.ConsoleLines.{sent}
 use Rattle.herm_world.specs.StraightRuns.{IsReported}
 use Rattle.herm_world.specs.View.{report_view}
 use Rattle.herm_world.specs.declared.report.Report.{Report}

@@ -1,6 +1,6 @@
 -- The lines of a refusal. Language reference, "Refusals".
 use Rattle.std.specs.Prelude.{ℕ, cond, nat_eq, List, [], ◌∷◌, ◌++◌, codes, decimal}
-use Rattle.herm_system.specs.Lines.{line}
+use Rattle.herm_system.specs.TextLines.{line}
 use Rattle.herm_compile.specs.declared.fault.Fault.{Fault}
 use Rattle.herm_driver.specs.Texts.{newline}
 

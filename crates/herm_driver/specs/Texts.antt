@@ -1,7 +1,7 @@
 -- The texts that the program writes. (Language reference, "Statuses and texts")
 use Rattle.std.specs.Prelude.{ℕ, List, [], ◌∷◌, ◌++◌, codes}
 use Rattle.std.specs.List.{flat_map}
-use Rattle.herm_system.specs.Lines.{line}
+use Rattle.herm_system.specs.TextLines.{line}
 
 abbrev pub newline : List ℕ
 newline = 10 ∷ []

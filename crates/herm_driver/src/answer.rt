@@ -7,7 +7,7 @@ ghost use Rattle.herm_driver.specs.Loads.{load_limit, load_of, FirstAreLoaded};
 ghost use Rattle.herm_driver.specs.Due.{IsDone, IsRefusal, IsReportOf, IsNotFound, IsUnreadable, IsDueByLoads, IsDueToWords, IsCaused, IsChosen, IsTextStatus};
 ghost use Rattle.herm_driver.specs.Words.{named_files};
 ghost use Rattle.herm_driver.specs.Texts.{console_text, usage_text};
-ghost use Rattle.herm_world.specs.Lines.{sent};
+ghost use Rattle.herm_world.specs.ConsoleLines.{sent};
 ghost use Rattle.herm_world.specs.StraightRuns.{IsRunnable};
 
 use crate::text::{console, file_line, refusals, usage};

@@ -2,8 +2,8 @@
 ghost use Rattle.std.specs.Prelude.{◌≡◌, ◌++◌, ◌<◌, [], OnOk, OnErr, length, codes, Option, Some, option_map};
 ghost use Rattle.herm_model.specs.ValueTexts.{numeral};
 ghost use Rattle.herm_journal.specs.Actions.{make_port, make_process, put};
-ghost use Rattle.herm_journal.specs.Entries as journal;
-ghost use Rattle.herm_journal.specs.Entries.{and_number, and_text, action_text};
+ghost use Rattle.herm_journal.specs.EntryTexts;
+ghost use Rattle.herm_journal.specs.EntryTexts.{and_number, and_text, action_text};
 ghost use Rattle.herm_events.specs.Names.{IsReplyNamed, IsNamed};
 ghost use Rattle.herm_events.specs.View.{place_view, reply_trace_view, action_view, entry_view};
 
@@ -34,7 +34,7 @@ fn push_number(out: &mut Vec<u8>, number: u64) -> Result<(), AllocError>
 
 /// Appends the text of a place.
 fn push_place(out: &mut Vec<u8>, place: Place) -> Result<(), AllocError>
-    ensures { OnOk result (out.new.items ≡ out.old.items ++ journal.place_text (place_view place)) }
+    ensures { OnOk result (out.new.items ≡ out.old.items ++ EntryTexts.place_text (place_view place)) }
 {
     match place {
         Place::Port(port) => {
@@ -72,7 +72,7 @@ fn push_values(out: &mut Vec<u8>, values: &Trace) -> Result<(), AllocError>
 #[tactic(auto, using(crate::proofs::Named::name_is))]
 fn name_of(names: &[Word], exception: ExcNo) -> &[u8]
     requires named { exception.0 < length names.now }
-    ensures name { result.now ≡ journal.name_in names.now exception.0 }
+    ensures name { result.now ≡ EntryTexts.name_in names.now exception.0 }
 {
     names[exception.0 as usize].bytes()
 }
@@ -80,7 +80,7 @@ fn name_of(names: &[Word], exception: ExcNo) -> &[u8]
 /// Appends the text of an answer to a call, with the name of its exception.
 fn push_reply(out: &mut Vec<u8>, reply: &ReplyTrace, names: &[Word]) -> Result<(), AllocError>
     requires named { IsReplyNamed (length names.now) (reply_trace_view reply.now) }
-    ensures { OnOk result (out.new.items ≡ out.old.items ++ journal.reply_text names.now (reply_trace_view reply.now)) }
+    ensures { OnOk result (out.new.items ≡ out.old.items ++ EntryTexts.reply_text names.now (reply_trace_view reply.now)) }
 {
     match reply {
         ReplyTrace::Values(values) => {
@@ -213,7 +213,7 @@ fn push_action(out: &mut Vec<u8>, action: &Action, names: &[Word]) -> Result<(),
 /// Appends the text of an entry: stamp, process, place and action.
 fn push_entry(out: &mut Vec<u8>, entry: &Entry, names: &[Word]) -> Result<(), AllocError>
     requires named { IsNamed (length names.now) (action_view entry.now.action) }
-    ensures { OnOk result (out.new.items ≡ out.old.items ++ journal.entry_text names.now (entry_view entry.now)) }
+    ensures { OnOk result (out.new.items ≡ out.old.items ++ EntryTexts.entry_text names.now (entry_view entry.now)) }
 {
     push_decimal(out, entry.stamp.0)?;
     push_number(out, entry.proc.get() as u64)?;
@@ -228,7 +228,7 @@ fn push_entry(out: &mut Vec<u8>, entry: &Entry, names: &[Word]) -> Result<(), Al
 /// names by number, and reach to each exception in the entry.
 pub fn entry_text(out: &mut Vec<u8>, entry: &Entry, names: &[Word]) -> Result<(), AllocError>
     requires named { IsNamed (length names.now) (action_view entry.now.action) }
-    ensures ok { OnOk result (out.new.items ≡ out.old.items ++ journal.entry_text names.now (entry_view entry.now)) }
+    ensures ok { OnOk result (out.new.items ≡ out.old.items ++ EntryTexts.entry_text names.now (entry_view entry.now)) }
     ensures err { OnErr result (out.new.items ≡ out.old.items) }
 {
     let mut text = Vec::with_capacity(*out.allocator(), USUAL_LENGTH)?;

@@ -13,7 +13,7 @@ use Rattle.herm_model.specs.Typed.{greatest_rows, greatest_polymorph}
 use Rattle.herm_forms.specs.Evaluate.{Evaluated, gives, raises, no_value, evaluate, key_values}
 use Rattle.herm_forms.specs.Frames.{Name, Frame, Completion, goes, stuck, if_there, cleared, putting, put, drop, reading, copying_parts}
 use Rattle.herm_forms.specs.Forms
-use Rattle.herm_forms.specs.KeyForms
+use Rattle.herm_forms.specs.RemoveAndGet
 use Rattle.herm_forms.specs.Forms.{with_value, tested, content_of, component_in, component_of, inport_number, moving, moving_content, Opened}
 use Rattle.herm_forms.specs.LoopForms.{rows_for, next_row, set_rows}
 use Rattle.herm_forms.specs.InsertForm.{change_rows, add_row}
@@ -78,7 +78,7 @@ before-found : (b : Frame Name) (x : ℕ) (next : ℕ → Cell Name → Completi
 before-found b x next table None on = refl
 before-found b x next table (Some i) on = before-if_there b (next i) (part_at i (parts_of table)) (on i)
 
-before-finding : (b : Frame Name) (key : List ℕ) (v : List Scalar) (t : Path) (next : ℕ → Cell Name → Completion Name) → ((i : ℕ) (row : Cell Name) → AsBefore b (next i row)) → AsBefore b (KeyForms.finding key v t next b)
+before-finding : (b : Frame Name) (key : List ℕ) (v : List Scalar) (t : Path) (next : ℕ → Cell Name → Completion Name) → ((i : ℕ) (row : Cell Name) → AsBefore b (next i row)) → AsBefore b (RemoveAndGet.finding key v t next b)
 before-finding b key v t next on = before-if_there b _ (read_at t b.variables) (λ table. before-found b _ next table (place_of_key key v (parts_of table)) on)
 
 before-visited : (name : Name → Name) (b : Frame Name) (s : ℕ) (r t : Path) (o : Option (Parts Name))

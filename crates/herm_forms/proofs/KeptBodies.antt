@@ -24,7 +24,7 @@ use Rattle.herm_forms.specs.Forms
 use Rattle.herm_forms.specs.InsertForm
 use Rattle.herm_forms.specs.Forms.{with_value, moving, moving_content, Opened, component_in, content_of, component_of, inport_number, tested}
 use Rattle.herm_forms.specs.InsertForm.{change_rows, add_row}
-use Rattle.herm_forms.specs.KeyForms.{finding}
+use Rattle.herm_forms.specs.RemoveAndGet.{finding}
 use Rattle.herm_forms.specs.LoopForms.{rows_for, set_rows, next_row}
 use Rattle.herm_forms.specs.Exchanges
 use Rattle.herm_forms.specs.ClosesAndAnswers

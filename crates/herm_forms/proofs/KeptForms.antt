@@ -15,7 +15,7 @@ use Rattle.herm_forms.specs.Evaluate.{evaluate, key_values}
 use Rattle.herm_journal.specs.Actions.{values, raised, new_process, to_put, to_take, to_answer}
 use Rattle.herm_forms.specs.Frames.{Name, Loop, Frame, Completion, finalise_parts, drop, Taken, take_all}
 use Rattle.herm_forms.specs.Forms
-use Rattle.herm_forms.specs.KeyForms
+use Rattle.herm_forms.specs.RemoveAndGet
 use Rattle.herm_forms.specs.Exchanges
 use Rattle.herm_forms.specs.ClosesAndAnswers
 use Rattle.herm_forms.specs.Callmessages as callmessages
@@ -84,8 +84,8 @@ module _ {N : Type 0} (w : N → ℕ) (extra : Kind → ℕ) (name : Name → N)
   kept-act c s (Wrap y p) b kinds h = balanced-if_there w extra name spares m k 0 (λ t. Forms.wrap name t (excess_over_full c y b) y p b) (type_at c.types c.variables y) (λ t there. kept-wrap w extra name spares m k t (excess_over_full c y b) y p b h)
   kept-act c s (Unwrap p t y) b kinds h = kept-unwrap w extra name spares m k t p y b h
   kept-act c s (Insert r t) b kinds h = kept-insert w extra name spares m k (key_at c t) (excess_over_full c r b) r t b h
-  kept-act c s (Remove r t keys) b kinds h = balanced-if_there w extra name spares m k 0 (λ v. KeyForms.remove (key_at c t) v r t b) (key_values b.variables keys) (λ v there. kept-remove w extra name spares m k (key_at c t) v r t b h)
-  kept-act c s (Get r t keys) b kinds h = balanced-if_there w extra name spares m k 0 (λ v. KeyForms.get name (key_at c t) v r t b) (key_values b.variables keys) (λ v there. kept-get w extra name spares m k (key_at c t) v r t b kinds h)
+  kept-act c s (Remove r t keys) b kinds h = balanced-if_there w extra name spares m k 0 (λ v. RemoveAndGet.remove (key_at c t) v r t b) (key_values b.variables keys) (λ v there. kept-remove w extra name spares m k (key_at c t) v r t b h)
+  kept-act c s (Get r t keys) b kinds h = balanced-if_there w extra name spares m k 0 (λ v. RemoveAndGet.get name (key_at c t) v r t b) (key_values b.variables keys) (λ v there. kept-get w extra name spares m k (key_at c t) v r t b kinds h)
   kept-act c s (For r t) b kinds h = kept-visit w extra name spares m k s r t b kinds h
   kept-act c s (Connect o i) b kinds h = kept-connect w extra name spares m k o i b h
   kept-act c s (If e) b kinds h = balanced-with_value w extra name spares m k 0 Forms.tested (evaluate b.variables e) b h (λ v is. kept-tested w extra name spares m k v b h)

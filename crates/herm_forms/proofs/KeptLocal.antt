@@ -14,11 +14,11 @@ use Rattle.herm_forms.specs.Evaluate.{Evaluated, gives, raises, no_value}
 use Rattle.herm_forms.specs.Frames.{Name, Frame, Completion, goes, if_there, finalise, finalise_name, cleared, drop, reading, putting, making, copying, copying_parts}
 use Rattle.herm_forms.specs.Forms
 use Rattle.herm_forms.specs.InsertForm
-use Rattle.herm_forms.specs.KeyForms
+use Rattle.herm_forms.specs.RemoveAndGet
 use Rattle.herm_forms.specs.LoopForms
 use Rattle.herm_forms.specs.Forms.{Opened, component_in, content_of, moving, moving_content, component_of, inport_number, tested, with_value}
 use Rattle.herm_forms.specs.InsertForm.{change_rows, with_parts, add_row}
-use Rattle.herm_forms.specs.KeyForms.{finding}
+use Rattle.herm_forms.specs.RemoveAndGet.{finding}
 use Rattle.herm_forms.specs.LoopForms.{rows_for, set_rows, next_row}
 use Rattle.herm_forms.specs.Acts.{new_value}
 use Rattle.herm_journal.specs.Kinds.{HasKinds, HaveKinds}
@@ -172,7 +172,7 @@ module _ {N : Type 0} (w : N → ℕ) (extra : Kind → ℕ) (name : Name → N)
       (read_at t b.variables)
       (λ table there. found h next b table (place_of_key key v (parts_of table)) e (λ i row is. on table i row there is))
 
-  pub kept-remove : (key : List ℕ) (v : List Scalar) (r t : Path) (b : Frame N) → Balanced w extra name m k 0 b → AllBalanced w extra name m k 0 (KeyForms.remove key v r t b)
+  pub kept-remove : (key : List ℕ) (v : List Scalar) (r t : Path) (b : Frame N) → Balanced w extra name m k 0 b → AllBalanced w extra name m k 0 (RemoveAndGet.remove key v r t b)
   kept-remove key v r t b e =
       balanced-finding 0 key v t (λ i row. putting r ok row (change_rows t (without_part i) b)) b e
       (λ table i row there is. balanced-putting w extra name spares m k 0 r ok row (change_rows t (without_part i) b)
@@ -182,7 +182,7 @@ module _ {N : Type 0} (w : N → ℕ) (extra : Kind → ℕ) (name : Name → N)
   part-spared : (i : ℕ) (ps : Parts N) (c : Cell N) → part_at i ps ≡ Some c → HaveKinds (Spares extra) ps → HasKinds (Spares extra) c
   part-spared i ps c is h = subst (IfKinds (Spares extra)) is (part-kinds (Spares extra) i ps h)
 
-  pub kept-get : (key : List ℕ) (v : List Scalar) (r t : Path) (b : Frame N) → ((table : Cell N) → read_at t b.variables ≡ Some table → HaveKinds (Spares extra) (parts_of table)) → Balanced w extra name m k 0 b → AllBalanced w extra name m k 0 (KeyForms.get name key v r t b)
+  pub kept-get : (key : List ℕ) (v : List Scalar) (r t : Path) (b : Frame N) → ((table : Cell N) → read_at t b.variables ≡ Some table → HaveKinds (Spares extra) (parts_of table)) → Balanced w extra name m k 0 b → AllBalanced w extra name m k 0 (RemoveAndGet.get name key v r t b)
   kept-get key v r t b kinds e =
       balanced-finding 0 key v t (λ i row. copying name row (putting r ok) b) b e
       (λ table i row there is. balanced-copying w extra name spares m k 0 0 row (putting r ok) b (part-spared i (parts_of table) row is (kinds table there)) e (λ d b' e'. balanced-putting w extra name spares m k 0 r ok d b' e'))

@@ -17,7 +17,7 @@ use Rattle.herm_journal.specs.Actions
 use Rattle.herm_forms.specs.Frames.{Name, Frame, Completion, stuck, if_there, Taken}
 use Rattle.herm_forms.specs.Forms
 use Rattle.herm_forms.specs.InsertForm
-use Rattle.herm_forms.specs.KeyForms
+use Rattle.herm_forms.specs.RemoveAndGet
 use Rattle.herm_forms.specs.LoopForms
 use Rattle.herm_forms.specs.Exchanges
 use Rattle.herm_forms.specs.Callmessages as callmessages
@@ -65,8 +65,8 @@ act name c s (Case v ks) b = Forms.choose v b
 act name c s (Wrap y p) b = if_there (λ t. Forms.wrap name t (excess_over_full c y b) y p b) (type_at c.types c.variables y)
 act name c s (Unwrap p t y) b = Forms.unwrap t p y b
 act name c s (Insert r t) b = InsertForm.insert (key_at c t) (excess_over_full c r b) r t b
-act name c s (Remove r t keys) b = if_there (λ k. KeyForms.remove (key_at c t) k r t b) (key_values b.variables keys)
-act name c s (Get r t keys) b = if_there (λ k. KeyForms.get name (key_at c t) k r t b) (key_values b.variables keys)
+act name c s (Remove r t keys) b = if_there (λ k. RemoveAndGet.remove (key_at c t) k r t b) (key_values b.variables keys)
+act name c s (Get r t keys) b = if_there (λ k. RemoveAndGet.get name (key_at c t) k r t b) (key_values b.variables keys)
 act name c s (For r t) b = LoopForms.visit name s r t b
 act name c s (Connect o i) b = Forms.connect name o i b
 act name c s (If e) b = Forms.with_value Forms.tested (evaluate b.variables e) b

@@ -1,7 +1,7 @@
 pub mod Evaluate
 pub mod Forms
 pub mod InsertForm
-pub mod KeyForms
+pub mod RemoveAndGet
 pub mod LoopForms
 pub mod Exchanges
 pub mod ClosesAndAnswers

@@ -1,8 +1,7 @@
--- Entries: what is recorded of an action, with values as their texts; and the text of an entry.
-use Rattle.std.specs.Prelude.{ℕ, List, [], ◌∷◌, ◌++◌, map, Bool, true, false, nat_eq, Some, None, slice_get, codes}
-use Rattle.herm_model.specs.Lists.{list_of}
+-- Entries: what is recorded of an action, with values as their texts.
+use Rattle.std.specs.Prelude.{ℕ, List, [], ◌∷◌, ◌++◌, map, Bool, true, false, nat_eq, codes}
 use Rattle.herm_model.specs.Values.{Cell}
-use Rattle.herm_model.specs.ValueTexts.{numeral, text_of}
+use Rattle.herm_model.specs.ValueTexts.{text_of}
 use Rattle.herm_journal.specs.Actions.{Reply, values, raised, gone, Action, make_port, make_process, put, take, close, answer, hear}
 use Rattle.herm_journal.specs.Ports.{Port}
 use Rattle.herm_journal.specs.PlaceStates.{PlaceState, a_port, replies, a_book}
@@ -78,43 +77,3 @@ recorded a = map_action text_of (map_reply texts_of) a
 
 abbrev pub recorded_state : {N : Type 0} → PlaceState (Cell N) (Reply (List (Cell N))) → PlaceState Text (Reply Text)
 recorded_state h = map_holding text_of (map_reply texts_of) h
-
--- a space and a number
-abbrev pub and_number : ℕ → Text
-and_number n = codes " " ++ numeral n
-
-abbrev pub place_text : Place → Text
-place_text (port n) = codes "port" ++ and_number n
-place_text (reply_cell p) = codes "reply" ++ and_number p
-place_text book = codes "book"
-
--- a space and the text, where it is not empty
-abbrev pub and_text : Text → Text
-and_text [] = []
-and_text (b ∷ bs) = 32 ∷ b ∷ bs
-
--- the exceptions' names by number
-abbrev pub name_in : List Text → ℕ → Text
-name_in names e = list_of (λ (t : Text). t) (slice_get names e)
-
-abbrev pub reply_text : List Text → Reply Text → Text
-reply_text names (values t) = codes "ok" ++ and_text t
-reply_text names (raised e t) = codes "raise " ++ name_in names e ++ and_text t
-reply_text names gone = codes "gone"
-
--- The text of what was done. Language reference, "Text of a journal".
-abbrev pub action_text : List Text → Record → Text
-action_text names (make_port None) = codes "port full"
-action_text names (make_port (Some n)) = codes "port" ++ and_number n
-action_text names (make_process code None) = codes "process full" ++ and_number code
-action_text names (make_process code (Some made)) = codes "process" ++ and_number made.0 ++ and_number made.1 ++ and_number code
-action_text names (put None t) = codes "put closed " ++ t
-action_text names (put (Some k) t) = codes "put" ++ and_number k ++ codes " " ++ t
-action_text names (take k t) = codes "take" ++ and_number k ++ codes " " ++ t
-action_text names (close count left) = codes "close" ++ and_number count
-action_text names (answer call r) = codes "answer" ++ and_number call ++ codes " " ++ reply_text names r
-action_text names (hear call r) = codes "hear" ++ and_number call ++ codes " " ++ reply_text names r
-
--- The text of an entry: stamp, process, place and action. Language reference, "Text of a journal".
-abbrev pub entry_text : List Text → Entry → Text
-entry_text names e = numeral e.stamp ++ and_number e.process ++ codes " " ++ place_text e.place ++ codes " " ++ action_text names e.action

@@ -2,7 +2,7 @@
 use Rattle.std.specs.Prelude.{ℕ, List, [], ◌∷◌, cond, nat_eq, ◌<◌, ⊤}
 use Rattle.herm_journal.specs.Actions.{Reply}
 use Rattle.herm_journal.specs.Ports.{empty_port, port_with}
-use Rattle.herm_journal.specs.Books.{Limits, first_book}
+use Rattle.herm_journal.specs.NextNumbers.{Limits, first_book}
 use Rattle.herm_journal.specs.PlaceStates.{PlaceState, a_port, replies, a_book, IsEnabled, after}
 use Rattle.herm_journal.specs.Entries.{Text, Place, port, reply_cell, book, Entry}
 

@@ -1,5 +1,6 @@
 pub mod Actions
 pub mod Entries
+pub mod EntryTexts
 pub mod Journals
 pub mod Messages
 pub mod Weights
@@ -11,4 +12,4 @@ pub mod Stamps
 pub mod Histories
 pub mod PlaceStates
 pub mod Ports
-pub mod Books
+pub mod NextNumbers

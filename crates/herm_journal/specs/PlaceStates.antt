@@ -3,7 +3,7 @@
 use Rattle.std.specs.Prelude.{ℕ, List, [], ◌∷◌, ◌++◌, Some, length, ◌≡◌, ⊤}
 use Rattle.herm_journal.specs.Actions.{Action, make_port, make_process, put, take, close, answer, hear}
 use Rattle.herm_journal.specs.Ports.{Port, number_for, after_put, behind_first, first_of, after_take, after_close, left_in}
-use Rattle.herm_journal.specs.Books.{Book, next_port, next_process, after_port, after_process}
+use Rattle.herm_journal.specs.NextNumbers.{Book, next_port, next_process, after_port, after_process}
 
 -- replies, each with the number of its call, oldest first; a reply cell begins empty
 abbrev pub Replies : Type 0 → Type 0

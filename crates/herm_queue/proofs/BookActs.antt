@@ -4,7 +4,7 @@ use Rattle.herm_model.proofs.Options.{some-injective, none-not_some}
 use Rattle.herm_base.specs.declared.limits.Limits.{Limits}
 use Rattle.herm_journal.specs.Actions.{make_port, make_process}
 use Rattle.herm_journal.specs.PlaceStates.{a_book}
-use Rattle.herm_journal.specs.Books.{next_port, next_process}
+use Rattle.herm_journal.specs.NextNumbers.{next_port, next_process}
 use Rattle.herm_journal.specs.Entries.{book, Record}
 use Rattle.herm_queue.specs.CellStates.{CellAction, IsActed}
 use Rattle.herm_queue.specs.LogStates.{LogState, with_action}

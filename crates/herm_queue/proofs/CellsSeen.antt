@@ -5,7 +5,7 @@ use Rattle.herm_model.specs.Values.{Cell}
 use Rattle.herm_journal.specs.Messages.{CellReply}
 use Rattle.herm_model.specs.ValueTexts.{text_of}
 use Rattle.herm_journal.specs.Actions.{make_port, make_process, put, take, close, answer, hear}
-use Rattle.herm_journal.specs.Books.{Limits, first_book}
+use Rattle.herm_journal.specs.NextNumbers.{Limits, first_book}
 use Rattle.herm_journal.specs.Ports.{Port, empty_port, port_with}
 use Rattle.herm_journal.specs.PlaceStates.{Replies, a_port, replies, a_book}
 use Rattle.herm_journal.specs.Entries.{Text, Record, map_reply, texts_of}

@@ -1,20 +1,20 @@
 -- What contracts see of the book.
 use Rattle.std.specs.Prelude.{ℕ, List, ◌≡◌, ◌≤◌}
-use Rattle.herm_journal.specs.Books
-use Rattle.herm_journal.specs.Books.{first_book}
+use Rattle.herm_journal.specs.NextNumbers
+use Rattle.herm_journal.specs.NextNumbers.{first_book}
 use Rattle.herm_journal.specs.PlaceStates.{a_book}
 use Rattle.herm_journal.specs.Entries.{book, Entry}
 use Rattle.herm_base.specs.declared.limits.Limits.{Limits}
 use Rattle.herm_queue.specs.CellStates.{CellState, IsReplayed}
 use Rattle.herm_queue.specs.LogStates.{LogState}
 
-abbrev pub limits_view : Limits → Books.Limits
+abbrev pub limits_view : Limits → NextNumbers.Limits
 limits_view l = record { steps = l.steps; processes = l.processes; ports = l.ports }
 
 -- The book: what it holds, its clock, its history, and for how many actions more memory has been taken.
 -- Language reference, "The book".
 pub record BookState : Type 0 where
-  pub held : Books.Book
+  pub held : NextNumbers.Book
   pub clock : ℕ
   pub entries : List Entry
   pub spare : ℕ
@@ -28,7 +28,7 @@ abbrev pub IsBook : BookState → Type 0
 IsBook s = IsReplayed (book_cell s)
 
 -- the fields of the book
-abbrev pub counts_of : Limits → (ports processes : ℕ) → Books.Book
+abbrev pub counts_of : Limits → (ports processes : ℕ) → NextNumbers.Book
 counts_of limits ports processes = record { ports = ports; processes = processes; limits = limits_view limits }
 
 abbrev pub book_state : Limits → (ports processes : ℕ) → LogState → ℕ → BookState

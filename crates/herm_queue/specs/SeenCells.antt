@@ -2,7 +2,7 @@
 use Rattle.std.specs.Prelude.{nat_eq, false, Some, None, ◌≡◌, ⊤}
 use Rattle.herm_model.specs.Values.{Cell}
 use Rattle.herm_journal.specs.Actions.{Action}
-use Rattle.herm_journal.specs.Books.{Limits}
+use Rattle.herm_journal.specs.NextNumbers.{Limits}
 use Rattle.herm_journal.specs.PlaceStates.{PlaceState, IsEnabled, after}
 use Rattle.herm_journal.specs.Entries as source
 use Rattle.herm_journal.specs.Entries.{Text, recorded_state, map_action, map_holding}

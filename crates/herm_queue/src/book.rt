@@ -1,8 +1,8 @@
 //! The book: how many ports and processes were made.
 ghost use Rattle.std.specs.Prelude.{◌≡◌, ◌<◌, ◌≤◌, ◌^◌, [], OnOk, option_map};
 ghost use Rattle.herm_journal.specs.Actions.{make_port, make_process};
-ghost use Rattle.herm_journal.specs.Books.{first_book};
-ghost use Rattle.herm_journal.specs.Books;
+ghost use Rattle.herm_journal.specs.NextNumbers.{first_book};
+ghost use Rattle.herm_journal.specs.NextNumbers;
 ghost use Rattle.herm_events.specs.View.{place_view};
 ghost use Rattle.herm_queue.specs.CellStates.{IsActed};
 ghost use Rattle.herm_queue.specs.BookStates.{book_cell, IsBook, limits_view, counts_of};
@@ -36,7 +36,7 @@ impl Model for Book {
 
 /// The number of the next port, behind so many.
 fn next_port(limits: &Limits, ports: u32) -> Option<PortNo>
-    ensures next { option_map (λ p. p.number) result ≡ Books.next_port (counts_of limits.now ports 0) }
+    ensures next { option_map (λ p. p.number) result ≡ NextNumbers.next_port (counts_of limits.now ports 0) }
 {
     if (ports as u64) < limits.ports() {
         return Some(PortNo { number: ports + 1 });
@@ -46,7 +46,7 @@ fn next_port(limits: &Limits, ports: u32) -> Option<PortNo>
 
 /// The numbers of the next process and its port, behind so many.
 fn next_process(limits: &Limits, ports: u32, processes: u32) -> Option<(ProcNo, PortNo)>
-    ensures next { option_map (λ m. (m.0.number, m.1.number)) result ≡ Books.next_process (counts_of limits.now ports processes) }
+    ensures next { option_map (λ m. (m.0.number, m.1.number)) result ≡ NextNumbers.next_process (counts_of limits.now ports processes) }
 {
     if (processes as u64) < limits.processes() && (ports as u64) < limits.ports() {
         return Some((

@@ -1,4 +1,4 @@
 pub mod Keys
 pub mod Faults
 pub mod Nodes
-pub mod ByKey
+pub mod OrderedByKey

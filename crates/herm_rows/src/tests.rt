@@ -1,7 +1,7 @@
 //! Rows of two keys, by hand.
 ghost use Rattle.std.specs.Ordering.{then_cmp, on, nat_cmp};
 ghost use Rattle.std.specs.Cmp.{then_total, on_total, nat_cmp_total};
-ghost use Rattle.herm_rows.specs.ByKey.{by_key, to_key, by_key_total, by_key_one, by_key_in_order};
+ghost use Rattle.herm_rows.specs.OrderedByKey.{by_key, to_key, by_key_total, by_key_one, by_key_in_order};
 
 use crate::row::Row;
 use crate::rows::{InsertFault, Rows};

@@ -9,7 +9,7 @@ use Rattle.herm_model.specs.ValueTexts.{text_of}
 use Rattle.herm_model.proofs.Lists.{length-map}
 use Rattle.herm_model.proofs.Renaming.{text_of-rename}
 use Rattle.herm_model.proofs.Options.{some-injective, none-not_some, chain-some, map-some}
-use Rattle.herm_journal.specs.Books.{Limits, Book}
+use Rattle.herm_journal.specs.NextNumbers.{Limits, Book}
 use Rattle.herm_journal.specs.PlaceStates.{after, PlaceState, a_port, replies, a_book}
 use Rattle.herm_journal.specs.Ports.{first_of, left_in}
 use Rattle.herm_journal.specs.Entries.{Text, Place, same_place, Entry, map_reply, texts_of, more_texts_of, recorded}

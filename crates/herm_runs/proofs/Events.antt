@@ -5,7 +5,7 @@ use Rattle.herm_model.proofs.Renaming.{map-append}
 use Rattle.herm_journal.specs.Actions.{Want, new_port, new_process, to_put, to_take, to_close, to_answer, to_hear, Action, make_port, make_process, put, take, close, answer, hear}
 use Rattle.herm_journal.specs.Ports.{Port, number_for, first_of, behind_first}
 use Rattle.herm_journal.specs.PlaceStates.{PlaceState, a_port, replies, a_book, IsEnabled, after}
-use Rattle.herm_journal.specs.Books.{Limits}
+use Rattle.herm_journal.specs.NextNumbers.{Limits}
 use Rattle.herm_journal.specs.Entries.{Text, Entry, map_port, map_action, map_holding}
 use Rattle.herm_journal.specs.Stamps.{IsStampedFrom, IsStamped, next_stamp, entry_behind}
 use Rattle.herm_journal.specs.Messages.{CellAction}

@@ -7,7 +7,7 @@ use Rattle.herm_model.specs.Lists.{list_of, total}
 use Rattle.herm_model.specs.Values.{Cell, Name}
 use Rattle.herm_model.proofs.Options.{some-injective, none-not_some, chain-some, map-some}
 use Rattle.herm_journal.specs.Actions.{new_port, new_process, to_put, to_take, to_close, to_answer, to_hear, make_port, make_process, take, hear}
-use Rattle.herm_journal.specs.Books.{Book, Limits, next_port, next_process, after_port, after_process}
+use Rattle.herm_journal.specs.NextNumbers.{Book, Limits, next_port, next_process, after_port, after_process}
 use Rattle.herm_journal.specs.Ports.{Port, empty_port, first_of}
 use Rattle.herm_journal.specs.PlaceStates.{Replies, PlaceState, a_port, replies, a_book, after}
 use Rattle.herm_journal.specs.Entries.{Text, Place, port, reply_cell, book}

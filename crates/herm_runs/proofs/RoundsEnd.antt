@@ -9,7 +9,7 @@ use Rattle.herm_journal.specs.Actions.{make_port, make_process, put, take, close
 use Rattle.herm_journal.specs.Messages.{CellReply, CellAction}
 use Rattle.herm_journal.specs.Entries.{Text, Place, port, reply_cell, book, same_place}
 use Rattle.herm_system.specs.Machines.{Standing, is_local, is_acting, Machine, inport_of}
-use Rattle.herm_journal.specs.Books.{Book, Limits}
+use Rattle.herm_journal.specs.NextNumbers.{Book, Limits}
 use Rattle.herm_journal.specs.PlaceStates.{PlaceState, a_port, replies, a_book, after}
 use Rattle.herm_system.specs.Systems.{System, Moved, Event, steps, acts, Run, run, run_on, step, start, can, holding_at, set_holding, set_process, with_made, with_entry, numbered_from_one, stands, can_step, IsFinal, main_port, standing}
 use Rattle.herm_system.specs.Rounds.{Round, rounds, one_round, turns, turn, after_turn, first_place, place_or_book}

@@ -5,7 +5,7 @@ use Rattle.std.specs.Prelude.{nat_eq, nat_lt}
 use Rattle.herm_model.specs.Lists.{IsIn}
 use Rattle.herm_model.proofs.Options.{some-injective, none-not_some, chain-some, map-some}
 use Rattle.herm_journal.specs.Actions.{make_port, make_process, put, take, close, answer, hear}
-use Rattle.herm_journal.specs.Books.{Book, Limits}
+use Rattle.herm_journal.specs.NextNumbers.{Book, Limits}
 use Rattle.herm_journal.specs.PlaceStates.{after}
 use Rattle.herm_journal.specs.Entries.{Text, Place, same_place, Entry, recorded}
 use Rattle.herm_journal.specs.Journals.{IsJournalOf, part_of_process, part_of_place, ordered}

@@ -6,7 +6,7 @@ use Rattle.herm_model.specs.Lists.{any_pass, list_of}
 use Rattle.herm_model.specs.Values.{Name, Cell}
 use Rattle.herm_model.proofs.Options.{some-injective, none-not_some, map-some}
 use Rattle.herm_journal.specs.Actions.{make_port, make_process, put, take, close, answer, hear}
-use Rattle.herm_journal.specs.Books.{Book}
+use Rattle.herm_journal.specs.NextNumbers.{Book}
 use Rattle.herm_journal.specs.PlaceStates.{PlaceState, a_book, after}
 use Rattle.herm_journal.specs.Entries.{Place, port, reply_cell, book}
 use Rattle.herm_journal.specs.Messages.{CellReply, CellAction}

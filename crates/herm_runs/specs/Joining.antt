@@ -1,7 +1,7 @@
 -- Two machines that do the same, where their states correspond.
 use Rattle.std.specs.Prelude.{ℕ, List, [], ◌∷◌, true, Option, Some, None, ◌≡◌, ◌↔◌, ⊤}
 use Rattle.herm_model.specs.Values.{Name, cell, an_inport, no_parts}
-use Rattle.herm_journal.specs.Books.{Limits}
+use Rattle.herm_journal.specs.NextNumbers.{Limits}
 use Rattle.herm_journal.specs.Entries.{Text, Place, Entry}
 use Rattle.herm_journal.specs.Messages.{CellAction}
 use Rattle.herm_system.specs.Machines.{Machine, is_local}

@@ -6,7 +6,7 @@ ghost use Rattle.herm_system.specs.Machines.{Machine};
 ghost use Rattle.herm_runs.specs.laws.ProcessLaws.{KeepsNumbers};
 ghost use Rattle.herm_journal.specs.Renaming.{forget_name};
 ghost use Rattle.herm_system.specs.RunTexts.{with_summary, the_journal};
-ghost use Rattle.herm_system.specs.Lines.{line};
+ghost use Rattle.herm_system.specs.TextLines.{line};
 ghost use Rattle.herm_runs.specs.examples.Countdowns.{as_named, counting_down, counting_up, CountTheSame, written};
 ghost use Rattle.herm_runs.specs.Joining.{AreJoined, ArePaired, DiariesTogether, RoundsFollow, RunsFollow, RunTogether, turned};
 

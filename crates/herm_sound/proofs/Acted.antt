@@ -9,7 +9,7 @@ use Rattle.herm_model.specs.Values.{Name, Cell}
 use Rattle.herm_model.proofs.Lists.{or-either, length-map}
 use Rattle.herm_model.proofs.Options.{some-injective, none-not_some}
 use Rattle.herm_journal.specs.Actions.{new_port, new_process, to_put, to_take, to_close, to_answer, to_hear, make_port, make_process, put, take, close, answer, hear}
-use Rattle.herm_journal.specs.Books.{Book, next_port, next_process}
+use Rattle.herm_journal.specs.NextNumbers.{Book, next_port, next_process}
 use Rattle.herm_journal.specs.Ports.{Port, left_in}
 use Rattle.herm_journal.specs.PlaceStates.{Replies, PlaceState, a_port, replies, a_book}
 use Rattle.herm_journal.specs.Entries.{Place, port, reply_cell, book, same_place}

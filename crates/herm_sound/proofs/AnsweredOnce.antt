@@ -9,7 +9,7 @@ use Rattle.herm_model.specs.Values.{Name, a_callmessage, Cell}
 use Rattle.herm_model.proofs.Lists.{and-both}
 use Rattle.herm_model.proofs.Options.{some-injective, none-not_some, chain-some, map-some}
 use Rattle.herm_journal.specs.Actions.{new_port, new_process, to_put, to_take, to_close, to_answer, to_hear, make_port, make_process, put, take, close, answer, hear}
-use Rattle.herm_journal.specs.Books.{Limits}
+use Rattle.herm_journal.specs.NextNumbers.{Limits}
 use Rattle.herm_journal.specs.Entries.{Text, Place, reply_cell, same_place, Entry, recorded}
 use Rattle.herm_journal.specs.Stamps.{entry_behind}
 use Rattle.herm_journal.specs.Messages.{CellReply, CellWant, CellAction}

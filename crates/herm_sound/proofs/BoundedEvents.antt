@@ -9,7 +9,7 @@ use Rattle.herm_model.proofs.FactTests.{got-IsIn}
 use Rattle.herm_model.proofs.Lists.{and-both, in-append_cases, total-append}
 use Rattle.herm_model.proofs.Options.{some-injective, none-not_some, chain-some, map-some}
 use Rattle.herm_journal.specs.Actions.{make_port, make_process}
-use Rattle.herm_journal.specs.Books.{Book, Limits}
+use Rattle.herm_journal.specs.NextNumbers.{Book, Limits}
 use Rattle.herm_journal.specs.PlaceStates.{after}
 use Rattle.herm_journal.specs.Entries.{Text, Place}
 use Rattle.herm_journal.specs.Messages.{CellWant, CellAction}

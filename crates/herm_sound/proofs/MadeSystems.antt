@@ -6,7 +6,7 @@ use Rattle.herm_model.specs.Lists.{list_of}
 use Rattle.herm_model.specs.Values.{Name, a_callmessage, an_inport, Cell}
 use Rattle.herm_model.proofs.Options.{some-injective, none-not_some, map-some}
 use Rattle.herm_journal.specs.Actions.{make_port, make_process, put}
-use Rattle.herm_journal.specs.Books.{Book}
+use Rattle.herm_journal.specs.NextNumbers.{Book}
 use Rattle.herm_journal.specs.Ports.{empty_port}
 use Rattle.herm_journal.specs.Entries.{Place}
 use Rattle.herm_journal.specs.Messages.{CellReply, CellWant, CellAction}

@@ -6,7 +6,7 @@ use Rattle.herm_model.specs.Lists.{IsIn, list_of}
 use Rattle.herm_model.specs.Typed.{is_text}
 use Rattle.herm_model.specs.Values.{Name, Kind, a_callmessage, an_inport, an_outport, Cell}
 use Rattle.herm_model.proofs.Options.{some-injective, none-not_some, chain-some, map-some}
-use Rattle.herm_journal.specs.Books.{Limits, first_book}
+use Rattle.herm_journal.specs.NextNumbers.{Limits, first_book}
 use Rattle.herm_journal.specs.Ports.{Port, empty_port, port_with, left_in}
 use Rattle.herm_journal.specs.Entries.{Text}
 use Rattle.herm_journal.specs.Messages.{CellReply, IsMessage, message_of_port, is_inport}

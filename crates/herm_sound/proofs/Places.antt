@@ -6,7 +6,7 @@ use Rattle.herm_model.proofs.Lists.{in-append_cases}
 use Rattle.herm_model.proofs.Renaming.{map-append}
 use Rattle.herm_model.proofs.Options.{some-injective, map-some}
 use Rattle.herm_journal.specs.Actions.{to_put, to_answer, put, answer}
-use Rattle.herm_journal.specs.Books.{Book}
+use Rattle.herm_journal.specs.NextNumbers.{Book}
 use Rattle.herm_journal.specs.Ports.{Port, empty_port, left_in}
 use Rattle.herm_journal.specs.PlaceStates.{Replies, a_port, replies, a_book, after}
 use Rattle.herm_journal.specs.Entries.{Place, port, reply_cell, book}

@@ -9,7 +9,7 @@ use Rattle.herm_model.specs.ControlPaths.{flow_of}
 use Rattle.herm_model.specs.Labels.{AreExact}
 use Rattle.herm_model.specs.MissingFacts.{IsAccepted}
 use Rattle.herm_model.specs.FactsOfValues.{satisfies}
-use Rattle.herm_journal.specs.Books.{Limits}
+use Rattle.herm_journal.specs.NextNumbers.{Limits}
 use Rattle.herm_journal.specs.Entries.{Text}
 use Rattle.herm_forms.specs.Frames.{Name}
 use Rattle.herm_forms.specs.Modules.{Module, module_of}

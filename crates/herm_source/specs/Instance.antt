@@ -9,7 +9,8 @@ use Rattle.herm_system.specs.Machines.{Machine, Standing, ended}
 use Rattle.herm_system.specs.Systems.{System}
 use Rattle.herm_system.specs.Sound.{IsSoundFor}
 use Rattle.herm_source.specs.Modules.{Modules}
-use Rattle.herm_source.specs.States.{State, own_name, begin, ready_in, wanted, local_step, answered}
+use Rattle.herm_source.specs.States.{State, own_name, begin, wanted, local_step, answered}
+use Rattle.herm_source.specs.StepLimit.{ready_in}
 use Rattle.herm_source.specs.SeenBySystem.{values_held, exception_at, port_type, open_call}
 use Rattle.herm_source.specs.Local.{IsLocallySound}
 

@@ -1,5 +1,6 @@
 pub mod Modules
 pub mod States
+pub mod StepLimit
 pub mod Local
 pub mod Instance
 pub mod LabelRounds

@@ -1,5 +1,5 @@
 -- The state of a process, its next thing, its local step, what it wants and what an answer leaves.
-use Rattle.std.specs.Prelude.{ℕ, pred, List, [], ◌∷◌, cond, nat_lt, Option, Some, None, option_map, option_and_then, slice_get, length}
+use Rattle.std.specs.Prelude.{ℕ, pred, List, [], ◌∷◌, cond, Option, Some, None, option_map, option_and_then, slice_get, length}
 use Rattle.herm_model.specs.Nodes.{Node}
 use Rattle.herm_model.specs.Targets.{Target, node, end, end_by}
 use Rattle.herm_model.specs.Values.{Cell, gaps, part}
@@ -9,7 +9,6 @@ use Rattle.herm_forms.specs.ClosesAndAnswers
 use Rattle.herm_journal.specs.Messages.{CellWant, CellAction}
 use Rattle.herm_forms.specs.EdgeFinalising.{arrive}
 use Rattle.herm_forms.specs.Modules.{Module}
-use Rattle.herm_system.specs.Machines.{Standing, ended, out_of_steps, local, to_act, greatest_actions}
 use Rattle.herm_forms.specs.Acts.{is_action, leads_to, settle_reply, act, settle, wants}
 
 -- names as they are
@@ -107,15 +106,3 @@ settle_next name c s at action nothing = None
 
 abbrev pub answered : {N : Type 0} → (Name → N) → Module → State N → (at : ℕ) → CellAction N → Option (State N)
 answered name c s at action = settle_next name c s at action (next_of c s)
-
--- How a process stands under a limit of steps, without a look at the places. Of a next thing that is a step and an action
--- the limit of steps is looked at first. Language reference, "Processes".
-abbrev pub ready_for : {N : Type 0} → Module → (limit : ℕ) → Frame N → Next N → Standing
-ready_for c limit b nothing = ended
-ready_for c limit b (an_item item work) = to_act (nat_lt b.actions greatest_actions)
-ready_for c limit b (a_reply call n) = to_act (nat_lt b.actions greatest_actions)
-ready_for c limit b (a_statement n) =
-    cond (nat_lt b.steps limit) (cond (is_action c n.form) (to_act (nat_lt b.actions greatest_actions)) local) out_of_steps
-
-abbrev pub ready_in : {N : Type 0} → Module → (limit : ℕ) → State N → Standing
-ready_in c limit s = ready_for c limit s.frame (next_of c s)

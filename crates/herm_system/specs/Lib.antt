@@ -7,7 +7,7 @@ pub mod Statuses
 pub mod Kinds
 pub mod Sound
 pub mod Reports
-pub mod Lines
+pub mod TextLines
 pub mod Summary
 pub mod RunTexts
 pub mod DiaryStates

@@ -1,7 +1,7 @@
 -- What a report says of a run.
 use Rattle.std.specs.Prelude.{ℕ, List, [], ◌++◌, Some, ◌≡◌}
 use Rattle.herm_model.specs.Values.{Name}
-use Rattle.herm_journal.specs.Books.{Limits}
+use Rattle.herm_journal.specs.NextNumbers.{Limits}
 use Rattle.herm_journal.specs.Entries.{Text, Entry}
 use Rattle.herm_journal.specs.Journals.{IsRising}
 use Rattle.herm_journal.specs.Stamps.{IsStamped}

@@ -4,11 +4,12 @@ use Rattle.herm_model.specs.Lists.{list_of, numbered}
 use Rattle.herm_model.specs.Values.{Name, a_scalar, a_text, Cell, cell}
 use Rattle.herm_model.specs.ValueTexts.{text_of}
 use Rattle.herm_journal.specs.Ports.{Port, left_in, first_of}
-use Rattle.herm_journal.specs.Entries.{Text, Entry, entry_text}
+use Rattle.herm_journal.specs.Entries.{Text, Entry}
+use Rattle.herm_journal.specs.EntryTexts.{entry_text}
 use Rattle.herm_journal.specs.Journals.{ordered}
 use Rattle.herm_system.specs.Machines.{Machine}
 use Rattle.herm_system.specs.Systems.{System, Run}
-use Rattle.herm_system.specs.Lines.{line}
+use Rattle.herm_system.specs.TextLines.{line}
 use Rattle.herm_system.specs.Summary.{counts, summary}
 use Rattle.herm_system.specs.Statuses.{status_line}
 

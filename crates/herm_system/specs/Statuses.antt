@@ -3,11 +3,12 @@ use Rattle.std.specs.Prelude.{ℕ, List, [], ◌∷◌, ◌++◌, flat_map, cond
 use Rattle.herm_model.specs.Lists.{any_pass, list_of, numbered}
 use Rattle.herm_model.specs.Values.{Name}
 use Rattle.herm_journal.specs.Ports.{first_of}
-use Rattle.herm_journal.specs.Entries.{Text, and_number, name_in}
+use Rattle.herm_journal.specs.Entries.{Text}
+use Rattle.herm_journal.specs.EntryTexts.{and_number, name_in}
 use Rattle.herm_system.specs.Machines.{Machine, ended}
 use Rattle.herm_system.specs.Systems.{System}
 use Rattle.herm_system.specs.ProcessFates.{Fate, ended_normally, ended_by, waits, spent_steps, spent_actions, fates, is_stopped}
-use Rattle.herm_system.specs.Lines.{line, first_line}
+use Rattle.herm_system.specs.TextLines.{line, first_line}
 
 -- The status of a final state, by what became of process 1 first: 0 where it ended normally, 6 where an exception
 -- ended it; else 8 where a limit stopped some process, and 7 where none did. Language reference, "Statuses".

@@ -3,12 +3,13 @@ use Rattle.std.specs.Prelude.{ℕ, ◌^◌, min, List, ◌++◌, Bool, length, f
 use Rattle.herm_model.specs.Lists.{total}
 use Rattle.herm_model.specs.Values.{Name, Cell}
 use Rattle.herm_journal.specs.Ports.{Port}
-use Rattle.herm_journal.specs.Entries.{Text, and_number}
+use Rattle.herm_journal.specs.Entries.{Text}
+use Rattle.herm_journal.specs.EntryTexts.{and_number}
 use Rattle.herm_system.specs.Machines.{Machine, ended, waiting}
 use Rattle.herm_system.specs.Systems.{System}
 use Rattle.herm_system.specs.Ledger.{made_in, held_in, queued_in, finalised_in}
 use Rattle.herm_system.specs.ProcessFates.{fates, has_ended, is_waiting, is_stopped}
-use Rattle.herm_system.specs.Lines.{line}
+use Rattle.herm_system.specs.TextLines.{line}
 
 -- the numbers of the summary, in its order
 pub record Counts : Type 0 where

@@ -5,7 +5,7 @@ use Rattle.herm_model.specs.Values.{Name, a_scalar, a_text, a_record, an_inport,
 use Rattle.herm_journal.specs.Actions.{Want, new_port, new_process, to_put, to_take, to_close, to_answer, to_hear, Action, make_port, make_process, put, take, close, answer, hear}
 use Rattle.herm_journal.specs.Ports.{Port, empty_port, port_with, number_for, first_of, left_in}
 use Rattle.herm_journal.specs.PlaceStates.{Replies, PlaceState, a_port, replies, a_book, after}
-use Rattle.herm_journal.specs.Books.{Limits, Book, first_book, next_port, next_process}
+use Rattle.herm_journal.specs.NextNumbers.{Limits, Book, first_book, next_port, next_process}
 use Rattle.herm_journal.specs.Entries.{Text, Place, port, reply_cell, book, same_place, Entry, recorded}
 use Rattle.herm_journal.specs.Stamps.{entry_behind}
 use Rattle.herm_journal.specs.Messages.{CellReply, CellWant, CellAction}

@@ -1,7 +1,7 @@
 //! Scalars, and rows found by the scalars of their keys.
 ghost use Rattle.std.specs.Cmp.{on_total};
 ghost use Rattle.std.specs.Cmp.Lexicographic.{lists_total};
-ghost use Rattle.herm_rows.specs.ByKey.{by_key, to_key, by_key_total, by_key_one, by_key_in_order};
+ghost use Rattle.herm_rows.specs.OrderedByKey.{by_key, to_key, by_key_total, by_key_one, by_key_in_order};
 
 use herm_base::Word;
 use herm_rows::Row;

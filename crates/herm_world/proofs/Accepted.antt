@@ -25,7 +25,7 @@ use Rattle.herm_compile.specs.Straight.{variable, process_of, is_held, gap_at, g
 use Rattle.herm_compile.proofs.StraightLaws.{At, needed, next_of, point_of, flow_is, straight, at_start, carry, carry_append, hold, walk_lines, walk_over, holds_at, same_front, string_held, gaps_are_missing}
 use Rattle.herm_compile.specs.declared.compiled.Line.{Line}
 use Rattle.herm_compile.specs.declared.compiled.Line.TheVariants
-use Rattle.herm_world.specs.Lines.{FindsStrings, HasString}
+use Rattle.herm_world.specs.ConsoleLines.{FindsStrings, HasString}
 use Rattle.herm_world.specs.StraightRuns.{IsRunnable, program_of}
 use Rattle.herm_world.proofs.Slots.{Made, Slots, string_cell, empty_slots, slot_at, values_of, values-empty, length-empty, part-slot, slot-found, value-slot, values-set, length-set_slot}
 use Rattle.herm_world.proofs.Progress.{Progress, after_set, after_send, after_discard, after_line, variables_with}

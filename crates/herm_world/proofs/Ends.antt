@@ -8,7 +8,7 @@ use Rattle.herm_model.specs.Targets.{node, end}
 use Rattle.herm_model.specs.Values.{Cell, Parts, gap, part, part_at, set_part, gaps, behind_gaps, has_value}
 use Rattle.herm_model.specs.Finalising.{is_left, excess_from, excess_at, excess}
 use Rattle.herm_model.proofs.Options.{is_some-map}
-use Rattle.herm_journal.specs.Books.{Limits}
+use Rattle.herm_journal.specs.NextNumbers.{Limits}
 use Rattle.herm_journal.specs.Entries.{Text, Entry, port}
 use Rattle.herm_journal.specs.Stamps.{entry_behind}
 use Rattle.herm_journal.specs.Actions.{close}

@@ -2,7 +2,7 @@
 -- that it needs.
 use Rattle.std.proofs.Common.{◌≡◌, ℕ, List, [], ◌∷◌, inl, inr, refl, sym, subst}
 use Rattle.herm_model.specs.Statements.{Process, goes_on, branching_of, IsWellFormedBlock}
-use Rattle.herm_journal.specs.Books.{Limits}
+use Rattle.herm_journal.specs.NextNumbers.{Limits}
 use Rattle.herm_journal.specs.Entries.{Text, Entry}
 use Rattle.herm_source.specs.Modules.{Modules}
 use Rattle.herm_system.specs.Systems.{System, opening}

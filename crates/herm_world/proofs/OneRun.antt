@@ -9,14 +9,15 @@ use Rattle.herm_model.specs.Targets.{node, end, Target}
 use Rattle.herm_model.specs.Values.{Cell, Parts, gap, gaps}
 use Rattle.herm_model.specs.FactsOfValues.{satisfies}
 use Rattle.herm_journal.specs.Actions.{to_put}
-use Rattle.herm_journal.specs.Books.{Limits}
+use Rattle.herm_journal.specs.NextNumbers.{Limits}
 use Rattle.herm_journal.specs.Entries.{Text, Entry, port, reply_cell, book, Place, same_place}
 use Rattle.herm_forms.specs.Frames.{Name}
 use Rattle.herm_forms.specs.Acts.{is_action, wants}
 use Rattle.herm_system.specs.Machines.{greatest_actions, is_local, is_acting}
 use Rattle.herm_source.specs.Modules.{Modules}
 use Rattle.herm_system.specs.Systems.{Run, run, run_on, Event, steps, acts, System, start, Moved, step, numbered_from_one, local_event, places_for, stands, action_event, act_at, can_be_done, can}
-use Rattle.herm_source.specs.States.{own_name, State, ready_in}
+use Rattle.herm_source.specs.States.{own_name, State}
+use Rattle.herm_source.specs.StepLimit.{ready_in}
 use Rattle.herm_model.proofs.Options.{chain-some, some-injective, none-not_some, map-some}
 use Rattle.std.specs.List.{AllByRecursion}
 use Rattle.herm_forms.specs.EdgeFinalising.{arrive}
@@ -24,7 +25,7 @@ use Rattle.herm_forms.specs.Modules.{Module}
 use Rattle.herm_compile.specs.Form.{IsLine}
 use Rattle.herm_compile.specs.declared.compiled.Line.{Line}
 use Rattle.herm_compile.specs.declared.compiled.Line.TheVariants
-use Rattle.herm_world.specs.Lines.{FindsStrings, sent_from}
+use Rattle.herm_world.specs.ConsoleLines.{FindsStrings, sent_from}
 use Rattle.herm_world.proofs.Slots.{string_cell, values_of, slot-found, empty_slots, length-empty}
 use Rattle.herm_world.proofs.Progress.{Progress, node_for, variables_with, body_at, run_at, arrived, event_of, after_line, wants-send, code_with, modules_with, body_of, run_with, state_of}
 use Rattle.herm_world.proofs.Ends.{arrive-end, ending, close-run}

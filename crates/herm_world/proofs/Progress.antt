@@ -8,7 +8,7 @@ use Rattle.herm_model.specs.Targets.{Target, node}
 use Rattle.herm_model.specs.Values.{Cell, Parts, part}
 use Rattle.herm_model.specs.ValueTexts.{text_of}
 use Rattle.herm_journal.specs.Actions.{to_put, put}
-use Rattle.herm_journal.specs.Books.{Limits, first_book}
+use Rattle.herm_journal.specs.NextNumbers.{Limits, first_book}
 use Rattle.herm_journal.specs.Ports.{Port}
 use Rattle.herm_journal.specs.PlaceStates.{PlaceState, a_port, after}
 use Rattle.herm_journal.specs.Messages.{CellReply, CellAction}

@@ -4,10 +4,10 @@ use Rattle.herm_model.proofs.Lists.{length-map}
 use Rattle.herm_journal.specs.Entries.{Text, Entry}
 use Rattle.herm_system.specs.Reports.{Report}
 use Rattle.herm_system.specs.Summary.{Counts}
-use Rattle.herm_system.specs.Lines.{line}
+use Rattle.herm_system.specs.TextLines.{line}
 use Rattle.herm_system.specs.ProcessFates.{Fate, ended_normally}
 use Rattle.herm_compile.specs.declared.compiled.Line.{Line}
-use Rattle.herm_world.specs.Lines.{Values, sent_from}
+use Rattle.herm_world.specs.ConsoleLines.{Values, sent_from}
 use Rattle.herm_world.specs.StringsReadBack.{quoted}
 use Rattle.herm_world.specs.StraightRuns.{report_of, string_text, taken_at, sent_all, closed_at, journal_of, sets, counts_of, counts_from}
 use Rattle.herm_world.proofs.ModelTexts.{quoted_text}

@@ -3,7 +3,7 @@ use Rattle.std.proofs.Common.{◌≡◌, nat_lt, ℕ, zero, suc, ◌<◌, List, 
 use Rattle.std.proofs.lemmas.Bool.{lt-ltb}
 use Rattle.herm_model.specs.Values.{a_scalar, a_text, Cell, cell, Parts, no_parts, gap, part, part_at, set_part, gaps, size}
 use Rattle.herm_forms.specs.Frames.{Name}
-use Rattle.herm_world.specs.Lines.{Values, HasString}
+use Rattle.herm_world.specs.ConsoleLines.{Values, HasString}
 
 -- a string that process 1 made, by its serial number and its bytes
 abbrev pub Made : Type 0

@@ -2,7 +2,7 @@
 use Rattle.std.proofs.Common.{◌≡◌, ℕ, zero, suc, ◌+◌, List, [], ◌∷◌, ◌++◌, map, flat_map, filter, Bool, true, false, cond, nat_eq, None, Some, length, refl, ap, ◌∙◌, arith, add-zero}
 use Rattle.herm_model.specs.Targets.{Target}
 use Rattle.herm_model.specs.Values.{Kind, Scalar, a_scalar, a_text, an_inport, Cell, Parts, gap, gaps}
-use Rattle.herm_journal.specs.Books.{Limits}
+use Rattle.herm_journal.specs.NextNumbers.{Limits}
 use Rattle.herm_journal.specs.Ports.{Port, left_in}
 use Rattle.herm_forms.specs.Frames.{Name}
 use Rattle.herm_system.specs.Kinds.{kinds_of, kinds_in, unfinalised, is_inport_of, is_open_port}

@@ -10,7 +10,7 @@ use Rattle.herm_model.specs.Nodes.{Node}
 use Rattle.herm_model.specs.Targets.{Target}
 use Rattle.herm_model.specs.Values.{Kind, a_callmessage, an_inport, an_outport, Cell, Parts, gap, gaps}
 use Rattle.herm_journal.specs.Entries.{Text}
-use Rattle.herm_journal.specs.Books.{Limits}
+use Rattle.herm_journal.specs.NextNumbers.{Limits}
 use Rattle.herm_journal.specs.Ports.{Port, left_in}
 use Rattle.herm_forms.specs.Frames.{Name}
 use Rattle.herm_system.specs.Kinds.{each, typed_of, typed_in, typed_held, typed_cells}

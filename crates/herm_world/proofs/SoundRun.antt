@@ -6,7 +6,7 @@ use Rattle.herm_model.specs.Nodes.{Node}
 use Rattle.herm_model.specs.Targets.{end}
 use Rattle.herm_model.specs.Values.{gap, gaps, Name}
 use Rattle.herm_model.specs.Typed.{is_text}
-use Rattle.herm_journal.specs.Books.{Limits}
+use Rattle.herm_journal.specs.NextNumbers.{Limits}
 use Rattle.herm_journal.specs.Entries.{Text, Entry}
 use Rattle.herm_source.specs.Modules.{Modules}
 use Rattle.herm_system.specs.Systems.{System, opening}

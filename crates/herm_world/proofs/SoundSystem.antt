@@ -8,7 +8,7 @@ use Rattle.herm_model.specs.Nodes.{Node}
 use Rattle.herm_model.specs.Targets.{Target, node, end}
 use Rattle.herm_model.specs.Values.{Cell, Parts, gap, part, gaps}
 use Rattle.herm_journal.specs.Entries.{Text, Entry}
-use Rattle.herm_journal.specs.Books.{Limits}
+use Rattle.herm_journal.specs.NextNumbers.{Limits}
 use Rattle.herm_journal.specs.Ports.{Port, empty_port, port_with, left_in}
 use Rattle.herm_journal.specs.PlaceStates.{Replies}
 use Rattle.herm_forms.specs.Frames.{Name}

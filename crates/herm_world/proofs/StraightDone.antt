@@ -11,7 +11,7 @@ use Rattle.herm_model.specs.Labels.{AreExact}
 use Rattle.herm_model.specs.Values.{gap, gaps, Cell}
 use Rattle.herm_model.specs.FactsOfValues.{satisfies}
 use Rattle.herm_journal.specs.Actions.{close}
-use Rattle.herm_journal.specs.Books.{Limits}
+use Rattle.herm_journal.specs.NextNumbers.{Limits}
 use Rattle.herm_journal.specs.Entries.{Text, Entry, port}
 use Rattle.herm_journal.specs.Stamps.{entry_behind}
 use Rattle.herm_forms.specs.Frames.{Name}
@@ -21,7 +21,7 @@ use Rattle.herm_system.specs.Machines.{greatest_actions}
 use Rattle.herm_system.specs.Ledger.{HasLedger, made_in, held_in, queued_in, finalised_in, IsMadeOnce}
 use Rattle.herm_system.specs.RunTexts.{bytes_of}
 use Rattle.herm_system.specs.Summary.{counts, one, cut}
-use Rattle.herm_system.specs.Lines.{line}
+use Rattle.herm_system.specs.TextLines.{line}
 use Rattle.herm_source.specs.Modules.{Modules}
 use Rattle.herm_system.specs.Systems.{System, run, run_on, Event, acts, start, IsFinal, opening, main_port}
 use Rattle.herm_source.specs.AcceptedRuns.{AreAccepted, AreCodesOf}
@@ -32,7 +32,7 @@ use Rattle.herm_compile.specs.Straight.{process_of}
 use Rattle.herm_compile.proofs.StraightLaws.{flow_is, straight, carry, hold}
 use Rattle.herm_compile.specs.declared.compiled.Line.{Line}
 use Rattle.herm_compile.specs.declared.compiled.Line.TheVariants
-use Rattle.herm_world.specs.Lines.{Values, held, sent_from, sent, FindsStrings}
+use Rattle.herm_world.specs.ConsoleLines.{Values, held, sent_from, sent, FindsStrings}
 use Rattle.herm_world.specs.StraightRuns.{IsRunnable, program_of, closed_at, journal_of, sets, counts_of}
 use Rattle.herm_world.proofs.Slots.{Slots, empty_slots, values_of, values-empty, length-empty}
 use Rattle.herm_world.proofs.Progress.{code_with, modules_with, Progress, body_of, event_of, variables_with, body_at, open_port, system_with, run_with, arrived, state_of}

@@ -22,7 +22,7 @@ use Rattle.herm_compile.specs.Straight.{lines_view, process_of, ok_hops, IsStep}
 use Rattle.herm_compile.proofs.StraightLaws.{around, nodes_are, straight, at_start, carry, carry_append, hold, walk_over, holds_at}
 use Rattle.herm_compile.specs.declared.compiled.Line.{Line}
 use Rattle.herm_compile.specs.declared.compiled.Line.TheVariants
-use Rattle.herm_world.specs.Lines.{FindsStrings}
+use Rattle.herm_world.specs.ConsoleLines.{FindsStrings}
 use Rattle.herm_world.specs.StraightRuns.{string_text, taken_at, sent_at, sent_all, closed_at, journal_of, sets}
 use Rattle.herm_world.proofs.Slots.{values_of}
 use Rattle.herm_world.proofs.Progress.{code_with, node_for, Progress, after_line, variables_with}

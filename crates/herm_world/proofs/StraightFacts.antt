@@ -18,7 +18,7 @@ use Rattle.herm_compile.proofs.StraightLaws.{hold}
 use Rattle.herm_compile.specs.Form.{IsLine}
 use Rattle.herm_compile.specs.declared.compiled.Line.{Line}
 use Rattle.herm_compile.specs.declared.compiled.Line.TheVariants
-use Rattle.herm_world.specs.Lines.{FindsStrings}
+use Rattle.herm_world.specs.ConsoleLines.{FindsStrings}
 use Rattle.herm_world.proofs.Slots.{size-strings, Made, Slots, string_cell, strings_of, empty_slots, slot_at, set_slot, values_of, part-slot, set-some, set-none, slot-found}
 use Rattle.herm_world.proofs.Apart.{not-zero, far-one, one-far}
 use Rattle.herm_world.proofs.Progress.{Progress, after_send, after_discard, after_line, variables_with}

@@ -13,7 +13,7 @@ use Rattle.herm_runs.proofs.Ordered.{last-more}
 use Rattle.herm_compile.specs.Form.{IsLine}
 use Rattle.herm_compile.specs.declared.compiled.Line.{Line}
 use Rattle.herm_compile.specs.declared.compiled.Line.TheVariants
-use Rattle.herm_world.specs.Lines.{held, sent_from, FindsStrings}
+use Rattle.herm_world.specs.ConsoleLines.{held, sent_from, FindsStrings}
 use Rattle.herm_world.specs.StraightRuns.{sent_at, sent_all, sets}
 use Rattle.herm_world.proofs.Slots.{Made, Slots, string_cell, slot_at, set_slot, values_of, values-set, value-slot, slot-found, length-set_slot}
 use Rattle.herm_world.proofs.Progress.{Progress, after_set, after_send, after_discard}

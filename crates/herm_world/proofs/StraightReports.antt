@@ -4,7 +4,7 @@ use Rattle.herm_model.specs.Paths.{Fact}
 use Rattle.herm_model.specs.Nodes.{Node}
 use Rattle.herm_model.specs.Typed.{is_text}
 use Rattle.herm_model.specs.Values.{Cell}
-use Rattle.herm_journal.specs.Books.{Limits}
+use Rattle.herm_journal.specs.NextNumbers.{Limits}
 use Rattle.herm_journal.specs.Entries.{Text, Entry}
 use Rattle.herm_forms.specs.Frames.{Name}
 use Rattle.herm_forms.specs.Modules.{Module}
@@ -12,12 +12,12 @@ use Rattle.herm_source.specs.Modules.{Modules}
 use Rattle.herm_system.specs.Systems.{System, Run, main_port}
 use Rattle.herm_source.specs.AcceptedRuns.{AreAccepted, Describes}
 use Rattle.herm_system.specs.RunTexts.{bytes_of, plainly}
-use Rattle.herm_system.specs.Lines.{line}
+use Rattle.herm_system.specs.TextLines.{line}
 use Rattle.herm_runs.proofs.Events.{run-stamped}
 use Rattle.herm_runs.proofs.SystemLedger.{runs-keep}
 use Rattle.herm_compile.specs.declared.compiled.Line.{Line}
 use Rattle.herm_compile.specs.declared.compiled.Line.TheVariants
-use Rattle.herm_world.specs.Lines.{sent_from}
+use Rattle.herm_world.specs.ConsoleLines.{sent_from}
 use Rattle.herm_world.specs.StraightRuns.{program_of, journal_of, report_of, StraightLinesRun}
 use Rattle.herm_world.proofs.Slots.{empty_slots, values_of}
 use Rattle.herm_world.proofs.Progress.{Progress, code_with, modules_with}

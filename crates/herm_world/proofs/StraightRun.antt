@@ -11,7 +11,7 @@ use Rattle.herm_model.specs.Values.{Parts, part, gap, gaps, size}
 use Rattle.herm_model.specs.FactsOfValues.{satisfies}
 use Rattle.herm_model.specs.ValueTexts.{text_of}
 use Rattle.herm_journal.specs.Actions.{take}
-use Rattle.herm_journal.specs.Books.{Limits}
+use Rattle.herm_journal.specs.NextNumbers.{Limits}
 use Rattle.herm_journal.specs.Ports.{empty_port, port_with}
 use Rattle.herm_journal.specs.PlaceStates.{a_port}
 use Rattle.herm_journal.specs.Entries.{Text, port}
@@ -25,7 +25,7 @@ use Rattle.herm_system.specs.Systems.{Run, run, run_on, acts, start, main_port, 
 use Rattle.herm_compile.specs.Form.{IsLine}
 use Rattle.herm_compile.specs.declared.compiled.Line.{Line}
 use Rattle.herm_compile.specs.declared.compiled.Line.TheVariants
-use Rattle.herm_world.specs.Lines.{Values, HasString, FindsStrings}
+use Rattle.herm_world.specs.ConsoleLines.{Values, HasString, FindsStrings}
 use Rattle.herm_world.proofs.Slots.{string_cell, strings_of, empty_slots, values_of, gaps-empty, length-empty, length-set_slot, values-set, slot-found}
 use Rattle.herm_world.proofs.Progress.{code_with, modules_with, node_for, Progress, after_set, after_send, after_discard, after_line, event_of, body_of, variables_with, body_at, state_of, system_with, run_with, run_at, arrived, local-run, put-run, does-set, does-discard, does-send, wants-send, behind-answer}
 use Rattle.herm_world.proofs.Ends.{arrive-kept}

@@ -1,5 +1,5 @@
 pub mod StringsReadBack
-pub mod Lines
+pub mod ConsoleLines
 pub mod Reports
 pub mod StraightRuns
 pub mod View

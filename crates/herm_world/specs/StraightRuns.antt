@@ -10,10 +10,10 @@ use Rattle.herm_journal.specs.Entries.{Text, Entry, Place, Record, port}
 use Rattle.herm_forms.specs.Evaluate.{scalar_value}
 use Rattle.herm_source.specs.Modules.{Program, Modules}
 use Rattle.herm_system.specs.Systems.{System, first_message, IsFinal, Event, Run, run, start}
-use Rattle.herm_journal.specs.Books.{Limits}
+use Rattle.herm_journal.specs.NextNumbers.{Limits}
 use Rattle.herm_system.specs.RunTexts.{plainly}
 use Rattle.herm_system.specs.Summary.{Counts}
-use Rattle.herm_system.specs.Lines.{line}
+use Rattle.herm_system.specs.TextLines.{line}
 use Rattle.herm_system.specs.ProcessFates.{ended_normally}
 use Rattle.herm_source.specs.AcceptedRuns.{AreAccepted, Describes}
 use Rattle.herm_system.specs.Reports.{Report, IsReportOf}
@@ -21,7 +21,7 @@ use Rattle.herm_compile.specs.Form.{IsBody}
 use Rattle.herm_compile.specs.Straight.{process_of}
 use Rattle.herm_compile.specs.declared.compiled.Line.{Line}
 use Rattle.herm_compile.specs.declared.compiled.Line.TheVariants.{Receive, Set, Send, Discard}
-use Rattle.herm_world.specs.Lines.{FindsStrings, sent}
+use Rattle.herm_world.specs.ConsoleLines.{FindsStrings, sent}
 use Rattle.herm_source.specs.States.{State}
 use Rattle.herm_source.specs.Instance.{source}
 

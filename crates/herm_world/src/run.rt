@@ -1,16 +1,16 @@
 //! The run of the lines of one process.
 ghost use Rattle.std.specs.Prelude.{◌≡◌, ◌+◌, ◌<◌, ◌++◌, [], ◌∷◌, List, IfOk, OnOk, map, None, replicate, slice_set, slice_get, length, Some, suc};
 ghost use Rattle.herm_compile.specs.declared.compiled.Line.{Line};
-ghost use Rattle.herm_world.specs.Lines.{held, sent_from, sent};
+ghost use Rattle.herm_world.specs.ConsoleLines.{held, sent_from, sent};
 ghost use Rattle.herm_world.specs.Reports.{queue_of};
 ghost use Rattle.herm_world.specs.StringsReadBack.{quoted};
 ghost use Rattle.herm_world.specs.StraightRuns.{IsRunnable, IsReported, an_entry, taken_at, counts_from, sent_at, sent_all, closed_at, journal_of, sets, counts_of, start_text, string_text};
 ghost use Rattle.herm_events.specs.View.{entries_view, place_view, action_view};
 ghost use Rattle.herm_world.specs.View.{proc_ends_view, numbered_queues, counts_view, report_view};
-ghost use Rattle.herm_system.specs.Lines.{line};
+ghost use Rattle.herm_system.specs.TextLines.{line};
 ghost use Rattle.herm_system.specs.ProcessFates.{ended_normally};
 ghost use Rattle.std.specs.List.{flat_map};
-ghost use Rattle.herm_journal.specs.Entries as source;
+
 
 use crate::texts::push_quoted;
 use crate::{Counts, End, Journal, ProcEnd, Report};

@@ -8,7 +8,7 @@ use Rattle.herm_model.specs.Statements.{Assign, Blocks, Connect, Create, New, Ra
 use Rattle.herm_model.specs.Types.{TypeTable, predefined, cases, fields, inport, outport}
 use Rattle.herm_model.specs.ControlPaths.{Flow, flow_of}
 use Rattle.herm_model.specs.Values.{Name}
-use Rattle.herm_journal.specs.Books.{Limits}
+use Rattle.herm_journal.specs.NextNumbers.{Limits}
 use Rattle.herm_journal.specs.Entries.{Text}
 use Rattle.herm_system.specs.Rounds.{rounds}
 use Rattle.herm_system.specs.RunTexts.{Asked}

@@ -6,7 +6,7 @@ use Rattle.herm_model.proofs.Options.{some-injective, none-not_some, chain-some}
 use Rattle.herm_journal.specs.Actions.{new_port, new_process, to_put, to_take, to_close, to_answer, to_hear, make_port, make_process, put, take, close, answer, hear}
 use Rattle.herm_journal.specs.Kinds.{IfWant, WantKinds}
 use Rattle.herm_journal.specs.Messages.{CellWant, CellAction}
-use Rattle.herm_journal.specs.Books.{Book}
+use Rattle.herm_journal.specs.NextNumbers.{Book}
 use Rattle.herm_journal.specs.Weights.{weigh}
 use Rattle.herm_forms.specs.Weights.{weight_held, weight_sent}
 use Rattle.herm_forms.proofs.known.KindsKept.{AllowsPlain}

@@ -17,7 +17,7 @@ use Rattle.herm_forms.specs.Callmessages.{Composed, compose}
 use Rattle.herm_forms.specs.Evaluate.{Evaluated, gives, raises, no_value, scalar_then, two_then, operate, value_there, rows_there}
 use Rattle.herm_forms.specs.Excess.{excess_over_full}
 use Rattle.herm_forms.specs.Forms
-use Rattle.herm_forms.specs.KeyForms
+use Rattle.herm_forms.specs.RemoveAndGet
 use Rattle.herm_forms.specs.LoopForms.{next_row, rows_for}
 use Rattle.herm_forms.specs.Frames.{Name, Frame, Completion, goes, if_there, copying_parts}
 use Rattle.herm_forms.specs.Renaming.{rename_body}
@@ -105,8 +105,8 @@ module _ {N M : Type 0} (f : N → M) (name : Name → N) where
       ap (leaving stack) (ap (λ lost. Forms.wrap (again f name) t lost y p (rename_body f b)) (beyond_full-renamed f name c.scope y b) ∙ wrap-renamed f name t (excess_over_full c.scope y b) y p b)
   effect-renamed c (Unwrap p t y) stack b = by-form c (Form.Unwrap p t y) stack b
   effect-renamed c (Insert r t) stack b = by-form c (Form.Insert r t) stack b
-  effect-renamed c (Remove r t n) stack b = key-renamed n (λ k. KeyForms.remove (key_at c.scope t) k r t b) (λ k. KeyForms.remove (key_at c.scope t) k r t (rename_body f b)) (λ k. remove-renamed f (key_at c.scope t) k r t b) stack
-  effect-renamed c (Get r t n) stack b = key-renamed n (λ k. KeyForms.get name (key_at c.scope t) k r t b) (λ k. KeyForms.get (again f name) (key_at c.scope t) k r t (rename_body f b)) (λ k. get-renamed f name (key_at c.scope t) k r t b) stack
+  effect-renamed c (Remove r t n) stack b = key-renamed n (λ k. RemoveAndGet.remove (key_at c.scope t) k r t b) (λ k. RemoveAndGet.remove (key_at c.scope t) k r t (rename_body f b)) (λ k. remove-renamed f (key_at c.scope t) k r t b) stack
+  effect-renamed c (Get r t n) stack b = key-renamed n (λ k. RemoveAndGet.get name (key_at c.scope t) k r t b) (λ k. RemoveAndGet.get (again f name) (key_at c.scope t) k r t (rename_body f b)) (λ k. get-renamed f name (key_at c.scope t) k r t b) stack
   effect-renamed c (LoopStart t slot) stack b = ap (leaving stack) (start_loop-renamed slot t b)
   effect-renamed c (LoopNext r slot i) stack b = ap (leaving stack) (next_of_loop-renamed slot r b)
   effect-renamed c (LoopDrop slot) stack b = ap (λ b. leaving stack (goes ok b)) (leave_loops-renamed f (λ l. not (nat_eq l slot)) b)

@@ -1,13 +1,13 @@
 -- How the run of an image by rounds ends, and with what text.
 use Rattle.std.specs.Prelude.{ℕ, List, [], ◌∷◌, flat_map, Option, option_map, codes}
 use Rattle.herm_model.specs.Values.{Name}
-use Rattle.herm_journal.specs.Books.{Limits}
+use Rattle.herm_journal.specs.NextNumbers.{Limits}
 use Rattle.herm_journal.specs.Entries.{Text}
 use Rattle.herm_system.specs.Systems.{Run, start}
 use Rattle.herm_system.specs.Rounds.{rounds}
 use Rattle.herm_system.specs.Statuses.{status_of}
 use Rattle.herm_system.specs.RunTexts.{Asked, text_of_run}
-use Rattle.herm_system.specs.Lines.{line}
+use Rattle.herm_system.specs.TextLines.{line}
 use Rattle.herm_instructions.specs.Labels.{listed_at}
 use Rattle.herm_instructions.specs.Images.{CodeModule, Image}
 use Rattle.herm_code_machine.specs.ReadyCode.{ready_image}

@@ -13,8 +13,8 @@ use Rattle.herm_model.specs.Typed.{whole, IsOf, IsFull}
 use Rattle.herm_model.proofs.Renaming.{rename-copy_from, copy_from-constant}
 use Rattle.herm_model.proofs.Typing.{IsOf-renamed, renamed-IsOf}
 use Rattle.herm_forms.specs.Frames.{Name, Frame, Completion, goes, stuck, if_there, put}
-use Rattle.herm_forms.specs.KeyForms
-use Rattle.herm_forms.specs.KeyForms.{finding}
+use Rattle.herm_forms.specs.RemoveAndGet
+use Rattle.herm_forms.specs.RemoveAndGet.{finding}
 use Rattle.herm_forms.specs.Modules.{Module}
 use Rattle.herm_forms.specs.Acts.{key_at}
 use Rattle.herm_forms.specs.laws.EdgeLaws.{AreSound, held_after}
@@ -70,7 +70,7 @@ module _ (c : Module) (i : ℕ) (q : List ℕ) (j : ℕ) (r : List ℕ) (row u :
   pub found-full : (next : ℕ → Cell Name → Completion Name) (x : Completion Name) (f : Found (i ∷ q) next b x) → IsFull c.types row f.row
   found-full next x f = row-full Name c.types u row key f.place f.table f.row shape (read-typed Name c.types c.variables i q u b.variables f.table sound.types table f.at) f.there
 
-  got : (name : Name → Name) (k : List Scalar) (o : Outcome) (b' : Frame Name) → KeyForms.get name (key_at c (i ∷ q)) k (j ∷ r) (i ∷ q) b ≡ goes o b' → AreSound c (held_after c.types c.variables (Get (j ∷ r) (i ∷ q) keys) o has) b'.variables
+  got : (name : Name → Name) (k : List Scalar) (o : Outcome) (b' : Frame Name) → RemoveAndGet.get name (key_at c (i ∷ q)) k (j ∷ r) (i ∷ q) b ≡ goes o b' → AreSound c (held_after c.types c.variables (Get (j ∷ r) (i ∷ q) keys) o has) b'.variables
   got name k o b' is = by (found-or (key_at c (i ∷ q)) k (i ∷ q) next b o b' is)
     where
       next : ℕ → Cell Name → Completion Name
@@ -82,7 +82,7 @@ module _ (c : Module) (i : ℕ) (q : List ℕ) (j : ℕ) (r : List ℕ) (row u :
           put-full c j r row target deep (Get (j ∷ r) (i ∷ q) keys) ok has has (copy_from (λ s. name (b.number, s)) b.serial f.row) (record b { serial = b.serial + count f.row }) sound
           (copy-full c.types row (λ s. name (b.number, s)) b.serial f.row (found-full next (goes o b') f)) (λ f. refl) o b' (has_place b.variables (j ∷ r)) refl f.on
 
-  pub got-sound : (name : Name → Name) (o : Outcome) (b' : Frame Name) (x : Option (List Scalar)) → if_there (λ k. KeyForms.get name (key_at c (i ∷ q)) k (j ∷ r) (i ∷ q) b) x ≡ goes o b'
+  pub got-sound : (name : Name → Name) (o : Outcome) (b' : Frame Name) (x : Option (List Scalar)) → if_there (λ k. RemoveAndGet.get name (key_at c (i ∷ q)) k (j ∷ r) (i ∷ q) b) x ≡ goes o b'
       → AreSound c (held_after c.types c.variables (Get (j ∷ r) (i ∷ q) keys) o has) b'.variables
   got-sound name o b' None is = never o b' is
   got-sound name o b' (Some k) is = got name k o b' is

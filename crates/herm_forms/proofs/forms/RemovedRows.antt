@@ -13,7 +13,7 @@ use Rattle.herm_model.proofs.Lists.{and-both, both-and}
 use Rattle.herm_model.proofs.Keys.{distinct-without}
 use Rattle.herm_forms.specs.Evaluate.{key_values}
 use Rattle.herm_forms.specs.Frames.{Name, Frame, Completion, goes, if_there, putting}
-use Rattle.herm_forms.specs.KeyForms
+use Rattle.herm_forms.specs.RemoveAndGet
 use Rattle.herm_forms.specs.InsertForm.{change_rows}
 use Rattle.herm_forms.specs.Modules.{Module}
 use Rattle.herm_forms.specs.Acts.{key_at}
@@ -54,7 +54,7 @@ module _ (c : Module) (i : ℕ) (q : List ℕ) (j : ℕ) (r : List ℕ) (row u :
       let x = is-table Name c.types u row key d shape (read-typed Name c.types c.variables i q u b.variables d sound.types table at) in
       change-sound c has b.variables sound i q u row key table shape (without_part n) (λ m rs at fits bounded. (without-fits Name c.types row n rs fits, without-bounded row key n rs bounded)) x.name x.rows' (at ∙ ap Some x.is)
 
-  removed : (k : List Scalar) (o : Outcome) (b' : Frame Name) → KeyForms.remove (key_at c (i ∷ q)) k (j ∷ r) (i ∷ q) b ≡ goes o b' → AreSound c (held_after c.types c.variables (Remove (j ∷ r) (i ∷ q) keys) o has) b'.variables
+  removed : (k : List Scalar) (o : Outcome) (b' : Frame Name) → RemoveAndGet.remove (key_at c (i ∷ q)) k (j ∷ r) (i ∷ q) b ≡ goes o b' → AreSound c (held_after c.types c.variables (Remove (j ∷ r) (i ∷ q) keys) o has) b'.variables
   removed k o b' is = by (found-or (key_at c (i ∷ q)) k (i ∷ q) next b o b' is)
     where
       next : ℕ → Cell Name → Completion Name
@@ -67,7 +67,7 @@ module _ (c : Module) (i : ℕ) (q : List ℕ) (j : ℕ) (r : List ℕ) (row u :
           put-full c j r row target deep (Remove (j ∷ r) (i ∷ q) keys) ok has has f.row cut (less-sound f.table f.at f.place)
           (found-full c i q j r row u key table shape target deep keys has b sound next (goes o b') f) (λ f. refl) o b' (has_place cut.variables (j ∷ r)) refl f.on
 
-  removed-sound : (o : Outcome) (b' : Frame Name) (x : Option (List Scalar)) → if_there (λ k. KeyForms.remove (key_at c (i ∷ q)) k (j ∷ r) (i ∷ q) b) x ≡ goes o b'
+  removed-sound : (o : Outcome) (b' : Frame Name) (x : Option (List Scalar)) → if_there (λ k. RemoveAndGet.remove (key_at c (i ∷ q)) k (j ∷ r) (i ∷ q) b) x ≡ goes o b'
       → AreSound c (held_after c.types c.variables (Remove (j ∷ r) (i ∷ q) keys) o has) b'.variables
   removed-sound o b' None is = never o b' is
   removed-sound o b' (Some k) is = removed k o b' is

@@ -24,10 +24,10 @@ use Rattle.herm_forms.specs.Evaluate.{Evaluated, gives, raises, no_value, evalua
 use Rattle.herm_forms.specs.Frames.{Name, Loop, Frame, Completion, goes, stays, stuck, if_there, finalise, finalise_parts, finalise_old, finalise_all, finalise_name, finalise_at_once, cleared, drop_at, drop, taking, put, putting, making, copying, copying_parts}
 use Rattle.herm_forms.specs.Forms
 use Rattle.herm_forms.specs.LoopForms
-use Rattle.herm_forms.specs.KeyForms
+use Rattle.herm_forms.specs.RemoveAndGet
 use Rattle.herm_forms.specs.Forms.{with_value, moving, moving_content, Opened, component_in, content_of, component_of, inport_number, tested}
 use Rattle.herm_forms.specs.InsertForm.{change_rows, with_parts, add_row}
-use Rattle.herm_forms.specs.KeyForms.{finding}
+use Rattle.herm_forms.specs.RemoveAndGet.{finding}
 use Rattle.herm_forms.specs.LoopForms.{rows_for, set_rows, next_row}
 use Rattle.herm_forms.specs.EdgeFinalising.{arrive, keeps}
 use Rattle.herm_forms.specs.LeavingLoops.{keeps_loop, finalise_loops}
@@ -353,11 +353,11 @@ module _ {N : Type 0} (name : Name → N) (c : Module) (P : ℕ → Kind → Typ
         (λ found' is'. change-is t table.0 h.0 h.1 (add_row d') b' table.1.0 table.2 (λ ps are. joined-placed c.types P agrees h.0 ps (part d' no_parts) are (placed, tt)) e'))) e)))
     act-is exceptions processes s (Remove r t keys) b h loops e =
         let table = h.1.2 in
-        all-there (λ k. KeyForms.remove (key_at c t) k r t b) (key_values b.variables keys) (λ k is. all-finding (key_at c t) k t table.0 h.0 h.1.0 (λ i d. putting r ok d (change_rows t (without_part i) b)) b table.1.0 table.2 e
+        all-there (λ k. RemoveAndGet.remove (key_at c t) k r t b) (key_values b.variables keys) (λ k is. all-finding (key_at c t) k t table.0 h.0 h.1.0 (λ i d. putting r ok d (change_rows t (without_part i) b)) b table.1.0 table.2 e
         (λ i d placed. all-putting r h.0 ok d (change_rows t (without_part i) b) h.1.3.0.0 placed (change-is t table.0 h.0 h.1.0 (without_part i) b table.1.0 table.2 (λ ps are. without-placed c.types P agrees h.0 i ps are) e)))
     act-is exceptions processes s (Get r t keys) b h loops e =
         let table = h.1.2 in
-        all-there (λ k. KeyForms.get name (key_at c t) k r t b) (key_values b.variables keys) (λ k is. all-finding (key_at c t) k t table.0 h.0 h.1.0 (λ i d. copying name d (putting r ok) b) b table.1.0 table.2 e
+        all-there (λ k. RemoveAndGet.get name (key_at c t) k r t b) (key_values b.variables keys) (λ k is. all-finding (key_at c t) k t table.0 h.0 h.1.0 (λ i d. copying name d (putting r ok) b) b table.1.0 table.2 e
         (λ i d placed. all-putting r h.0 ok (copy_from (λ s. name (b.number, s)) b.serial d) (record b { serial = b.serial + count d }) h.1.3.0.0 (copy-placed c.types P agrees (λ s. name (b.number, s)) b.serial h.0 d placed) e))
     act-is exceptions processes s (For r t) b h loops e =
         let table = h.2 in all-visit s r t h.0 table.0 h.1 b (loops r t refl ∙ h.3.0.0) h.3.0.0 table.1.0 table.2 e

@@ -17,7 +17,7 @@ use Rattle.herm_journal.specs.Actions.{values, raised}
 use Rattle.herm_forms.specs.Frames.{Name, Frame, Completion, if_there}
 use Rattle.herm_forms.specs.Forms
 use Rattle.herm_forms.specs.InsertForm
-use Rattle.herm_forms.specs.KeyForms
+use Rattle.herm_forms.specs.RemoveAndGet
 use Rattle.herm_forms.specs.Exchanges
 use Rattle.herm_forms.specs.Callmessages as callmessages
 use Rattle.herm_journal.specs.Messages.{CellAction}
@@ -78,10 +78,10 @@ module _ {N M : Type 0} (f : N → M) (name : Name → N) where
   act-renamed c s (Unwrap p t y) b = RenamedForms.unwrap-renamed f t p y b
   act-renamed c s (Insert r t) b = ap (λ lost. InsertForm.insert (key_at c t) lost r t (rename_body f b)) (beyond_full-renamed c r b) ∙ RenamedForms.insert-renamed f (key_at c t) (excess_over_full c r b) r t b
   act-renamed c s (Remove r t keys) b =
-      same-renamed (λ v. KeyForms.remove (key_at c t) v r t b) (λ v. KeyForms.remove (key_at c t) v r t (rename_body f b)) (λ v. RenamedForms.remove-renamed f (key_at c t) v r t b)
+      same-renamed (λ v. RemoveAndGet.remove (key_at c t) v r t b) (λ v. RemoveAndGet.remove (key_at c t) v r t (rename_body f b)) (λ v. RenamedForms.remove-renamed f (key_at c t) v r t b)
       (key_values b.variables keys) (key_values (rename_in f b.variables) keys) (key_values-renamed f b.variables keys)
   act-renamed c s (Get r t keys) b =
-      same-renamed (λ v. KeyForms.get name (key_at c t) v r t b) (λ v. KeyForms.get again (key_at c t) v r t (rename_body f b)) (λ v. RenamedForms.get-renamed f name (key_at c t) v r t b)
+      same-renamed (λ v. RemoveAndGet.get name (key_at c t) v r t b) (λ v. RemoveAndGet.get again (key_at c t) v r t (rename_body f b)) (λ v. RenamedForms.get-renamed f name (key_at c t) v r t b)
       (key_values b.variables keys) (key_values (rename_in f b.variables) keys) (key_values-renamed f b.variables keys)
   act-renamed c s (For r t) b = RenamedForms.visit-renamed f name s r t b
   act-renamed c s (Connect o i) b = RenamedForms.connect-renamed f name o i b

@@ -20,11 +20,11 @@ use Rattle.herm_forms.specs.Evaluate
 use Rattle.herm_forms.specs.Frames.{Name, Loop, Frame, Completion, goes, if_there, finalise, finalise_parts, finalise_name, cleared, drop, reading, taking, putting, making, copying, copying_parts}
 use Rattle.herm_forms.specs.Forms
 use Rattle.herm_forms.specs.InsertForm
-use Rattle.herm_forms.specs.KeyForms
+use Rattle.herm_forms.specs.RemoveAndGet
 use Rattle.herm_forms.specs.LoopForms
 use Rattle.herm_forms.specs.Forms.{Opened, component_in, content_of, moving, moving_content, component_of, inport_number, outport_number, tested, with_value}
 use Rattle.herm_forms.specs.InsertForm.{change_rows, with_parts, add_row}
-use Rattle.herm_forms.specs.KeyForms.{finding}
+use Rattle.herm_forms.specs.RemoveAndGet.{finding}
 use Rattle.herm_forms.specs.LoopForms.{rows_for, set_rows, next_row}
 use Rattle.herm_forms.specs.EdgeFinalising.{keeps, arrive}
 use Rattle.herm_forms.specs.LeavingLoops.{keeps_loop, finalise_loops, leave_loops}
@@ -267,7 +267,7 @@ module _ {N M : Type 0} (f : N → M) where
       ∙ ap (λ (o : Option ℕ). elim o [ None ↦ goes (raised not_found) (rename_body f b) | Some i ↦ if_there (next' i) (part_at i (rename_in f (parts_of table))) ]) (place_of_key-rename f key v (parts_of table))
       ∙ found-renamed next next' e b (parts_of table) (place_of_key key v (parts_of table))) b
 
-  pub remove-renamed : (key : List ℕ) (v : List Scalar) (r t : Path) (b : Frame N) → KeyForms.remove key v r t (rename_body f b) ≡ rename_result f (KeyForms.remove key v r t b)
+  pub remove-renamed : (key : List ℕ) (v : List Scalar) (r t : Path) (b : Frame N) → RemoveAndGet.remove key v r t (rename_body f b) ≡ rename_result f (RemoveAndGet.remove key v r t b)
   remove-renamed key v r t b =
       finding-renamed key v t (λ i row. putting r ok row (change_rows t (without_part i) b)) (λ i row. putting r ok row (change_rows t (without_part i) (rename_body f b)))
       (λ i row. ap (putting r ok (rename f row)) (change_rows-renamed t (without_part i) (without_part i) (λ rows. sym (without_part-rename f i rows)) b)
@@ -347,7 +347,7 @@ module _ {N M : Type 0} (f : N → M) where
         (ap (λ d. nat_lt d greatest_polymorph) (polymorph_depth-rename f c)) (moving-renamed lost y held held' (holding-renamed (a_polymorph t) p) b) refl)
         (cell_at y (drop lost b).variables)
 
-    pub get-renamed : (key : List ℕ) (v : List Scalar) (r t : Path) (b : Frame N) → KeyForms.get again key v r t (rename_body f b) ≡ rename_result f (KeyForms.get name key v r t b)
+    pub get-renamed : (key : List ℕ) (v : List Scalar) (r t : Path) (b : Frame N) → RemoveAndGet.get again key v r t (rename_body f b) ≡ rename_result f (RemoveAndGet.get name key v r t b)
     get-renamed key v r t b =
         finding-renamed key v t (λ i row. copying name row (putting r ok) b) (λ i row. copying again row (putting r ok) (rename_body f b))
         (λ i row. copying_cell-renamed f name row (putting r ok) (putting r ok) (putting-renamed f r ok) b) b

@@ -27,7 +27,7 @@ use Rattle.herm_forms.specs.Frames.{Name, Frame, Completion, goes, stuck, if_the
 use Rattle.herm_forms.specs.Forms.{moving, moving_content, Opened, component_in, component_of, content_of, inport_number, with_value, tested}
 use Rattle.herm_forms.specs.InsertForm.{change_rows}
 use Rattle.herm_forms.specs.LoopForms.{rows_for, set_rows, next_row}
-use Rattle.herm_forms.specs.KeyForms.{finding}
+use Rattle.herm_forms.specs.RemoveAndGet.{finding}
 use Rattle.herm_forms.specs.Forms
 use Rattle.herm_forms.specs.Evaluate.{Evaluated, gives, raises, no_value, evaluate, key_values}
 use Rattle.herm_forms.specs.Excess.{excess_over_full}

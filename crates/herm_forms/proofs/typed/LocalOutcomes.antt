@@ -16,7 +16,7 @@ use Rattle.herm_model.proofs.Lists.{in-append_left, in-append_right, in-map}
 use Rattle.herm_forms.specs.Frames.{Name, Frame, Completion, goes, stays, stuck, if_there, finalise, finalise_name, drop, put, reading, taking, putting, making}
 use Rattle.herm_forms.specs.Forms
 use Rattle.herm_forms.specs.Forms.{with_value, tested, moving, moving_content, content_of, component_in, component_of, inport_number, Opened}
-use Rattle.herm_forms.specs.KeyForms.{finding}
+use Rattle.herm_forms.specs.RemoveAndGet.{finding}
 use Rattle.herm_forms.specs.LoopForms.{next_row, rows_for}
 use Rattle.herm_forms.specs.InsertForm.{change_rows, add_row}
 use Rattle.herm_forms.specs.Evaluate.{Evaluated, gives, raises, no_value, evaluate, key_values}

@@ -2,7 +2,7 @@
 use Rattle.std.proofs.Common.{◌≡◌, ℕ, List, [], ◌∷◌, Some, option_map, option_and_then, refl, sym, ap, ap₂, subst, ◌∙◌}
 use Rattle.herm_model.specs.Values.{Name}
 use Rattle.herm_model.proofs.Options.{some-injective, map-some}
-use Rattle.herm_journal.specs.Books.{Limits}
+use Rattle.herm_journal.specs.NextNumbers.{Limits}
 use Rattle.herm_journal.specs.Entries.{Text, Place}
 use Rattle.herm_system.specs.Machines.{Machine}
 use Rattle.herm_system.specs.Systems.{System, Moved, Event, steps, acts, Run, run, run_on, step, start, main_port, with_entry, number_of, numbered_from_one}

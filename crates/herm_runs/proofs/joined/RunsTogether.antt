@@ -3,7 +3,7 @@ use Rattle.std.proofs.Common.{◌≡◌, List, [], ◌∷◌, Some, option_and_t
 use Rattle.herm_model.specs.Lists.{list_of}
 use Rattle.herm_model.specs.Values.{Name}
 use Rattle.herm_model.proofs.Options.{some-injective, chain-some, map-some}
-use Rattle.herm_journal.specs.Books.{Limits}
+use Rattle.herm_journal.specs.NextNumbers.{Limits}
 use Rattle.herm_journal.specs.Entries.{Text}
 use Rattle.herm_system.specs.Machines.{Machine}
 use Rattle.herm_system.specs.Systems.{Moved, Event, Run, run, run_on, step, start, opening, main_port, with_entry}

@@ -5,7 +5,7 @@ use Rattle.herm_model.specs.Lists.{any_pass, list_of, numbered, total}
 use Rattle.herm_model.specs.Values.{Name, Cell}
 use Rattle.herm_model.specs.ValueTexts.{text_of}
 use Rattle.herm_journal.specs.Ports.{Port, left_in, first_of}
-use Rattle.herm_journal.specs.Books.{Book}
+use Rattle.herm_journal.specs.NextNumbers.{Book}
 use Rattle.herm_journal.specs.PlaceStates.{a_port, replies, a_book}
 use Rattle.herm_journal.specs.Entries.{Text, Place, port, reply_cell, book, Entry}
 use Rattle.herm_journal.specs.Messages.{CellWant}
@@ -16,7 +16,7 @@ use Rattle.herm_system.specs.Ledger.{queued_at, queued_for, made_by, held_by, fi
 use Rattle.herm_system.specs.Statuses.{status_by, status_of, status_line_by, status_line}
 use Rattle.herm_system.specs.RunTexts.{bytes_of, console_text, Asked, plainly, with_summary, the_journal, text_of_run}
 use Rattle.herm_system.specs.Summary.{Counts, counts, how_many, cut, one, summary}
-use Rattle.herm_system.specs.Lines.{line}
+use Rattle.herm_system.specs.TextLines.{line}
 use Rattle.herm_system.specs.ProcessFates.{Fate, fate_as, fate_of, fates, has_ended, is_waiting, is_stopped}
 use Rattle.herm_runs.specs.Joining.{BothOrNone, AreJoined, EachOf, Correspond, LookAlike}
 

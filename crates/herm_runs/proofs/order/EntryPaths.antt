@@ -4,7 +4,7 @@ use Rattle.std.specs.Prelude.{nat_eq}
 use Rattle.std.proofs.lemmas.Bool.{eqb-true}
 use Rattle.herm_model.proofs.Options.{some-injective, chain-some, map-some}
 use Rattle.herm_journal.specs.PlaceStates.{after}
-use Rattle.herm_journal.specs.Books.{Book, Limits}
+use Rattle.herm_journal.specs.NextNumbers.{Book, Limits}
 use Rattle.herm_journal.specs.Entries.{Entry, recorded}
 use Rattle.herm_journal.specs.Stamps.{entry_behind, IsStampedFrom, next_stamp}
 use Rattle.herm_system.specs.Systems.{System, Moved, Event, steps, acts, Run, run, run_on, step, with_entry, set_process, set_holding, holding_at, numbered_from_one, can, can_be_done}

@@ -4,7 +4,7 @@ use Rattle.herm_model.specs.Lists.{any_pass, list_of}
 use Rattle.herm_model.specs.Values.{Kind, Cell, Name}
 use Rattle.herm_model.proofs.Options.{some-injective, none-not_some}
 use Rattle.herm_journal.specs.Actions.{new_port, new_process, to_put, to_take, to_close, to_answer, to_hear}
-use Rattle.herm_journal.specs.Books.{Limits, first_book, Book}
+use Rattle.herm_journal.specs.NextNumbers.{Limits, first_book, Book}
 use Rattle.herm_journal.specs.PlaceStates.{PlaceState, a_port, replies, a_book}
 use Rattle.herm_journal.specs.Entries.{Text, Place, port, reply_cell, book, same_place, Entry}
 use Rattle.herm_journal.specs.Journals.{ordered}

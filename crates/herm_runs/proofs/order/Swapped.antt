@@ -5,7 +5,7 @@ use Rattle.std.specs.Prelude.{nat_eq, nat_lt, ◌&&◌}
 use Rattle.herm_model.specs.Values.{Cell, Name}
 use Rattle.herm_model.proofs.Options.{some-injective, none-not_some, map-some}
 use Rattle.herm_journal.specs.Actions.{make_port, make_process, put, take, close, answer, hear}
-use Rattle.herm_journal.specs.Books.{Book}
+use Rattle.herm_journal.specs.NextNumbers.{Book}
 use Rattle.herm_journal.specs.PlaceStates.{PlaceState, after}
 use Rattle.herm_journal.specs.Entries.{Place, book, same_place, Entry, recorded}
 use Rattle.herm_journal.specs.Journals.{is_before}

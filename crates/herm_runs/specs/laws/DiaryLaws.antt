@@ -4,7 +4,7 @@ use Rattle.herm_journal.specs.Renaming.{rename_action, forget_name}
 use Rattle.herm_model.specs.Lists.{IsIn, any_pass}
 use Rattle.herm_model.specs.Values.{Name, Cell, cell, an_inport, no_parts}
 use Rattle.herm_journal.specs.Actions.{make_process}
-use Rattle.herm_journal.specs.Books.{Limits}
+use Rattle.herm_journal.specs.NextNumbers.{Limits}
 use Rattle.herm_journal.specs.PlaceStates.{PlaceState}
 use Rattle.herm_journal.specs.Entries.{Text, Place, same_place, Entry}
 use Rattle.herm_journal.specs.Journals.{part_of_process}

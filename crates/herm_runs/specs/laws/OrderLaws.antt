@@ -1,7 +1,7 @@
 -- What is claimed of the order of a run's entries.
 use Rattle.std.specs.Prelude.{List, Some, ◌≡◌}
 use Rattle.herm_model.specs.Values.{Name}
-use Rattle.herm_journal.specs.Books.{Limits}
+use Rattle.herm_journal.specs.NextNumbers.{Limits}
 use Rattle.herm_journal.specs.Entries.{Text}
 use Rattle.herm_journal.specs.Journals.{ordered}
 use Rattle.herm_system.specs.Machines.{Machine}

@@ -2,7 +2,7 @@
 use Rattle.std.specs.Prelude.{ℕ, ◌+◌, ◌≤◌, List, [], ◌∷◌, Some, option_map, ⊤, ◌≡◌}
 use Rattle.herm_model.specs.Values.{Name, Kind, a_callmessage, an_inport, an_outport, Cell}
 use Rattle.herm_model.specs.CellNames.{forget}
-use Rattle.herm_journal.specs.Books.{Book}
+use Rattle.herm_journal.specs.NextNumbers.{Book}
 use Rattle.herm_journal.specs.Messages.{CellWant, CellAction}
 use Rattle.herm_journal.specs.Weights.{weigh, weight_received}
 use Rattle.herm_journal.specs.Kinds.{HasKinds, WantKinds, ActionKinds}

@@ -3,7 +3,7 @@ use Rattle.std.specs.Prelude.{ℕ, ◌≤◌, List, false, Some, ◌≡◌, ⊤}
 use Rattle.herm_model.specs.Values.{Name, Cell}
 use Rattle.herm_model.specs.ValueTexts.{text_of}
 use Rattle.herm_journal.specs.Actions.{to_take, to_hear}
-use Rattle.herm_journal.specs.Books.{Limits}
+use Rattle.herm_journal.specs.NextNumbers.{Limits}
 use Rattle.herm_journal.specs.PlaceStates.{PlaceState, IsEnabled, after}
 use Rattle.herm_journal.specs.Entries.{Text, Place, Entry, recorded, recorded_state}
 use Rattle.herm_journal.specs.Journals.{IsJournalOf, ordered, part_of_process, part_of_place}

@@ -3,7 +3,7 @@ use Rattle.std.specs.Prelude.{ℕ, List, ◌++◌, flat_map, Some, ◌≡◌, �
 use Rattle.herm_model.specs.Lists.{IsIn}
 use Rattle.herm_model.specs.Values.{Name, an_inport}
 use Rattle.herm_journal.specs.Actions.{to_take}
-use Rattle.herm_journal.specs.Books.{Limits}
+use Rattle.herm_journal.specs.NextNumbers.{Limits}
 use Rattle.herm_journal.specs.Entries.{Text}
 use Rattle.herm_system.specs.Machines.{Machine}
 use Rattle.herm_system.specs.Systems.{System, Event, Run, run, start, main_port, numbered_from_one}

@@ -4,7 +4,7 @@ use Rattle.herm_model.specs.Lists.{IsIn, any_pass}
 use Rattle.herm_model.specs.Typed.{is_text}
 use Rattle.herm_model.specs.Values.{Name, Kind, Cell}
 use Rattle.herm_journal.specs.Actions.{Action, to_take, to_hear, close, answer, hear}
-use Rattle.herm_journal.specs.Books.{Limits}
+use Rattle.herm_journal.specs.NextNumbers.{Limits}
 use Rattle.herm_journal.specs.Entries.{Text, Place, port, reply_cell, same_place, Entry}
 use Rattle.herm_journal.specs.Stamps.{IsStamped}
 use Rattle.herm_journal.specs.Messages.{CellReply, CellWant}

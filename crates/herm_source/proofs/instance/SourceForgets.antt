@@ -18,7 +18,8 @@ use Rattle.herm_forms.specs.Renaming.{rename_body}
 use Rattle.herm_forms.proofs.renamed.RenamedForms.{inport_number-renamed}
 use Rattle.herm_runs.specs.laws.ProcessLaws.{ForgetsNames}
 use Rattle.herm_source.specs.Modules.{Modules}
-use Rattle.herm_source.specs.States.{State, own_name, begin, Next, an_item, a_reply, a_statement, nothing, next_of, node_at, ready_for, wanted, local_step, answered}
+use Rattle.herm_source.specs.States.{State, own_name, begin, Next, an_item, a_reply, a_statement, nothing, next_of, node_at, wanted, local_step, answered}
+use Rattle.herm_source.specs.StepLimit.{ready_for}
 use Rattle.herm_source.specs.Renaming.{forget_state}
 use Rattle.herm_source.specs.SeenBySystem.{ports_of, looks_at, port_type, open_call}
 use Rattle.herm_source.specs.Instance.{source, nameless, code_at, ready_if}

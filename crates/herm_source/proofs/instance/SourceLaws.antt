@@ -4,7 +4,7 @@ use Rattle.herm_model.specs.Lists.{total, list_of}
 use Rattle.herm_model.specs.Values.{Name, Kind}
 use Rattle.herm_model.proofs.Options.{some-injective, chain-some, map-some, none-not_some}
 use Rattle.herm_journal.specs.Actions.{new_port, new_process, to_put, to_take, to_close, to_answer, to_hear, make_port, make_process, put, take, close, answer, hear}
-use Rattle.herm_journal.specs.Books.{Book}
+use Rattle.herm_journal.specs.NextNumbers.{Book}
 use Rattle.herm_journal.specs.Messages.{CellWant, CellAction}
 use Rattle.herm_journal.specs.Weights.{weigh}
 use Rattle.herm_journal.specs.Kinds.{IfWant, WantKinds}

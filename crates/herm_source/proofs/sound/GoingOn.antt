@@ -31,7 +31,8 @@ use Rattle.herm_system.specs.Suiting.{Answers, Suits}
 use Rattle.herm_system.specs.Kinds.{typed_in, typed_held, kinds_of, kinds_by}
 use Rattle.herm_system.specs.Machines.{Held, OpenCall, is_acting, to_act, local, out_of_steps, greatest_actions}
 use Rattle.herm_runs.proofs.ActionParts.{cond-both}
-use Rattle.herm_source.specs.States.{State, own_name, item_or, call_or_statement, node_at, state_after, ready_for, ready_in, wanted_next, wanted, settle_next, answered}
+use Rattle.herm_source.specs.States.{State, own_name, item_or, call_or_statement, node_at, state_after, wanted_next, wanted, settle_next, answered}
+use Rattle.herm_source.specs.StepLimit.{ready_for, ready_in}
 use Rattle.herm_source.specs.Modules.{Program, Modules}
 use Rattle.herm_source.specs.Instance.{source, code_at, ready_if}
 use Rattle.herm_source.specs.Local.{calling, IsItem}

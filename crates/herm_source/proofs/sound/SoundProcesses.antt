@@ -21,7 +21,8 @@ use Rattle.herm_forms.proofs.typed.EachForm.{puts-same}
 use Rattle.herm_system.specs.Suiting.{Answers, Suits}
 use Rattle.herm_system.specs.Machines.{OpenCall, is_local, local, to_act, out_of_steps, greatest_actions}
 use Rattle.herm_runs.proofs.ActionParts.{cond-both}
-use Rattle.herm_source.specs.States.{State, own_name, item_or, call_or_statement, begin, node_at, state_after, step_next, local_step, ready_for, ready_in, settle_next, answered, wanted_next, wanted}
+use Rattle.herm_source.specs.States.{State, own_name, item_or, call_or_statement, begin, node_at, state_after, step_next, local_step, settle_next, answered, wanted_next, wanted}
+use Rattle.herm_source.specs.StepLimit.{ready_for, ready_in}
 use Rattle.herm_source.specs.Modules.{Program, Modules}
 use Rattle.herm_source.specs.Instance.{source, code_at, ready_if}
 use Rattle.herm_source.specs.Local.{calling, IsLocallySound}

@@ -18,7 +18,8 @@ use Rattle.herm_forms.specs.Frames.{Name}
 use Rattle.herm_forms.specs.OpenCalls.{calling_form}
 use Rattle.herm_forms.specs.Modules.{Module, module_of}
 use Rattle.herm_system.specs.Machines.{Standing, ended, out_of_steps, out_of_actions, waiting, local, acting, to_act, greatest_actions}
-use Rattle.herm_source.specs.States.{State, item_or, call_or_statement, nothing, node_at, ready_for, ready_in}
+use Rattle.herm_source.specs.States.{State, item_or, call_or_statement, nothing, node_at}
+use Rattle.herm_source.specs.StepLimit.{ready_for, ready_in}
 use Rattle.herm_source.specs.Modules.{Program, Modules}
 use Rattle.herm_source.specs.Instance.{source, code_at, ready_if}
 use Rattle.herm_source.specs.Checked.{IsChecked}

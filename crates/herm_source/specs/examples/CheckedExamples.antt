@@ -13,7 +13,8 @@ use Rattle.herm_forms.specs.Modules.{Module}
 use Rattle.herm_system.specs.Machines.{is_local}
 use Rattle.herm_system.specs.Kinds.{typed_in}
 use Rattle.herm_source.specs.laws.PlaceLaws.{StandsAt}
-use Rattle.herm_source.specs.States.{State, own_name, begin, local_step, ready_in}
+use Rattle.herm_source.specs.States.{State, own_name, begin, local_step}
+use Rattle.herm_source.specs.StepLimit.{ready_in}
 use Rattle.herm_source.specs.Modules.{Program, Modules}
 use Rattle.herm_source.specs.LabelRounds.{ready}
 use Rattle.herm_source.specs.examples.Programs.{variable, part_in, a_number, process_of, alone, receives_start, row_types, new_row, inserts}

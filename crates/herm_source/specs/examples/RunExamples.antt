@@ -1,6 +1,6 @@
 -- Programs made ready, and the text of their runs by rounds.
 use Rattle.std.specs.Prelude.{ℕ, List, [], ◌∷◌, map, flat_map, Option, option_map, codes, ℤ}
-use Rattle.herm_journal.specs.Books.{Limits}
+use Rattle.herm_journal.specs.NextNumbers.{Limits}
 use Rattle.herm_journal.specs.Ports.{port_with}
 use Rattle.herm_journal.specs.Entries.{Text}
 use Rattle.herm_source.specs.LabelRounds.{ready}
@@ -9,7 +9,7 @@ use Rattle.herm_system.specs.Systems.{Run, start, System, opening, first_message
 use Rattle.herm_system.specs.Rounds.{rounds}
 use Rattle.herm_system.specs.Statuses.{status_of}
 use Rattle.herm_system.specs.RunTexts.{Asked, text_of_run}
-use Rattle.herm_system.specs.Lines.{line}
+use Rattle.herm_system.specs.TextLines.{line}
 use Rattle.herm_source.specs.Instance.{source}
 use Rattle.herm_source.specs.States.{State}
 use Rattle.herm_model.specs.Values.{Name, a_scalar, an_integer, cell, no_parts}

@@ -3,7 +3,7 @@ use Rattle.std.specs.Prelude.{◌≡◌, ℕ, Some, List, slice_get}
 use Rattle.herm_model.specs.Lists.{IsIn}
 use Rattle.herm_model.specs.Statements.{Process, IsWellFormedBlock}
 use Rattle.herm_model.specs.ControlPaths.{flow_of, IsReached}
-use Rattle.herm_journal.specs.Books.{Limits}
+use Rattle.herm_journal.specs.NextNumbers.{Limits}
 use Rattle.herm_journal.specs.Entries.{Text, Entry}
 use Rattle.herm_forms.specs.Frames.{Name}
 use Rattle.herm_source.specs.States.{State}

@@ -1,7 +1,7 @@
 use Rattle.std.specs.Prelude.{◌+◌, ◌-◌, ◌/◌, slice_index_or}
 use Rattle.std.proofs.Common.{sym, ◌∙◌, arith}
 use Rattle.herm_links.specs.Lists.{entries_of}
-use Rattle.herm_rows.specs.ByKey.{by_key_in_order}
+use Rattle.herm_rows.specs.OrderedByKey.{by_key_in_order}
 use Rattle.herm_rows.proofs.Searched.{stands-of, row-read, middle-there, below-step, above-step}
 use Rattle.herm_rows.proofs.index.place_of_row.Goals as goal
 

@@ -1,7 +1,7 @@
-use Rattle.herm_system.specs.Lines.{line}
+use Rattle.herm_system.specs.TextLines.{line}
 use Rattle.std.proofs.Common.{flat_map, ◌≡◌, ℕ, ◌+◌, List, [], ◌∷◌, map, length, drop, ap, subst, sym, ◌∙◌, arith}
 use Rattle.std.proofs.Math.ListN.{drop_of_length-le}
-use Rattle.herm_world.specs.Lines.{sent}
+use Rattle.herm_world.specs.ConsoleLines.{sent}
 use Rattle.herm_world.specs.StraightRuns.{journal_of, sets, counts_of, report_of, IsReported}
 use Rattle.herm_world.specs.StringsReadBack.{quoted}
 use Rattle.herm_events.specs.View.{entries_view}

@@ -1,5 +1,5 @@
 use Rattle.std.proofs.Common.{◌≡◌, ◌+◌, ◌++◌, ◌∷◌, map, drop, length}
-use Rattle.herm_world.specs.Lines.{sent_from, sent}
+use Rattle.herm_world.specs.ConsoleLines.{sent_from, sent}
 use Rattle.herm_world.specs.StringsReadBack.{quoted}
 use Rattle.herm_events.specs.View.{entries_view}
 use Rattle.herm_world.specs.StraightRuns.{taken_at, sent_all, sets}
