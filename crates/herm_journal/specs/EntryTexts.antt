@@ -3,7 +3,7 @@ use Rattle.std.specs.Prelude.{ℕ, List, [], ◌∷◌, ◌++◌, Some, None, sl
 use Rattle.herm_model.specs.Lists.{list_of}
 use Rattle.herm_model.specs.ValueTexts.{numeral}
 use Rattle.herm_journal.specs.Actions.{Reply, values, raised, gone, make_port, make_process, put, take, close, answer, hear}
-use Rattle.herm_journal.specs.Entries.{Text, Place, Record, Entry}
+use Rattle.herm_journal.specs.Entries.{Text, Place, port, reply_cell, book, Record, Entry}
 
 -- a space and a number
 abbrev pub and_number : ℕ → Text

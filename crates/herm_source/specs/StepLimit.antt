@@ -1,11 +1,10 @@
 -- How a process stands under its limit of steps. Language reference, "Processes".
 use Rattle.std.specs.Prelude.{ℕ, cond, nat_lt}
 use Rattle.herm_forms.specs.Frames.{Frame}
-use Rattle.herm_forms.specs.ClosesAndAnswers
 use Rattle.herm_forms.specs.Modules.{Module}
 use Rattle.herm_system.specs.Machines.{Standing, ended, out_of_steps, local, to_act, greatest_actions}
 use Rattle.herm_forms.specs.Acts.{is_action}
-use Rattle.herm_source.specs.States.{State, Next, next_of}
+use Rattle.herm_source.specs.States.{State, Next, an_item, a_reply, a_statement, nothing, next_of}
 
 -- How a process stands under a limit of steps, without a look at the places. Of a next thing that is a step and an action
 -- the limit of steps is looked at first. Language reference, "Processes".
