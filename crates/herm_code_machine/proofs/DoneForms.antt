@@ -7,7 +7,7 @@ use Rattle.herm_model.specs.Statements.{Form, Arm}
 use Rattle.herm_model.specs.Values.{Scalar, Cell, Parts, parts_of, read_at, Value}
 use Rattle.herm_journal.specs.Actions
 use Rattle.herm_forms.specs.Acts.{act, new_value, key_at, given_back}
-use Rattle.herm_forms.specs.Callmessages as callmessages
+use Rattle.herm_forms.specs.ReturnForms
 use Rattle.herm_forms.specs.Evaluate.{gives, evaluate, key_values}
 use Rattle.herm_forms.specs.Excess.{excess_over_full}
 use Rattle.herm_forms.specs.Exchanges
@@ -96,8 +96,8 @@ module _ (name : Name → Name) (c : ReadyCode) (s : ℕ) (b : Frame Name) where
     };
     return = λ m. record { wanted = λ stack. refl; answers = λ stack at a. refl };
     return_by = λ m e kept is. record {
-      wanted = λ stack. ap (λ k. callmessages.return_wants (Actions.raised e) (given_back c.scope (kept_parameters c m k) b) m b) is;
-      answers = λ stack at a. ap (λ k. leaving stack (callmessages.return (given_back c.scope (kept_parameters c m k) b) m a)) is;
+      wanted = λ stack. ap (λ k. ReturnForms.return_wants (Actions.raised e) (given_back c.scope (kept_parameters c m k) b) m b) is;
+      answers = λ stack at a. ap (λ k. leaving stack (ReturnForms.return (given_back c.scope (kept_parameters c m k) b) m a)) is;
     };
     create = λ o n. record { wanted = λ stack. refl; answers = λ stack at a. refl };
   }

@@ -12,6 +12,8 @@ use Rattle.herm_journal.specs.Messages.{CellWant, CellAction}
 use Rattle.herm_forms.specs.Frames.{Name, Frame, Completion, stuck}
 use Rattle.herm_forms.specs.Exchanges
 use Rattle.herm_forms.specs.Callmessages as callmessages
+use Rattle.herm_forms.specs.ReturnForms
+use Rattle.herm_forms.specs.HearReply
 use Rattle.herm_forms.specs.Callmessages.{Composed}
 use Rattle.herm_forms.specs.Excess.{excess_over_full}
 use Rattle.herm_forms.specs.Acts.{given_back, given_at}
@@ -84,8 +86,8 @@ code_wants name c (Send x o trim) stack b = Exchanges.send_wants trim x o b
 code_wants name c (Receive x i) stack b = Exchanges.receive_wants i b
 code_wants name c (Select choices) stack b = Exchanges.select_wants (ports_of_choices choices) b
 code_wants name c (Call o arguments keeps) stack b = callmessages.call_wants (called name c arguments stack b) o b
-code_wants name c (Return m) stack b = callmessages.return_wants values (given_back c.scope (given_at c.scope m) b) m b
-code_wants name c (ReturnBy m e kept) stack b = callmessages.return_wants (Actions.raised e) (given_back c.scope (kept_parameters c m kept) b) m b
+code_wants name c (Return m) stack b = ReturnForms.return_wants values (given_back c.scope (given_at c.scope m) b) m b
+code_wants name c (ReturnBy m e kept) stack b = ReturnForms.return_wants (Actions.raised e) (given_back c.scope (kept_parameters c m kept) b) m b
 code_wants name c (Create o n) stack b = Some (new_process n)
 code_wants name c _ stack b = None
 
@@ -97,12 +99,12 @@ code_settles name c (Receive x i) stack at action b = leaving stack (Exchanges.r
 code_settles name c (Select choices) stack at action b = leaving stack (Exchanges.select (targets_of_choices choices) (ports_of_choices choices) at action b)
 code_settles name c (Call o arguments keeps) stack at action b =
     with_popped (λ (p : Popped). leaving p.rest (callmessages.call (composed_of name c arguments p.values b) (outs arguments) action)) (pop (count_inputs arguments) stack)
-code_settles name c (Return m) stack at action b = leaving stack (callmessages.return (given_back c.scope (given_at c.scope m) b) m action)
-code_settles name c (ReturnBy m e kept) stack at action b = leaving stack (callmessages.return (given_back c.scope (kept_parameters c m kept) b) m action)
+code_settles name c (Return m) stack at action b = leaving stack (ReturnForms.return (given_back c.scope (given_at c.scope m) b) m action)
+code_settles name c (ReturnBy m e kept) stack at action b = leaving stack (ReturnForms.return (given_back c.scope (kept_parameters c m kept) b) m action)
 code_settles name c (Create o n) stack at action b = leaving stack (Exchanges.create name o action b)
 code_settles name c _ stack at action b = no_effect
 
 -- what the answer to the open call leaves, at the call
 abbrev pub code_hears : {N : Type 0} → Instruction → (call : ℕ) → CellAction N → Frame N → Completion N
-code_hears (Call o arguments keeps) call action b = callmessages.hear_call (returned arguments) (outs arguments) (kept_paths arguments keeps) (left_paths arguments keeps) call action b
+code_hears (Call o arguments keeps) call action b = HearReply.hear_call (returned arguments) (outs arguments) (kept_paths arguments keeps) (left_paths arguments keeps) call action b
 code_hears _ call action b = stuck

@@ -8,7 +8,8 @@ use Rattle.herm_model.specs.Statements.{Form, Leave, Case, Select, If, For, Whil
 use Rattle.herm_model.specs.Outcomes.{Outcome, component, raised, arms_from, normal_outcomes, exceptions, outcomes}
 use Rattle.herm_model.specs.Targets.{Target, node}
 use Rattle.herm_model.specs.Handlers.{Catch, caught}
-use Rattle.herm_model.specs.Nodes.{Surroundings, Node, Exit, paired, starts, start_of_block, nodes, nodes_in, nodes_of_choices}
+use Rattle.herm_model.specs.Nodes.{Surroundings, Node, starts, start_of_block, nodes, nodes_in, nodes_of_choices}
+use Rattle.herm_model.specs.Exits.{Exit, paired}
 use Rattle.herm_model.specs.ControlPaths.{Edge, Point, edge, point}
 use Rattle.herm_model.specs.FactsOfStatements.{needs, makes, kills}
 use Rattle.herm_typed.specs.declared.statements.TypedForm.{TypedForm}

@@ -5,7 +5,7 @@ use Rattle.herm_model.specs.Types.{TypeTable}
 use Rattle.herm_model.specs.Outcomes.{Outcome, raised}
 use Rattle.herm_model.specs.Targets.{Target}
 use Rattle.herm_model.specs.Handlers.{Catch, caught}
-use Rattle.herm_model.specs.Nodes.{Exit}
+use Rattle.herm_model.specs.Exits.{Exit}
 use Rattle.herm_model.specs.ControlPaths.{Edge, Point}
 use Rattle.herm_model.specs.FactsOfStatements.{needs, makes, kills}
 use Rattle.herm_typed.specs.declared.statements.TypedForm.{TypedForm}

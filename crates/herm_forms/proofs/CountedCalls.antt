@@ -19,7 +19,8 @@ use Rattle.herm_model.proofs.Places.{cell_at-set_above}
 use Rattle.herm_journal.specs.Actions.{to_answer}
 use Rattle.herm_journal.specs.Messages.{CellReply, CellWant}
 use Rattle.herm_forms.specs.Frames.{Name, Loop, Frame, finalise_parts, finalise_old, cleared, drop_at, drop, Taken, take_all}
-use Rattle.herm_forms.specs.Callmessages.{Composed, compose, assemble, with_message, caller_of, return_wants}
+use Rattle.herm_forms.specs.Callmessages.{Composed, compose, assemble, with_message}
+use Rattle.herm_forms.specs.ReturnForms.{caller_of, return_wants}
 use Rattle.herm_forms.specs.EdgeFinalising.{arrive, keeps}
 use Rattle.herm_forms.specs.LeavingLoops.{keeps_loop, finalise_loops}
 use Rattle.herm_forms.specs.Excess.{excess_over_full}

@@ -14,9 +14,11 @@ use Rattle.herm_forms.specs.Frames.{Name, Frame, goes, stuck, finalise_all, fina
 use Rattle.herm_forms.specs.Exchanges
 use Rattle.herm_forms.specs.ClosesAndAnswers
 use Rattle.herm_forms.specs.Callmessages as callmessages
+use Rattle.herm_forms.specs.ReturnForms
 use Rattle.herm_journal.specs.Messages.{CellReply, CellAction}
 use Rattle.herm_forms.specs.Exchanges.{place_of_port, ports_at, receive_at}
-use Rattle.herm_forms.specs.Callmessages.{assemble, Composed, with_message, compose, hear_reply, hear_call}
+use Rattle.herm_forms.specs.Callmessages.{assemble, Composed, with_message, compose}
+use Rattle.herm_forms.specs.HearReply.{hear_reply, hear_call}
 use Rattle.herm_journal.specs.Kinds.{HaveKinds}
 use Rattle.herm_model.proofs.Loads.{load, load_in, load_all}
 use Rattle.herm_forms.proofs.Loads.{load_reply, load_coming, load_going}
@@ -145,7 +147,7 @@ module _ {N : Type 0} (w : N → ℕ) (extra : Kind → ℕ) (name : Name → N)
 
   -- what is given back of a callmessage
   pub kept-return : (source : Path) (action : CellAction N) (taken : Option (Taken N)) (t : Taken N) → taken ≡ Some t → Balanced w extra name m k (load_coming w extra action + load_all w extra t.cells) t.frame
-      → AllBalanced w extra name m k (load_all w extra t.cells + kind_load extra (cell_at source t.frame.variables)) (callmessages.return taken source action)
+      → AllBalanced w extra name m k (load_all w extra t.cells + kind_load extra (cell_at source t.frame.variables)) (ReturnForms.return taken source action)
   kept-return source action None t is e = none-not_some is
   kept-return source (answer n r) (Some t') t is e =
       let same : t' ≡ t = cc is in

@@ -29,6 +29,8 @@ use Rattle.herm_forms.specs.LoopForms.{rows_for, set_rows, next_row}
 use Rattle.herm_forms.specs.Exchanges
 use Rattle.herm_forms.specs.ClosesAndAnswers
 use Rattle.herm_forms.specs.Callmessages as callmessages
+use Rattle.herm_forms.specs.ReturnForms
+use Rattle.herm_forms.specs.HearReply
 use Rattle.herm_journal.specs.Messages.{CellReply, CellAction}
 use Rattle.herm_forms.specs.Exchanges.{receive_at, place_of_port, ports_at}
 use Rattle.herm_forms.specs.Callmessages.{Composed, compose, assemble, with_message}
@@ -299,16 +301,16 @@ module _ {N : Type 0} (name : Name → N) (Is Stay : Frame N → Type 0) (keeps-
   all-call opens k outs (put None m) on = all-there-is _ k (λ c is. went (raised disconnected) (drop outs (finalise_at_once m c.frame)) (is-drop outs (finalise_at_once m c.frame) (is-end Is keeps-it.letting m c.frame (on c is))))
   all-call opens k outs _ on = never
 
-  pub all-return : (taken : Option (Taken N)) (m : Path) (a : CellAction N) → ((t : Taken N) → taken ≡ Some t → Is t.frame) → All Is Stay (callmessages.return taken m a)
+  pub all-return : (taken : Option (Taken N)) (m : Path) (a : CellAction N) → ((t : Taken N) → taken ≡ Some t → Is t.frame) → All Is Stay (ReturnForms.return taken m a)
   all-return taken m (answer k r) on = all-there-is _ taken (λ t is. all-taking m _ t.frame (on t is) (λ d b' e'. went ok (finalise_at_once d b') (is-end Is keeps-it.letting d b' e')))
   all-return taken m _ on = never
 
-  all-hear_reply : (back outs : List Path) (keep left : ℕ → List Path) (r : CellReply N) (b : Frame N) → Is b → All Is Stay (callmessages.hear_reply back outs keep left r b)
+  all-hear_reply : (back outs : List Path) (keep left : ℕ → List Path) (r : CellReply N) (b : Frame N) → Is b → All Is Stay (HearReply.hear_reply back outs keep left r b)
   all-hear_reply back outs keep left (values cs) b e = all-putting_all back ok cs b e
   all-hear_reply back outs keep left (Actions.raised x cs) b e = all-putting_all (keep x) (raised x) cs (drop (left x) b) (is-drop (left x) b e)
   all-hear_reply back outs keep left gone b e = went (raised disconnected) (drop outs b) (is-drop outs b e)
 
-  pub all-hear_call : (back outs : List Path) (keep left : ℕ → List Path) (call : ℕ) (a : CellAction N) (b : Frame N) → Is (record b { call = None }) → All Is Stay (callmessages.hear_call back outs keep left call a b)
+  pub all-hear_call : (back outs : List Path) (keep left : ℕ → List Path) (call : ℕ) (a : CellAction N) (b : Frame N) → Is (record b { call = None }) → All Is Stay (HearReply.hear_call back outs keep left call a b)
   all-hear_call back outs keep left call (hear k r) b e = all-cond (nat_eq k call) _ _ (all-hear_reply back outs keep left r (record b { call = None }) e) never
   all-hear_call back outs keep left call _ b e = never
 

@@ -19,6 +19,7 @@ use Rattle.herm_forms.specs.RemoveAndGet
 use Rattle.herm_forms.specs.Exchanges
 use Rattle.herm_forms.specs.ClosesAndAnswers
 use Rattle.herm_forms.specs.Callmessages as callmessages
+use Rattle.herm_forms.specs.ReturnForms
 use Rattle.herm_journal.specs.Messages.{CellReply, CellWant, CellAction}
 use Rattle.herm_forms.specs.Callmessages.{Composed, compose}
 use Rattle.herm_forms.specs.EdgeFinalising.{arrive, keeps}
@@ -154,16 +155,16 @@ module _ {N : Type 0} (w : N → ℕ) (extra : Kind → ℕ) (name : Name → N)
       (subst (λ o. Balanced w extra name m k (load_coming w extra action + o) b) (same-load c o arguments b x is) e)) is
 
   pub settle-return : (c : Module) (given : List Path) (reply : List (Cell N) → CellReply N) → ((cs : List (Cell N)) → load_reply w extra (reply cs) ≡ load_all w extra cs)
-      → (source : Path) (want : CellWant N) (action : CellAction N) (b : Frame N) → callmessages.return_wants reply (given_back c given b) source b ≡ Some want
+      → (source : Path) (want : CellWant N) (action : CellAction N) (b : Frame N) → ReturnForms.return_wants reply (given_back c given b) source b ≡ Some want
       → Balanced w extra name m k (load_coming w extra action) b
-      → AllBalanced w extra name m k (load_going w extra name b want action + source_load extra source (given_back c given b)) (callmessages.return (given_back c given (recount steps actions b)) source action)
+      → AllBalanced w extra name m k (load_going w extra name b want action + source_load extra source (given_back c given b)) (ReturnForms.return (given_back c given (recount steps actions b)) source action)
   settle-return c given reply weighs source want action b is e =
       let lost = flat_map (λ (p : Path). excess_over_full c p b) given in
-      let r = chain-some (λ (to : ℕ × ℕ). option_map (λ (t : Taken N). to_answer to.0 to.1 (reply t.cells)) (given_back c given b)) (option_and_then callmessages.caller_of (cell_at source b.variables)) want is in
+      let r = chain-some (λ (to : ℕ × ℕ). option_map (λ (t : Taken N). to_answer to.0 to.1 (reply t.cells)) (given_back c given b)) (option_and_then ReturnForms.caller_of (cell_at source b.variables)) want is in
       let q = map-some (λ (t : Taken N). to_answer r.0.0 r.0.1 (reply t.cells)) (given_back c given b) want r.2 in
       let again : take_all given (drop lost (recount steps actions b)) ≡ Some (recount_taken steps actions q.0)
       = ap (take_all given) (recount-drop steps actions lost b) ∙ recount-take_all steps actions given (drop lost b) ∙ ap (option_map (recount_taken steps actions)) q.1 in
-      rw (sym q.2) (rw (weighs q.0.cells) (subst (λ o. AllBalanced w extra name m k (load_all w extra q.0.cells + source_load extra source o) (callmessages.return (given_back c given (recount steps actions b)) source action)) (sym q.1) (kept-return w extra name spares m k source action (given_back c given (recount steps actions b)) (recount_taken steps actions q.0) again
+      rw (sym q.2) (rw (weighs q.0.cells) (subst (λ o. AllBalanced w extra name m k (load_all w extra q.0.cells + source_load extra source o) (ReturnForms.return (given_back c given (recount steps actions b)) source action)) (sym q.1) (kept-return w extra name spares m k source action (given_back c given (recount steps actions b)) (recount_taken steps actions q.0) again
       (balanced-take_all w extra name spares m k (load_coming w extra action) given (drop lost (recount steps actions b)) (recount_taken steps actions q.0) again
       (balanced-drop w extra name spares m k (load_coming w extra action) lost (recount steps actions b) e)))))
 

@@ -8,7 +8,8 @@ use Rattle.herm_model.specs.Statements.{Form, Assign, Move, New, Discard, Unite,
 use Rattle.herm_model.specs.Calls.{shape_at, call_parameters, arguments_by}
 use Rattle.herm_model.specs.FactsOfStatements.{set_by_call, kept_by_call, returned, returned_by}
 use Rattle.herm_model.specs.Outcomes.{Outcome, same_outcome}
-use Rattle.herm_model.specs.Nodes.{Node, exits}
+use Rattle.herm_model.specs.Nodes.{Node}
+use Rattle.herm_model.specs.Exits.{exits}
 use Rattle.herm_model.specs.Targets.{Target}
 use Rattle.herm_model.specs.Values.{a_record, a_table, Parts, no_parts, gaps, part}
 use Rattle.herm_forms.specs.Evaluate.{Evaluated, gives, raises, no_value, evaluate, atom_value, key_values}
@@ -21,6 +22,8 @@ use Rattle.herm_forms.specs.RemoveAndGet
 use Rattle.herm_forms.specs.LoopForms
 use Rattle.herm_forms.specs.Exchanges
 use Rattle.herm_forms.specs.Callmessages as callmessages
+use Rattle.herm_forms.specs.ReturnForms
+use Rattle.herm_forms.specs.HearReply
 use Rattle.herm_journal.specs.Messages.{CellWant, CellAction, is_inport}
 use Rattle.herm_forms.specs.Callmessages.{Composed}
 use Rattle.herm_forms.specs.Excess.{excess_over_full, excess_over_declared}
@@ -123,7 +126,7 @@ left_at c o arguments e = filter (λ p. not (any_pass (same_path p) (kept_at c o
 
 -- what a return gives back, and what one by an exception does
 abbrev pub given_back : {N : Type 0} → Module → List Path → Frame N → Option (Taken N)
-given_back c given b = callmessages.give_back (flat_map (λ p. excess_over_full c p b) given) given b
+given_back c given b = ReturnForms.give_back (flat_map (λ p. excess_over_full c p b) given) given b
 
 abbrev pub given_at : Module → (source : Path) → List Path
 given_at c m = returned c.types c.variables m
@@ -138,8 +141,8 @@ wants name c (Send x o) b = Exchanges.send_wants (excess_over_declared c o x b) 
 wants name c (Receive x i) b = Exchanges.receive_wants i b
 wants name c (Select arms) b = Exchanges.select_wants (map (λ a. a.port) arms) b
 wants name c (Call o arguments) b = callmessages.call_wants (composed name c o arguments b) o b
-wants name c (Return m) b = callmessages.return_wants values (given_back c (given_at c m) b) m b
-wants name c (ReturnBy m e) b = callmessages.return_wants (Actions.raised e) (given_back c (given_by c m e) b) m b
+wants name c (Return m) b = ReturnForms.return_wants values (given_back c (given_at c m) b) m b
+wants name c (ReturnBy m e) b = ReturnForms.return_wants (Actions.raised e) (given_back c (given_by c m e) b) m b
 wants name c (Create o process) b = Some (new_process process)
 wants name c _ b = None
 
@@ -150,15 +153,15 @@ settle name c (Send x o) at action b = Exchanges.send (excess_over_declared c o 
 settle name c (Receive x i) at action b = Exchanges.receive x action b
 settle name c (Select arms) at action b = Exchanges.select (map (λ a. a.target) arms) (map (λ a. a.port) arms) at action b
 settle name c (Call o arguments) at action b = callmessages.call (composed name c o arguments b) (arguments_at c is_out o arguments) action
-settle name c (Return m) at action b = callmessages.return (given_back c (given_at c m) b) m action
-settle name c (ReturnBy m e) at action b = callmessages.return (given_back c (given_by c m e) b) m action
+settle name c (Return m) at action b = ReturnForms.return (given_back c (given_at c m) b) m action
+settle name c (ReturnBy m e) at action b = ReturnForms.return (given_back c (given_by c m e) b) m action
 settle name c (Create o process) at action b = Exchanges.create name o action b
 settle name c _ at action b = stuck
 
 -- what the answer to the open call leaves, at the call's statement
 abbrev pub settle_reply : {N : Type 0} → Module → Form → (call : ℕ) → CellAction N → Frame N → Completion N
 settle_reply c (Call o arguments) call action b =
-    callmessages.hear_call (set_by_call c.types c.variables o arguments) (arguments_at c is_out o arguments) (kept_at c o arguments) (left_at c o arguments) call action b
+    HearReply.hear_call (set_by_call c.types c.variables o arguments) (arguments_at c is_out o arguments) (kept_at c o arguments) (left_at c o arguments) call action b
 settle_reply c _ call action b = stuck
 
 -- where an outcome of a node leads

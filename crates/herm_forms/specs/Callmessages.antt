@@ -1,14 +1,13 @@
--- How a call's message is composed, and how it is answered. Language reference, "Calls".
-use Rattle.std.specs.Prelude.{ℕ, suc, ◌+◌, List, [], ◌∷◌, cond, nat_eq, Option, Some, None, option_map, option_and_then, ⊤}
+-- How the message of a call is composed, and where it goes. Language reference, "Calls".
+use Rattle.std.specs.Prelude.{ℕ, suc, ◌+◌, List, [], ◌∷◌, Option, Some, None, option_map, option_and_then, ⊤}
 use Rattle.herm_model.specs.Paths.{Path}
 use Rattle.herm_model.specs.Types.{Mode, by_in, by_inout, by_out}
-use Rattle.herm_model.specs.Outcomes.{ok, raised, disconnected}
-use Rattle.herm_model.specs.Values.{a_callmessage, Cell, cell, Parts, no_parts, gap, part, cell_at}
+use Rattle.herm_model.specs.Outcomes.{raised, disconnected}
+use Rattle.herm_model.specs.Values.{a_callmessage, Cell, cell, Parts, no_parts, gap, part}
 use Rattle.herm_model.specs.CellNames.{count_in, copy_in}
-use Rattle.herm_journal.specs.Actions.{values, gone, to_put, to_answer, put, answer, hear}
-use Rattle.herm_journal.specs.Actions
-use Rattle.herm_forms.specs.Frames.{Name, Frame, Completion, goes, stays, stuck, if_there, finalise_at_once, drop, taking, putting_all, Taken, take_all}
-use Rattle.herm_journal.specs.Messages.{CellWant, CellAction, CellReply}
+use Rattle.herm_journal.specs.Actions.{to_put, put}
+use Rattle.herm_forms.specs.Frames.{Name, Frame, Completion, goes, stays, stuck, if_there, finalise_at_once, drop, take_all}
+use Rattle.herm_journal.specs.Messages.{CellWant, CellAction}
 use Rattle.herm_forms.specs.Exchanges.{outport_at}
 
 -- The parameters of a callmessage by their modes: those of mode in are copies, those of mode inout were moved, those
@@ -53,37 +52,3 @@ abbrev pub call : {N : Type 0} → Option (Composed N) → (outs : List Path) �
 call composed outs (put (Some k) m) = if_there (λ c. stays (record c.frame { call = Some c.call })) composed
 call composed outs (put None m) = if_there (λ c. goes (raised disconnected) (drop outs (finalise_at_once m c.frame))) composed
 call composed outs _ = stuck
-
--- The answer of the open call. Its values go to the arguments of modes inout and out. At an exception those that it
--- keeps go to theirs, after what the other arguments of mode out hold was finalised. Without an answer all that they
--- hold is finalised. Language reference, "Calls".
-abbrev pub hear_reply : {N : Type 0} → (returned outs : List Path) → (kept left : ℕ → List Path) → CellReply N → Frame N → Completion N
-hear_reply returned outs kept left (values cs) b = putting_all returned ok cs b
-hear_reply returned outs kept left (Actions.raised e cs) b = putting_all (kept e) (raised e) cs (drop (left e) b)
-hear_reply returned outs kept left gone b = goes (raised disconnected) (drop outs b)
-
--- the answer is to this call
-abbrev pub hear_call : {N : Type 0} → (returned outs : List Path) → (kept left : ℕ → List Path) → (call : ℕ) → CellAction N → Frame N → Completion N
-hear_call returned outs kept left call (hear k r) b =
-    cond (nat_eq k call) (hear_reply returned outs kept left r (record b { call = None })) stuck
-hear_call returned outs kept left call _ b = stuck
-
--- what is given back of a callmessage: the parameters at these paths, without what they hold beyond full values
-abbrev pub give_back : {N : Type 0} → (lost given : List Path) → Frame N → Option (Taken N)
-give_back lost given b = take_all given (drop lost b)
-
--- the caller and the call of a callmessage
-abbrev pub caller_of : {N : Type 0} → Cell N → Option (ℕ × ℕ)
-caller_of (cell n (a_callmessage caller call) ps) = Some (caller, call)
-caller_of c = None
-
--- `return m` and `return m exception E` want to answer the caller
-abbrev pub return_wants : {N : Type 0} → (List (Cell N) → CellReply N) → Option (Taken N) → (source : Path) → Frame N → Option (CellWant N)
-return_wants reply taken m b =
-    option_and_then (λ c. option_map (λ t. to_answer c.0 c.1 (reply t.cells)) taken) (option_and_then caller_of (cell_at m b.variables))
-
--- The answer is at the caller's reply cell; the callmessage's cell is finalised, and then what else it holds.
--- Language reference, "Calls".
-abbrev pub return : {N : Type 0} → Option (Taken N) → (source : Path) → CellAction N → Completion N
-return taken m (answer k r) = if_there (λ t. taking m (λ c b. goes ok (finalise_at_once c b)) t.frame) taken
-return taken m _ = stuck

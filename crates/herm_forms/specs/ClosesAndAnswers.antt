@@ -2,7 +2,6 @@
 use Rattle.std.specs.Prelude.{Option, Some, None}
 use Rattle.herm_model.specs.Values.{a_callmessage, an_inport, Cell, cell}
 use Rattle.herm_journal.specs.Actions.{gone, to_close, to_answer, close, answer}
-use Rattle.herm_journal.specs.Actions
 use Rattle.herm_forms.specs.Frames.{Frame, Completion, stays, stuck, finalise_all, finalise_at_once}
 use Rattle.herm_journal.specs.Messages.{CellWant, CellAction}
 

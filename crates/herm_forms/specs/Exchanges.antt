@@ -4,7 +4,6 @@ use Rattle.herm_model.specs.Paths.{Path}
 use Rattle.herm_model.specs.Outcomes.{ok, arm, raised, depletion, disconnected}
 use Rattle.herm_model.specs.Values.{an_inport, an_outport, Cell, cell, no_parts, cell_at, read_at}
 use Rattle.herm_journal.specs.Actions.{to_put, to_take, make_port, make_process, put, take}
-use Rattle.herm_journal.specs.Actions
 use Rattle.herm_forms.specs.Frames.{Name, Frame, Completion, goes, stuck, if_there, drop, putting, making}
 use Rattle.herm_forms.specs.Forms.{moving, inport_number, outport_number}
 use Rattle.herm_journal.specs.Messages.{CellWant, CellAction}

@@ -14,6 +14,8 @@ pub mod Modules
 pub mod Excess
 pub mod EdgeFinalising
 pub mod Callmessages
+pub mod HearReply
+pub mod ReturnForms
 pub mod OpenCalls
 pub mod LeavingLoops
 pub mod Frames

@@ -4,7 +4,8 @@ use Rattle.herm_model.specs.Lists.{IsIn, all_pass, any_pass, numbered, range}
 use Rattle.herm_model.specs.Paths.{Fact}
 use Rattle.herm_model.specs.Types.{inport, TypeTable, predefined, all_parts, variable_paths}
 use Rattle.herm_model.specs.Statements.{Form, Case, Statement, simple, choosing, repeating, leaving, trying, Block, no_statements, statement, Blocks, no_blocks, block, Handlers, no_handlers, handler, Process, Branching, goes_on, repeats, leaves, chooses, branching_of, count_blocks, numbers_of_block, HasDifferentArms, IsWellFormed, IsWellFormedBlock, AreWellFormed, AreWellFormedHandlers}
-use Rattle.herm_model.specs.Nodes.{Node, process_nodes, entry_of, Exit, exits}
+use Rattle.herm_model.specs.Nodes.{Node, process_nodes, entry_of}
+use Rattle.herm_model.specs.Exits.{Exit, exits}
 use Rattle.herm_model.specs.Targets.{Target, node, end, end_by}
 use Rattle.herm_model.specs.ControlPaths.{Edge, edge, Point, point, flow_of, IsReached}
 use Rattle.herm_model.specs.laws.FlowLaws.{IsLedTo, begins, goes_on}

@@ -7,7 +7,8 @@ use Rattle.herm_model.specs.Expressions.{Expression, can_overflow, can_deplete}
 use Rattle.herm_model.specs.Statements.{Form, Assign, New, Case, Wrap, Unwrap, Insert, Remove, Get, For, Send, Select, Call, Create, If, While, Raise, Reveal, Arm, Process, Differ, HasDifferentArms, IsWellFormedBlock}
 use Rattle.herm_model.specs.Calls.{shape_at, call_raises}
 use Rattle.herm_model.specs.Outcomes.{Outcome, ok, is_true, is_false, turn, done, component, arm, raised, with_number, rising, listed_if, raised_by, raised_by_new, arms_from, normal_outcomes, exceptions, outcomes, overflow, depletion, case_error, polymorph_mismatch, not_found, disconnected}
-use Rattle.herm_model.specs.Nodes.{Node, process_nodes, Exit, exits}
+use Rattle.herm_model.specs.Nodes.{Node, process_nodes}
+use Rattle.herm_model.specs.Exits.{Exit, exits}
 use Rattle.herm_model.specs.ControlPaths.{Edge, edge, Point, point, flow_of}
 use Rattle.herm_model.specs.laws.FlowLaws.{Rise, EdgesDiffer}
 use Rattle.herm_model.proofs.Lists.{in-map_from, joined-Differ, mapped-Differ}

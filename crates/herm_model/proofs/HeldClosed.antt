@@ -5,7 +5,8 @@ use Rattle.herm_model.specs.Paths.{Path, Fact, init, path_of, same_fact, is_at_o
 use Rattle.herm_model.specs.Types.{TypeTable}
 use Rattle.herm_model.specs.Facts.{prefixes, facts_to, IsClosed}
 use Rattle.herm_model.specs.Statements.{Process}
-use Rattle.herm_model.specs.Nodes.{Node, Exit, exits, process_nodes}
+use Rattle.herm_model.specs.Nodes.{Node, process_nodes}
+use Rattle.herm_model.specs.Exits.{Exit, exits}
 use Rattle.herm_model.specs.Targets.{Target, node}
 use Rattle.herm_model.specs.ControlPaths.{Edge, edge, Point, point, flow_of, Hop, held_after_edge, held_at_start, walk, edge_from, IsControlPath, Holds}
 use Rattle.herm_model.proofs.Lists.{in-map_from, or-left, or-right}

@@ -6,7 +6,8 @@ use Rattle.herm_model.specs.Lists.{IsIn}
 use Rattle.herm_model.specs.Types.{TypeTable}
 use Rattle.herm_model.specs.Statements.{Form, Case, For, Select, If, While, Arm, nodes_of_block, Statement, simple, choosing, repeating, leaving, trying, Block, no_statements, statement, Blocks, no_blocks, block, Handlers, no_handlers, handler, Process, Branching, goes_on, repeats, chooses, branching_of, count_blocks, HasDifferentArms, IsWellFormed, IsWellFormedBlock, AreWellFormed, AreWellFormedHandlers}
 use Rattle.herm_model.specs.Outcomes.{Outcome, raised, arms_from, normal_outcomes, exceptions, outcomes}
-use Rattle.herm_model.specs.Nodes.{Surroundings, Node, starts, nodes, nodes_in, nodes_of_choices, nodes_of_catches, process_nodes, Exit, paired, exits}
+use Rattle.herm_model.specs.Nodes.{Surroundings, Node, starts, nodes, nodes_in, nodes_of_choices, nodes_of_catches, process_nodes}
+use Rattle.herm_model.specs.Exits.{Exit, paired, exits}
 use Rattle.herm_model.specs.Handlers.{caught}
 use Rattle.herm_model.specs.Targets.{Target}
 

@@ -6,7 +6,8 @@ use Rattle.herm_model.specs.Lists.{IsIn}
 use Rattle.herm_model.specs.Types.{TypeTable}
 use Rattle.herm_model.specs.Statements.{Statement, simple, choosing, repeating, leaving, trying, Block, no_statements, statement, Blocks, no_blocks, block, Handlers, no_handlers, handler, numbers_of, numbers_of_block, nodes_of, nodes_of_block, nodes_of_blocks, nodes_of_handlers, Process}
 use Rattle.herm_model.specs.Outcomes.{Outcome, raised, normal_outcomes, exceptions}
-use Rattle.herm_model.specs.Nodes.{Surroundings, Node, start, start_of_block, starts, catches_of, nodes, nodes_in, nodes_of_choices, nodes_of_catches, process_nodes, Exit, paired, exits}
+use Rattle.herm_model.specs.Nodes.{Surroundings, Node, start, start_of_block, starts, catches_of, nodes, nodes_in, nodes_of_choices, nodes_of_catches, process_nodes}
+use Rattle.herm_model.specs.Exits.{Exit, paired, exits}
 use Rattle.herm_model.specs.Handlers.{Catch, caught}
 use Rattle.herm_model.specs.Targets.{Target, node, end, end_by}
 use Rattle.herm_model.specs.ControlPaths.{Edge, edge, Point, point, flow_of}

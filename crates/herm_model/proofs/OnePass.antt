@@ -6,7 +6,8 @@ use Rattle.herm_model.specs.Paths.{Fact}
 use Rattle.herm_model.specs.Types.{TypeTable}
 use Rattle.herm_model.specs.Statements.{Form}
 use Rattle.herm_model.specs.Outcomes.{Outcome, same_outcome, ok, raised, normal_outcomes, exceptions}
-use Rattle.herm_model.specs.Nodes.{Surroundings, Node, start_of_block, nodes_in, Exit, paired}
+use Rattle.herm_model.specs.Nodes.{Surroundings, Node, start_of_block, nodes_in}
+use Rattle.herm_model.specs.Exits.{Exit, paired}
 use Rattle.herm_model.specs.Targets.{Target, node, end, end_by}
 use Rattle.herm_model.specs.FactsOfStatements.{needs}
 use Rattle.herm_model.specs.ControlPaths.{Edge, edge, Point, point, Flow, flow_of, Hop, held_after_edge, held_at_start, edge_at, edge_from, IsControlPath, Holds}

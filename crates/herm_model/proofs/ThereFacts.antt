@@ -7,7 +7,8 @@ use Rattle.herm_model.specs.Types.{Raised, inport, callmessage, TypeTable}
 use Rattle.herm_model.specs.Facts.{said_at, message_facts, message_of, IsFactOf}
 use Rattle.herm_model.specs.Statements.{Process, Differ}
 use Rattle.herm_model.specs.Outcomes.{disconnected, outcomes}
-use Rattle.herm_model.specs.Nodes.{Node, Exit, exits, process_nodes}
+use Rattle.herm_model.specs.Nodes.{Node, process_nodes}
+use Rattle.herm_model.specs.Exits.{Exit, exits}
 use Rattle.herm_model.specs.Targets.{Target}
 use Rattle.herm_model.specs.Calls.{call_raises, kept_for}
 use Rattle.herm_model.specs.ControlPaths.{Edge, edge, Point, point, flow_of, Hop, held_after_edge, held_at_start, walk, edge_from, IsControlPath}

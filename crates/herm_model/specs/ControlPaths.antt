@@ -5,7 +5,8 @@ use Rattle.herm_model.specs.Paths.{Path, Fact, init, same_fact, path_of, is_at_o
 use Rattle.herm_model.specs.Types.{TypeTable}
 use Rattle.herm_model.specs.Statements.{Form, Process}
 use Rattle.herm_model.specs.Outcomes.{Outcome, same_outcome}
-use Rattle.herm_model.specs.Nodes.{Node, Exit, exits, process_nodes, entry_of}
+use Rattle.herm_model.specs.Nodes.{Node, process_nodes, entry_of}
+use Rattle.herm_model.specs.Exits.{Exit, exits}
 use Rattle.herm_model.specs.Targets.{Target, node, end, end_by}
 use Rattle.herm_model.specs.FactsOfStatements.{needs, makes, kills}
 

@@ -14,6 +14,7 @@ pub mod Statements
 pub mod Calls
 pub mod Outcomes
 pub mod Nodes
+pub mod Exits
 pub mod FactsOfStatements
 pub mod MissingFacts
 pub mod Labels

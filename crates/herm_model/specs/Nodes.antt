@@ -1,10 +1,9 @@
--- Nodes: the flat list that a process's body is, and where each outcome leads.
+-- Nodes: the flat list that a process's body is, with what stands around each.
 use Rattle.std.specs.Prelude.{ℕ, ◌+◌, List, [], ◌∷◌, ◌++◌, map}
-use Rattle.herm_model.specs.Types.{TypeTable}
 use Rattle.herm_model.specs.Statements.{Form, Leave, Statement, simple, choosing, repeating, leaving, trying, Block, no_statements, statement, Blocks, no_blocks, block, Handlers, no_handlers, handler, numbers_of, numbers_of_block, nodes_of, nodes_of_block, Process}
-use Rattle.herm_model.specs.Outcomes.{Outcome, raised, normal_outcomes, exceptions}
+use Rattle.herm_model.specs.Outcomes.{Outcome, normal_outcomes}
 use Rattle.herm_model.specs.Targets.{Target, node, end}
-use Rattle.herm_model.specs.Handlers.{Catch, caught}
+use Rattle.herm_model.specs.Handlers.{Catch}
 
 -- What the text around a statement decides: where control goes behind the statement; the handlers within
 -- reach, the nearest first; and where control goes behind the nearest loop.
@@ -90,20 +89,3 @@ process_nodes p = nodes_in p.body 1 0 (record { behind = end; catches = []; exit
 
 abbrev pub entry_of : Process → Target
 entry_of p = start_of_block p.body 0 end
-
--- an outcome, with where it leads
-pub record Exit : Type 0 where
-  pub outcome : Outcome
-  pub target : Target
-
--- the outcomes, each with where it leads
-abbrev pub paired : List Outcome → List Target → List Exit
-paired [] targets = []
-paired (o ∷ outcomes) [] = []
-paired (o ∷ outcomes) (t ∷ targets) = record { outcome = o; target = t } ∷ paired outcomes targets
-
--- The exits of a node, in the order of its form's outcomes. Language reference, "Outcomes".
-abbrev pub exits : TypeTable → List ℕ → Node → List Exit
-exits types variables n =
-    paired (normal_outcomes n.form) n.leads
-    ++ map (λ e. record { outcome = raised e; target = caught n.catches e }) (exceptions types variables n.form)

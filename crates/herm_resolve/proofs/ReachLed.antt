@@ -8,7 +8,8 @@ use Rattle.herm_model.specs.Statements.{Form, Case, For, Select, If, While, Leav
 use Rattle.herm_model.specs.Outcomes.{Outcome, raised, exceptions, arms_from, normal_outcomes}
 use Rattle.herm_model.specs.Handlers.{Catch, caught}
 use Rattle.herm_model.specs.Targets.{Target, node}
-use Rattle.herm_model.specs.Nodes.{Surroundings, Node, start, start_of_block, starts, catches_of, nodes, nodes_in, nodes_of_choices, nodes_of_catches, Exit, paired, exits}
+use Rattle.herm_model.specs.Nodes.{Surroundings, Node, start, start_of_block, starts, catches_of, nodes, nodes_in, nodes_of_choices, nodes_of_catches}
+use Rattle.herm_model.specs.Exits.{Exit, paired, exits}
 use Rattle.herm_model.proofs.Lists.{in-append_left, in-append_right, in-append_cases, in-map}
 use Rattle.herm_model.proofs.NodePlaces.{count, count_in, count_catches}
 use Rattle.herm_resolve.specs.ControlInOnePass.{Control, is_nil, raised_at, raise_all, control, control_of_block, control_of_blocks, control_of_handlers}

@@ -4,7 +4,8 @@ use Rattle.herm_model.specs.Lists.{IsIn, map_or}
 use Rattle.herm_model.specs.Types.{TypeTable}
 use Rattle.herm_model.specs.Statements.{Process, IsWellFormedBlock}
 use Rattle.herm_model.specs.Targets.{Target, node, end, end_by}
-use Rattle.herm_model.specs.Nodes.{Surroundings, Node, process_nodes, entry_of, Exit, exits}
+use Rattle.herm_model.specs.Nodes.{Surroundings, Node, process_nodes, entry_of}
+use Rattle.herm_model.specs.Exits.{Exit, exits}
 use Rattle.herm_model.specs.ControlPaths.{Edge, edge, Point, point, Flow, flow_of, IsReached}
 use Rattle.herm_model.specs.laws.FlowLaws.{IsLedTo}
 use Rattle.herm_model.specs.laws.FlowLaws as FlowLaws

@@ -1,7 +1,8 @@
 -- From an outcome to the point where it leads: sound values stay sound.
 use Rattle.std.proofs.Common.{◌≡◌, find, Option, Some, None, option_map, refl, sym, ◌∙◌, ap, subst}
 use Rattle.herm_model.specs.Outcomes.{Outcome, same_outcome}
-use Rattle.herm_model.specs.Nodes.{Node, Exit, exits, process_nodes}
+use Rattle.herm_model.specs.Nodes.{Node, process_nodes}
+use Rattle.herm_model.specs.Exits.{Exit, exits}
 use Rattle.herm_model.specs.Targets.{Target, node}
 use Rattle.herm_model.specs.ControlPaths.{flow_of, edge, point, held_after_edge, IsReached}
 use Rattle.herm_model.specs.Labels.{label_at}

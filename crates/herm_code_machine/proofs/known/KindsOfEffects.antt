@@ -13,7 +13,7 @@ use Rattle.herm_journal.specs.Kinds.{HasKinds, HaveKinds, AllKinds, IfWant, Acti
 use Rattle.herm_journal.specs.Messages.{CellAction}
 use Rattle.herm_forms.specs.Acts
 use Rattle.herm_forms.specs.Acts.{key_at, given_back, given_at}
-use Rattle.herm_forms.specs.Callmessages.{caller_of}
+use Rattle.herm_forms.specs.ReturnForms.{caller_of}
 use Rattle.herm_forms.specs.Evaluate.{Evaluated, gives, raises, no_value, scalar_then, two_then, operate, value_there, rows_there}
 use Rattle.herm_forms.specs.Exchanges.{outport_at, inport_at, ports_at}
 use Rattle.herm_forms.specs.Excess.{excess_over_full}

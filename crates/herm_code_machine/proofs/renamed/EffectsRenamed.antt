@@ -13,6 +13,7 @@ use Rattle.herm_journal.specs.Renaming.{rename_want, rename_action}
 use Rattle.herm_forms.specs.Acts
 use Rattle.herm_forms.specs.Acts.{key_at, given_back, given_at, new_value}
 use Rattle.herm_forms.specs.Callmessages as callmessages
+use Rattle.herm_forms.specs.ReturnForms
 use Rattle.herm_forms.specs.Callmessages.{Composed, compose}
 use Rattle.herm_forms.specs.Evaluate.{Evaluated, gives, raises, no_value, scalar_then, two_then, operate, value_there, rows_there}
 use Rattle.herm_forms.specs.Excess.{excess_over_full}
@@ -138,7 +139,7 @@ module _ {N M : Type 0} (f : N → M) (name : Name → N) where
   code_wants-renamed c (Call o arguments keep) stack b = ap (λ x. callmessages.call_wants x o (rename_body f b)) (called-renamed c arguments stack b) ∙ call_wants-renamed f (called name c arguments stack b) o b
   code_wants-renamed c (Return m) stack b = wants-renamed f name c.scope (Form.Return m) b
   code_wants-renamed c (ReturnBy m x kept) stack b =
-      ap (λ t. callmessages.return_wants (Actions.raised x) t m (rename_body f b)) (given_back-renamed f name c.scope (kept_parameters c m kept) b)
+      ap (λ t. ReturnForms.return_wants (Actions.raised x) t m (rename_body f b)) (given_back-renamed f name c.scope (kept_parameters c m kept) b)
       ∙ return_wants-renamed f (Actions.raised x) (Actions.raised x) (λ cs. refl) (given_back c.scope (kept_parameters c m kept) b) m b
   code_wants-renamed c (Create o n) stack b = refl
   code_wants-renamed c _ stack b = refl
@@ -159,7 +160,7 @@ module _ {N M : Type 0} (f : N → M) (name : Name → N) where
       (λ p. ap (leaving p.rest) (ap (λ x. callmessages.call x (outs arguments) (rename_action f action)) (composed_of-renamed c arguments p.values b) ∙ call-renamed f (composed_of name c arguments p.values b) (outs arguments) action)) (pop (count_inputs arguments) stack)
   code_settles-renamed c (Return m) stack at action b = by-answer c (Form.Return m) stack at action b
   code_settles-renamed c (ReturnBy m x kept) stack at action b =
-      ap (leaving stack) (ap (λ t. callmessages.return t m (rename_action f action)) (given_back-renamed f name c.scope (kept_parameters c m kept) b) ∙ return-renamed f (given_back c.scope (kept_parameters c m kept) b) m action)
+      ap (leaving stack) (ap (λ t. ReturnForms.return t m (rename_action f action)) (given_back-renamed f name c.scope (kept_parameters c m kept) b) ∙ return-renamed f (given_back c.scope (kept_parameters c m kept) b) m action)
   code_settles-renamed c (Create o n) stack at action b = by-answer c (Form.Create o n) stack at action b
   code_settles-renamed c _ stack at action b = refl
 

@@ -18,7 +18,7 @@ use Rattle.herm_model.proofs.Options.{some-injective, none-not_some, map-some}
 use Rattle.herm_journal.specs.Actions.{values, raised, to_answer}
 use Rattle.herm_forms.specs.Frames.{Name, Frame, drop, Taken, take_all}
 use Rattle.herm_journal.specs.Messages.{CellReply, CellWant, AreFull, IsReplyTo, types_back, types_kept}
-use Rattle.herm_forms.specs.Callmessages.{caller_of}
+use Rattle.herm_forms.specs.ReturnForms.{caller_of}
 use Rattle.herm_forms.specs.Excess.{excess_over_full}
 use Rattle.herm_forms.specs.Modules.{Module}
 use Rattle.herm_forms.specs.Acts.{wants}

@@ -17,7 +17,7 @@ use Rattle.herm_model.proofs.Options.{some-injective, none-not_some}
 use Rattle.herm_journal.specs.Actions.{answer}
 use Rattle.herm_forms.specs.Frames.{Name, Frame, goes, if_there, cleared, drop, finalise_at_once, taking, Taken, with_taken, take_all}
 use Rattle.herm_journal.specs.Messages.{CellAction}
-use Rattle.herm_forms.specs.Callmessages.{return, give_back}
+use Rattle.herm_forms.specs.ReturnForms.{return, give_back}
 use Rattle.herm_forms.specs.Excess.{excess_over_full}
 use Rattle.herm_forms.specs.Modules.{Module}
 use Rattle.herm_forms.specs.laws.EdgeLaws.{AreSound, without, held_after}

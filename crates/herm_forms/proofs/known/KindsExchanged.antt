@@ -17,9 +17,12 @@ use Rattle.herm_forms.specs.Frames.{Name, Frame, Completion, if_there, finalise_
 use Rattle.herm_forms.specs.Exchanges
 use Rattle.herm_forms.specs.ClosesAndAnswers
 use Rattle.herm_forms.specs.Callmessages as callmessages
+use Rattle.herm_forms.specs.ReturnForms
+use Rattle.herm_forms.specs.HearReply
 use Rattle.herm_journal.specs.Messages.{CellReply, CellAction}
 use Rattle.herm_forms.specs.Exchanges.{receive_at, place_of_port, ports_at, inport_at, outport_at}
-use Rattle.herm_forms.specs.Callmessages.{Composed, compose, assemble, with_message, caller_of}
+use Rattle.herm_forms.specs.Callmessages.{Composed, compose, assemble, with_message}
+use Rattle.herm_forms.specs.ReturnForms.{caller_of}
 use Rattle.herm_forms.specs.Forms.{inport_number, outport_number}
 use Rattle.herm_forms.specs.Excess.{excess_over_full, excess_over_declared}
 use Rattle.herm_forms.specs.Modules.{Module}
@@ -248,16 +251,16 @@ module _ {N : Type 0} (name : Name → N) (of : Kind → Type 0) (allows : Allow
   all-taken next None h on = never
   all-taken next (Some t) h on = on t h.1
 
-  pub all-return : (taken : Option (Taken N)) (m : Path) (a : CellAction N) → IfTaken taken → All name of allows (callmessages.return taken m a)
+  pub all-return : (taken : Option (Taken N)) (m : Path) (a : CellAction N) → IfTaken taken → All name of allows (ReturnForms.return taken m a)
   all-return taken m (answer k r) h = all-taken _ taken h (λ t e. all-taking name of allows m _ t.frame e (λ d b' g e'. went ok (finalise_at_once d b') (is-end name of allows d b' g e')))
   all-return taken m _ h = never
 
-  all-hear_reply : (back outs : List Path) (keep left : ℕ → List Path) (r : CellReply N) (b : Frame N) → ReplyKinds of r → BodyKinds of b → All name of allows (callmessages.hear_reply back outs keep left r b)
+  all-hear_reply : (back outs : List Path) (keep left : ℕ → List Path) (r : CellReply N) (b : Frame N) → ReplyKinds of r → BodyKinds of b → All name of allows (HearReply.hear_reply back outs keep left r b)
   all-hear_reply back outs keep left (values cs) b h e = all-putting_all name of allows back ok cs b h e
   all-hear_reply back outs keep left (Actions.raised x cs) b h e = all-putting_all name of allows (keep x) (raised x) cs (drop (left x) b) h (is-drop name of allows (left x) b e)
   all-hear_reply back outs keep left gone b h e = went (raised disconnected) (drop outs b) (is-drop name of allows outs b e)
 
-  pub all-hear_call : (back outs : List Path) (keep left : ℕ → List Path) (call : ℕ) (a : CellAction N) (b : Frame N) → ActionKinds of a → BodyKinds of b → All name of allows (callmessages.hear_call back outs keep left call a b)
+  pub all-hear_call : (back outs : List Path) (keep left : ℕ → List Path) (call : ℕ) (a : CellAction N) (b : Frame N) → ActionKinds of a → BodyKinds of b → All name of allows (HearReply.hear_call back outs keep left call a b)
   all-hear_call back outs keep left call (hear k r) b h e = all-cond name of allows (nat_eq k call) _ _ (all-hear_reply back outs keep left r (record b { call = None }) h e) never
   all-hear_call back outs keep left call _ b h e = never
 

@@ -24,6 +24,8 @@ use Rattle.herm_journal.specs.PartTypes.{IsPlaced}
 use Rattle.herm_forms.specs.Frames.{Name, Frame, Completion, goes, stuck, if_there, finalise_at_once, drop, cleared, putting, Taken, with_taken, take_all}
 use Rattle.herm_forms.specs.Exchanges
 use Rattle.herm_forms.specs.Callmessages as callmessages
+use Rattle.herm_forms.specs.ReturnForms
+use Rattle.herm_forms.specs.HearReply
 use Rattle.herm_forms.specs.Exchanges.{receive_at, place_of_port, ports_at}
 use Rattle.herm_forms.specs.Callmessages.{Composed, compose, assemble, with_message}
 use Rattle.herm_forms.specs.Excess.{excess_over_full, excess_over_declared}
@@ -125,7 +127,7 @@ module _ (name : Name → Name) (c : Module) (P : ℕ → Kind → Type 0) (agre
   all-composed next None h on = tt
   all-composed next (Some x) h on = on x h
 
-  return-is : (paths : List Path) (taken : Option (Taken Name)) (m : Path) (t : ℕ) (a : CellAction Name) → Typed m t → IfTaken paths taken → All (callmessages.return taken m a)
+  return-is : (paths : List Path) (taken : Option (Taken Name)) (m : Path) (t : ℕ) (a : CellAction Name) → Typed m t → IfTaken paths taken → All (ReturnForms.return taken m a)
   return-is paths taken m t (answer k r) type h = all-taken paths _ taken h (λ x e. all-taking name c P agrees row m t (λ d b. goes ok (finalise_at_once d b)) x.frame type e (λ d placed e'. end-is name c P agrees row d (cleared m x.frame) e'))
   return-is paths taken m t a type h = tt
 
@@ -206,7 +208,7 @@ module _ (name : Name → Name) (c : Module) (P : ℕ → Kind → Type 0) (agre
   Replies o arguments gone = ⊤
 
   heard-is : (o : Path) (arguments : List Atom) (r : CellReply Name) (b : Frame Name) → Replies o arguments r → Own b
-      → All (callmessages.hear_reply (set_by_call c.types c.variables o arguments) (arguments_at c is_out o arguments) (kept_at c o arguments) (left_at c o arguments) r b)
+      → All (HearReply.hear_reply (set_by_call c.types c.variables o arguments) (arguments_at c is_out o arguments) (kept_at c o arguments) (left_at c o arguments) r b)
   heard-is o arguments (values cs) b h e = putting-is name c P agrees row (set_by_call c.types c.variables o arguments) ok cs b h e
   heard-is o arguments (Actions.raised x cs) b h e = putting-is name c P agrees row (kept_at c o arguments x) (raised x) cs (drop (left_at c o arguments x) b) h (drop-is name c P agrees row (left_at c o arguments x) b e)
   heard-is o arguments gone b h e = drop-is name c P agrees row (arguments_at c is_out o arguments) b e

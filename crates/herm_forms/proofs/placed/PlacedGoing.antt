@@ -20,7 +20,7 @@ use Rattle.herm_journal.specs.PartTypes.{IsPlaced}
 use Rattle.herm_forms.specs.Frames.{Name, Frame, Taken}
 use Rattle.herm_forms.specs.Forms.{outport_number}
 use Rattle.herm_forms.specs.Exchanges.{outport_at}
-use Rattle.herm_forms.specs.Callmessages.{caller_of, return_wants}
+use Rattle.herm_forms.specs.ReturnForms.{caller_of, return_wants}
 use Rattle.herm_forms.specs.Modules.{Module}
 use Rattle.herm_forms.specs.Acts.{given_back, wants}
 use Rattle.herm_forms.proofs.typed.WantKinds.{PutBy, puts-by, AnsweredBy, answers-by, answered-is}

@@ -14,9 +14,12 @@ use Rattle.herm_forms.specs.Forms.{inport_number, outport_number}
 use Rattle.herm_forms.specs.Exchanges
 use Rattle.herm_forms.specs.ClosesAndAnswers
 use Rattle.herm_forms.specs.Callmessages as callmessages
+use Rattle.herm_forms.specs.ReturnForms
 use Rattle.herm_journal.specs.Messages.{CellReply, CellWant, CellAction}
 use Rattle.herm_forms.specs.Exchanges.{inport_at, outport_at, ports_at, place_of_port, receive_at}
-use Rattle.herm_forms.specs.Callmessages.{assemble, Composed, with_message, compose, hear_reply, hear_call, give_back, caller_of}
+use Rattle.herm_forms.specs.Callmessages.{assemble, Composed, with_message, compose}
+use Rattle.herm_forms.specs.HearReply.{hear_reply, hear_call}
+use Rattle.herm_forms.specs.ReturnForms.{give_back, caller_of}
 use Rattle.herm_forms.specs.Renaming.{rename_body}
 use Rattle.herm_journal.specs.Renaming.{rename_reply, rename_action, rename_want}
 use Rattle.herm_forms.proofs.renamed.RenamedBodies.{rename_result, rename_taken, finalise_all-renamed, end_cell-renamed, drop-renamed, if_there-renamed, cond-renamed, taking-renamed, putting-renamed, putting_all-renamed, take_all-renamed, making-renamed}
@@ -96,7 +99,7 @@ module _ {N M : Type 0} (f : N → M) where
   with_caller g g' e (Some n) = e n
 
   pub return_wants-renamed : (reply : List (Cell N) → CellReply N) (reply' : List (Cell M) → CellReply M) → ((cs : List (Cell N)) → reply' (map (rename f) cs) ≡ rename_reply f (reply cs)) → (taken : Option (Taken N)) (m : Path) (b : Frame N)
-      → callmessages.return_wants reply' (option_map (rename_taken f) taken) m (rename_body f b) ≡ option_map (rename_want f) (callmessages.return_wants reply taken m b)
+      → ReturnForms.return_wants reply' (option_map (rename_taken f) taken) m (rename_body f b) ≡ option_map (rename_want f) (ReturnForms.return_wants reply taken m b)
   return_wants-renamed reply reply' e taken m b =
       ap (option_and_then (λ c. option_map (λ (t : Taken M). to_answer c.0 c.1 (reply' t.cells)) (option_map (rename_taken f) taken))) (ap (option_and_then caller_of) (cell_at-rename f m b.variables) ∙ caller-renamed (cell_at m b.variables))
       ∙ with_caller (λ c. option_map (λ (t : Taken N). to_answer c.0 c.1 (reply t.cells)) taken) (λ c. option_map (λ (t : Taken M). to_answer c.0 c.1 (reply' t.cells)) (option_map (rename_taken f) taken))
@@ -158,7 +161,7 @@ module _ {N M : Type 0} (f : N → M) where
   pub give_back-renamed : (lost given : List Path) (b : Frame N) → give_back lost given (rename_body f b) ≡ option_map (rename_taken f) (give_back lost given b)
   give_back-renamed lost given b = ap (take_all given) (drop-renamed f lost b) ∙ take_all-renamed f given (drop lost b)
 
-  pub return-renamed : (taken : Option (Taken N)) (m : Path) (action : CellAction N) → callmessages.return (option_map (rename_taken f) taken) m (rename_action f action) ≡ rename_result f (callmessages.return taken m action)
+  pub return-renamed : (taken : Option (Taken N)) (m : Path) (action : CellAction N) → ReturnForms.return (option_map (rename_taken f) taken) m (rename_action f action) ≡ rename_result f (ReturnForms.return taken m action)
   return-renamed taken m (answer k r) =
       if_there-renamed f (rename_taken f) (λ (t : Taken N). taking m (λ c b. goes ok (finalise_at_once c b)) t.frame) (λ (t : Taken M). taking m (λ c b. goes ok (finalise_at_once c b)) t.frame)
       (λ t. taking-renamed f m (λ c b. goes ok (finalise_at_once c b)) (λ c b. goes ok (finalise_at_once c b)) (λ c b. ap (goes ok) (end_cell-renamed f c b)) t.frame) taken

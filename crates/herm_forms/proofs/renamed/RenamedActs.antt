@@ -20,6 +20,7 @@ use Rattle.herm_forms.specs.InsertForm
 use Rattle.herm_forms.specs.RemoveAndGet
 use Rattle.herm_forms.specs.Exchanges
 use Rattle.herm_forms.specs.Callmessages as callmessages
+use Rattle.herm_forms.specs.ReturnForms
 use Rattle.herm_journal.specs.Messages.{CellAction}
 use Rattle.herm_forms.specs.Callmessages.{Composed, compose}
 use Rattle.herm_forms.specs.Excess.{excess_over_full, excess_over_declared}
@@ -113,7 +114,7 @@ module _ {N M : Type 0} (f : N → M) (name : Name → N) where
       (inputs_of (call_parameters c.types c.variables o) arguments b.variables)
 
   pub given_back-renamed : (c : Module) (given : List Path) (b : Frame N) → given_back c given (rename_body f b) ≡ option_map (rename_taken f) (given_back c given b)
-  given_back-renamed c given b = ap (λ lost. callmessages.give_back lost given (rename_body f b)) (beyond_each-renamed c given b) ∙ give_back-renamed f (flat_map (λ p. excess_over_full c p b) given) given b
+  given_back-renamed c given b = ap (λ lost. ReturnForms.give_back lost given (rename_body f b)) (beyond_each-renamed c given b) ∙ give_back-renamed f (flat_map (λ p. excess_over_full c p b) given) given b
 
   pub wants-renamed : (c : Module) (form : Form) (b : Frame N) → wants again c form (rename_body f b) ≡ option_map (rename_want f) (wants name c form b)
   wants-renamed c (New x) b = refl
@@ -121,9 +122,9 @@ module _ {N M : Type 0} (f : N → M) (name : Name → N) where
   wants-renamed c (Receive x i) b = receive_wants-renamed f i b
   wants-renamed c (Select arms) b = select_wants-renamed f (map (λ (a : Arm). a.port) arms) b
   wants-renamed c (Call o arguments) b = ap (λ x. callmessages.call_wants x o (rename_body f b)) (composed-renamed c o arguments b) ∙ call_wants-renamed f (composed name c o arguments b) o b
-  wants-renamed c (Return m) b = ap (λ t. callmessages.return_wants values t m (rename_body f b)) (given_back-renamed c (given_at c m) b) ∙ return_wants-renamed f values values (λ cs. refl) (given_back c (given_at c m) b) m b
+  wants-renamed c (Return m) b = ap (λ t. ReturnForms.return_wants values t m (rename_body f b)) (given_back-renamed c (given_at c m) b) ∙ return_wants-renamed f values values (λ cs. refl) (given_back c (given_at c m) b) m b
   wants-renamed c (ReturnBy m e) b =
-      ap (λ t. callmessages.return_wants (raised e) t m (rename_body f b)) (given_back-renamed c (given_by c m e) b) ∙ return_wants-renamed f (raised e) (raised e) (λ cs. refl) (given_back c (given_by c m e) b) m b
+      ap (λ t. ReturnForms.return_wants (raised e) t m (rename_body f b)) (given_back-renamed c (given_by c m e) b) ∙ return_wants-renamed f (raised e) (raised e) (λ cs. refl) (given_back c (given_by c m e) b) m b
   wants-renamed c (Create o process) b = refl
   wants-renamed c _ b = refl
 
@@ -134,8 +135,8 @@ module _ {N M : Type 0} (f : N → M) (name : Name → N) where
   settle-renamed c (Select arms) at action b = select-renamed f (map (λ (a : Arm). a.target) arms) (map (λ (a : Arm). a.port) arms) at action b
   settle-renamed c (Call o arguments) at action b =
       ap (λ x. callmessages.call x (arguments_at c is_out o arguments) (rename_action f action)) (composed-renamed c o arguments b) ∙ call-renamed f (composed name c o arguments b) (arguments_at c is_out o arguments) action
-  settle-renamed c (Return m) at action b = ap (λ t. callmessages.return t m (rename_action f action)) (given_back-renamed c (given_at c m) b) ∙ return-renamed f (given_back c (given_at c m) b) m action
-  settle-renamed c (ReturnBy m e) at action b = ap (λ t. callmessages.return t m (rename_action f action)) (given_back-renamed c (given_by c m e) b) ∙ return-renamed f (given_back c (given_by c m e) b) m action
+  settle-renamed c (Return m) at action b = ap (λ t. ReturnForms.return t m (rename_action f action)) (given_back-renamed c (given_at c m) b) ∙ return-renamed f (given_back c (given_at c m) b) m action
+  settle-renamed c (ReturnBy m e) at action b = ap (λ t. ReturnForms.return t m (rename_action f action)) (given_back-renamed c (given_by c m e) b) ∙ return-renamed f (given_back c (given_by c m e) b) m action
   settle-renamed c (Create o process) at action b = create-renamed f name o action b
   settle-renamed c _ at action b = refl
 

@@ -25,6 +25,8 @@ use Rattle.herm_forms.specs.Frames.{Name, Frame, Completion, goes, stays, stuck,
 use Rattle.herm_forms.specs.Frames
 use Rattle.herm_forms.specs.Exchanges
 use Rattle.herm_forms.specs.Callmessages as callmessages
+use Rattle.herm_forms.specs.ReturnForms
+use Rattle.herm_forms.specs.HearReply
 use Rattle.herm_forms.specs.Exchanges.{receive_at, place_of_port, ports_at}
 use Rattle.herm_forms.specs.Callmessages.{Composed}
 use Rattle.herm_forms.specs.Excess.{excess_over_declared}
@@ -248,7 +250,7 @@ module _ (exceptions : ℕ) (processes : List Process) (c : Module) (name : Name
   kind-some (Some e) y d same at = (e, refl)
 
   return-taken : (form : Form) (i : ℕ) (q : List ℕ) (places : List ℕ) (taken : Taken Name) → given_back c (parameters_at c.types c.variables (i ∷ q) places) b ≡ Some taken → (d : Cell Name) → cell_at (i ∷ q) b.variables ≡ Some d
-      → IsIn ok (S form) → (a : CellAction Name) → Meets a (Return (i ∷ q)) → IsTaken (S form) (callmessages.return (given_back c (parameters_at c.types c.variables (i ∷ q) places) b) (i ∷ q) a)
+      → IsIn ok (S form) → (a : CellAction Name) → Meets a (Return (i ∷ q)) → IsTaken (S form) (ReturnForms.return (given_back c (parameters_at c.types c.variables (i ∷ q) places) b) (i ∷ q) a)
   return-taken form i q places taken given d at good (answer k r) meets =
       let e = kind-some (cell_at (i ∷ q) taken.frame.variables) (cell_at (i ∷ q) b.variables) d (source-kind i q (λ k. 0) c places b taken given) at in
       there-taken (S form) (λ (t : Taken Name). taking (i ∷ q) (λ c b. goes ok (finalise_at_once c b)) t.frame) (given_back c (parameters_at c.types c.variables (i ∷ q) places) b) taken given
@@ -399,12 +401,12 @@ module _ (exceptions : ℕ) (processes : List Process) (c : Module) (o : Path) (
 
   pub reply-taken : (call n : ℕ) (r : CellReply Name) (b : Frame Name) → n ≡ call → IsReply c k r → AreSound c (without_lent c k has) b.variables → IsTaken T (settle_reply c (Call o arguments) call (hear n r) b)
   reply-taken call n r b same reply sound =
-      taken-by T (settle_reply c (Call o arguments) call (hear n r) b) _ (ap (λ t. cond t (callmessages.hear_reply sets (arguments_at c is_out o arguments) (kept_at c o arguments) (left_at c o arguments) r (record b { call = None })) stuck) (ap (nat_eq n) (sym same) ∙ same-true n)) (by r reply)
+      taken-by T (settle_reply c (Call o arguments) call (hear n r) b) _ (ap (λ t. cond t (HearReply.hear_reply sets (arguments_at c is_out o arguments) (kept_at c o arguments) (left_at c o arguments) r (record b { call = None })) stuck) (ap (nat_eq n) (sym same) ∙ same-true n)) (by r reply)
     where
       heard : Frame Name
       heard = record b { call = None }
 
-      by : (r : CellReply Name) → IsReply c k r → IsTaken T (callmessages.hear_reply sets (arguments_at c is_out o arguments) (kept_at c o arguments) (left_at c o arguments) r heard)
+      by : (r : CellReply Name) → IsReply c k r → IsTaken T (HearReply.hear_reply sets (arguments_at c is_out o arguments) (kept_at c o arguments) (left_at c o arguments) r heard)
       by (values cs) reply =
           sets-taken c T sets (returned_types c k) (returned-typed exceptions processes c k is) (set-apart exceptions processes c o arguments is) (set-direct exceptions processes c o arguments is) ok (inl refl) cs reply (without_lent c k has) heard sound
           (λ x h. parent-less has (lent_paths c k) x (apart-of (lent_paths c k) lent-set x h) (set-parent x h))

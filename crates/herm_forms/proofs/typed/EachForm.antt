@@ -13,7 +13,8 @@ use Rattle.herm_forms.specs.Frames.{Name, Frame, Taken}
 use Rattle.herm_forms.specs.Excess.{excess_over_declared}
 use Rattle.herm_forms.specs.Modules.{Module}
 use Rattle.herm_forms.specs.Exchanges.{outport_at, ports_at}
-use Rattle.herm_forms.specs.Callmessages.{Composed, caller_of, return_wants}
+use Rattle.herm_forms.specs.Callmessages.{Composed}
+use Rattle.herm_forms.specs.ReturnForms.{caller_of, return_wants}
 use Rattle.herm_forms.specs.Acts.{composed, wants, given_back, given_at, given_by}
 use Rattle.herm_forms.specs.laws.FormsSound.{LocalKeeps, AnswerKeeps}
 use Rattle.herm_forms.proofs.Counting.{recount, recount_composed, recount-drop}

@@ -10,7 +10,8 @@ use Rattle.herm_journal.specs.Actions
 use Rattle.herm_journal.specs.Messages.{CellReply, CellWant}
 use Rattle.herm_forms.specs.Frames.{Name, Frame, Taken, drop}
 use Rattle.herm_forms.specs.Exchanges.{inport_at, outport_at, ports_at}
-use Rattle.herm_forms.specs.Callmessages.{Composed, caller_of, return_wants}
+use Rattle.herm_forms.specs.Callmessages.{Composed}
+use Rattle.herm_forms.specs.ReturnForms.{caller_of, return_wants}
 use Rattle.herm_forms.specs.Excess.{excess_over_declared}
 use Rattle.herm_forms.specs.Modules.{Module}
 use Rattle.herm_forms.specs.Acts.{composed, given_back, given_at, given_by, wants}

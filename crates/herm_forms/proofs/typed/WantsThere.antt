@@ -23,7 +23,8 @@ use Rattle.herm_journal.specs.Messages.{CellReply, CellWant}
 use Rattle.herm_forms.specs.Frames.{Name, Frame, drop, Taken}
 use Rattle.herm_forms.specs.Forms.{inport_number, outport_number}
 use Rattle.herm_forms.specs.Exchanges.{inport_at, outport_at, ports_at}
-use Rattle.herm_forms.specs.Callmessages.{Composed, with_message, compose, assemble, caller_of, return_wants}
+use Rattle.herm_forms.specs.Callmessages.{Composed, with_message, compose, assemble}
+use Rattle.herm_forms.specs.ReturnForms.{caller_of, return_wants}
 use Rattle.herm_forms.specs.Excess.{excess_over_full, excess_over_declared}
 use Rattle.herm_forms.specs.Modules.{Module}
 use Rattle.herm_forms.specs.Acts.{is_action, is_inout, arguments_at, composed, given_back, wants}

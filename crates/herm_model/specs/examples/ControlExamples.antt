@@ -4,7 +4,8 @@ use Rattle.herm_model.specs.Types.{predefined}
 use Rattle.herm_model.specs.Expressions.{literal, boolean}
 use Rattle.herm_model.specs.Statements.{Discard, Case, If, While, Raise, Statement, simple, choosing, repeating, leaving, trying, no_statements, no_blocks, block, no_handlers, handler, Process}
 use Rattle.herm_model.specs.Outcomes.{Outcome, ok, is_true, is_false, component, raised}
-use Rattle.herm_model.specs.Nodes.{Node, process_nodes, entry_of, Exit, exits}
+use Rattle.herm_model.specs.Nodes.{Node, process_nodes, entry_of}
+use Rattle.herm_model.specs.Exits.{Exit, exits}
 use Rattle.herm_model.specs.Targets.{Target, node, end, end_by}
 use Rattle.herm_model.specs.examples.RefusedProcesses.{in_order}
 

@@ -6,7 +6,8 @@ use Rattle.herm_model.specs.Types.{TypeTable}
 use Rattle.herm_model.specs.Facts.{prefixes, IsClosed}
 use Rattle.herm_model.specs.Statements.{Form, Leave, Statement, simple, choosing, repeating, leaving, trying, Block, no_statements, statement, Blocks, no_blocks, block, Handlers, no_handlers, handler, numbers_of_block, Process, Differ, IsWellFormedBlock}
 use Rattle.herm_model.specs.Outcomes.{Outcome, outcomes}
-use Rattle.herm_model.specs.Nodes.{Node, process_nodes, Exit, exits}
+use Rattle.herm_model.specs.Nodes.{Node, process_nodes}
+use Rattle.herm_model.specs.Exits.{Exit, exits}
 use Rattle.herm_model.specs.Targets.{Target, node, end, end_by}
 use Rattle.herm_model.specs.FactsOfStatements.{needs, makes}
 use Rattle.herm_model.specs.ControlPaths.{Edge, Point, Flow, flow_of, Hop, walk, IsControlPath, IsReached, Holds}

@@ -3,7 +3,8 @@ use Rattle.std.specs.Prelude.{ℕ, zero, suc, List, [], ◌∷◌, ◌++◌, map
 use Rattle.herm_model.specs.Lists.{map_or, all_pass, any_pass, numbered, range}
 use Rattle.herm_model.specs.Types.{TypeTable, predefined, all_parts, variable_paths}
 use Rattle.herm_model.specs.Statements.{Form, Case, Statement, simple, choosing, repeating, leaving, trying, Block, no_statements, statement, Blocks, no_blocks, block, Handlers, no_handlers, handler, Process, Branching, goes_on, repeats, leaves, chooses, branching_of, count_blocks, numbers_of_block}
-use Rattle.herm_model.specs.Nodes.{Node, process_nodes, entry_of, Exit, exits}
+use Rattle.herm_model.specs.Nodes.{Node, process_nodes, entry_of}
+use Rattle.herm_model.specs.Exits.{Exit, exits}
 use Rattle.herm_model.specs.Targets.{Target, node, end, end_by}
 use Rattle.herm_model.specs.tests.TableTests.{broken_table_rules, are_different, on_inport}
 use Rattle.herm_model.specs.TypedStatements.{port_type}

@@ -21,6 +21,7 @@ use Rattle.herm_journal.specs.Messages.{CellWant, CellReply}
 use Rattle.herm_forms.specs.Exchanges.{inport_at, outport_at, ports_at}
 use Rattle.herm_forms.specs.ClosesAndAnswers
 use Rattle.herm_forms.specs.Callmessages as callmessages
+use Rattle.herm_forms.specs.ReturnForms
 use Rattle.herm_forms.specs.Modules.{Module}
 use Rattle.herm_source.specs.States.{State, node_at, item_or, call_or_statement, wanted, wanted_next, own_name}
 use Rattle.herm_forms.specs.Acts.{is_action, wants}
@@ -66,7 +67,7 @@ not-take w ports none e = none-not_some (sym none ∙ ap taken_from e)
 same-ports : (paths : List Path) (b : Frame Name) (found ports : List ℕ) (w : CellWant Name) → ports_at paths b ≡ Some found → taken_from w ≡ Some found → w ≡ to_take ports → ports_at paths b ≡ Some ports
 same-ports paths b found ports w at from e = at ∙ sym from ∙ ap taken_from e
 
-return-takes : {A : Type 0} (ports : List ℕ) (reply : List (Cell Name) → CellReply Name) (taken : Option (Frames.Taken Name)) (m : Path) (b : Frame Name) → callmessages.return_wants reply taken m b ≡ Some (to_take ports) → A
+return-takes : {A : Type 0} (ports : List ℕ) (reply : List (Cell Name) → CellReply Name) (taken : Option (Frames.Taken Name)) (m : Path) (b : Frame Name) → ReturnForms.return_wants reply taken m b ≡ Some (to_take ports) → A
 return-takes ports reply taken m b e =
     let x = chain-some (λ (c : ℕ × ℕ). option_map (λ (t : Frames.Taken Name). to_answer c.0 c.1 (reply t.cells)) taken) _ (to_take ports) e in
     let y = map-some (λ (t : Frames.Taken Name). to_answer x.0.0 x.0.1 (reply t.cells)) taken (to_take ports) x.2 in

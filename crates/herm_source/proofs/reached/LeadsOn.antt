@@ -6,7 +6,8 @@ use Rattle.herm_model.specs.Paths.{init}
 use Rattle.herm_model.specs.Types.{TypeTable}
 use Rattle.herm_model.specs.Statements.{Process, IsWellFormedBlock}
 use Rattle.herm_model.specs.Outcomes.{Outcome, same_outcome}
-use Rattle.herm_model.specs.Nodes.{Node, Exit, exits, process_nodes, entry_of}
+use Rattle.herm_model.specs.Nodes.{Node, process_nodes, entry_of}
+use Rattle.herm_model.specs.Exits.{Exit, exits}
 use Rattle.herm_model.specs.Targets.{Target, node, end, end_by}
 use Rattle.herm_model.specs.ControlPaths.{flow_of, edge, point, held_at_start, IsReached}
 use Rattle.herm_model.specs.Labels.{Labels}

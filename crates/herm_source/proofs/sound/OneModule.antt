@@ -8,7 +8,8 @@ use Rattle.herm_model.specs.WellFormedTables.{IsWellFormedTable}
 use Rattle.herm_model.specs.TypedPrograms.{IsTypedProcess}
 use Rattle.herm_model.specs.Statements.{Process, Form, Call}
 use Rattle.herm_model.specs.Outcomes.{Outcome, same_outcome, outcomes}
-use Rattle.herm_model.specs.Nodes.{Node, Exit, exits, process_nodes, entry_of}
+use Rattle.herm_model.specs.Nodes.{Node, process_nodes, entry_of}
+use Rattle.herm_model.specs.Exits.{Exit, exits}
 use Rattle.herm_model.specs.Targets.{Target, node, end, end_by}
 use Rattle.herm_model.specs.ControlPaths.{flow_of, IsReached}
 use Rattle.herm_model.specs.Labels.{Labels, label_at, AreExact}

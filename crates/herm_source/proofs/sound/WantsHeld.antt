@@ -17,7 +17,7 @@ use Rattle.herm_journal.specs.PartTypes.{each}
 use Rattle.herm_forms.specs.Frames.{Name, Frame, Taken}
 use Rattle.herm_forms.specs.Forms.{outport_number}
 use Rattle.herm_forms.specs.Exchanges.{outport_at}
-use Rattle.herm_forms.specs.Callmessages.{caller_of, return_wants}
+use Rattle.herm_forms.specs.ReturnForms.{caller_of, return_wants}
 use Rattle.herm_forms.specs.Modules.{Module}
 use Rattle.herm_forms.specs.Acts.{given_back, given_at, given_by, wants}
 use Rattle.herm_forms.specs.laws.EdgeLaws.{AreSound}
