@@ -11,7 +11,6 @@ ghost use Rattle.herm_system.specs.TextLines.{line};
 ghost use Rattle.herm_system.specs.ProcessFates.{ended_normally};
 ghost use Rattle.std.specs.List.{flat_map};
 
-
 use crate::texts::push_quoted;
 use crate::{Counts, End, Journal, ProcEnd, Report};
 use herm_base::{PortNo, ProcNo, Word};

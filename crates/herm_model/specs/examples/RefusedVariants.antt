@@ -2,7 +2,7 @@
 use Rattle.std.specs.Prelude.{pos, List, [], ◌∷◌, ◌++◌}
 use Rattle.herm_model.specs.Paths.{case}
 use Rattle.herm_model.specs.Types.{TypeTable, predefined, cases}
-use Rattle.herm_model.specs.Expressions.{literal, integer, path}
+use Rattle.herm_model.specs.Expressions.{literal, integer}
 use Rattle.herm_model.specs.Statements.{Assign, Move, Unite, Dissolve, Reveal, Statement, simple, Process}
 use Rattle.herm_model.specs.MissingFacts.{Refusal}
 use Rattle.herm_model.specs.examples.RefusedProcesses.{normally, in_order}
