@@ -8,7 +8,7 @@ ghost use Rattle.herm_parser.specs.BracketDepth.{most_brackets};
 use herm_alphabet::{Mark, Token, TokenKind};
 
 /// How many brackets may be open at once.
-#[tactic(auto, unfolding(crate::specs::OpenBrackets::most_brackets))]
+#[tactic(auto, unfolding(crate::specs::BracketDepth::most_brackets))]
 pub fn most_brackets() -> usize
     ensures exact { result ≡ most_brackets }
     ensures small { result ≤ 64 }
@@ -38,7 +38,7 @@ fn room_behind(room: usize, kind: &TokenKind) -> Option<usize>
 }
 
 /// The number of tokens left at the first bracket that is open too many, that one with them.
-#[tactic(auto, unfolding(crate::specs::OpenBrackets::most_brackets))]
+#[tactic(auto, unfolding(crate::specs::BracketDepth::most_brackets))]
 pub fn too_deep(tokens: &[Token]) -> Option<usize>
     ensures { result ≡ too_deep side (kinds tokens.now) most_brackets }
 {
