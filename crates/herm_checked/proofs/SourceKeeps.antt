@@ -6,7 +6,6 @@ use Rattle.herm_model.proofs.Options.{chain-some}
 use Rattle.herm_journal.specs.Actions.{new_port, new_process, to_put, to_take, to_close, to_answer, to_hear, make_port, make_process, put, take, hear}
 use Rattle.herm_journal.specs.Messages.{CellWant, CellAction}
 use Rattle.herm_forms.specs.Modules.{Module}
-use Rattle.herm_runs.specs.Counting.{KeepsCounts}
 use Rattle.herm_source.specs.Checked.{IsChecked}
 use Rattle.herm_source.specs.Instance.{source}
 use Rattle.herm_source.specs.Modules.{Program, Modules}
@@ -22,7 +21,7 @@ use Rattle.herm_source.proofs.placed.KeptStanding.{checked-processes-keep-standi
 use Rattle.herm_source.proofs.sound.GoingOn.{checked-processes-go-on}
 use Rattle.herm_source.proofs.sound.SoundProcesses.{stay-sound}
 use Rattle.herm_sound.specs.Standing.{at_type, StandsAt, AllStand, cells_alone, typed_places, typed_coming, typed_made, typed_going}
-use Rattle.herm_sound.specs.SoundMachines.{HasFor, KeepsStanding, StaysSound, KeepsSound}
+use Rattle.herm_sound.specs.SoundMachines.{HasFor, KeepsStanding, StaysSound, KeepsWaiting, KeepsSound}
 use Rattle.herm_checked.proofs.CallMoves.{local-moves, answer-moves, begin-closed}
 
 module _ (exceptions : ℕ) (program : Program) (modules : Modules) (checked : IsChecked exceptions program modules) where
@@ -126,13 +125,13 @@ module _ (exceptions : ℕ) (program : Program) (modules : Modules) (checked : I
   types-in : (x : State Name) → IsSoundProcess program modules x → HasTypesIn modules x
   types-in x is c coded = (is.sound c coded).types
 
-  pub source-keeps-counts : KeepsCounts (source modules) (IsSoundProcess program modules)
+  pub source-keeps-counts : KeepsWaiting (source modules) (IsSoundProcess program modules)
   source-keeps-counts =
       let keeps = typed-programs-keep-counts exceptions program modules checked.accepted checked.typed in
       record {
-        begins = keeps.begins;
+        begins = λ test of code number port n x e. keeps.begins test of code number (cell n (an_inport port) no_parts) x e;
         local_steps = λ test of x y is e. keeps.local_steps test of x y (types-in x is) e;
-        answers = λ test of x y w at a is wanted h e. keeps.answers test of x y w at a (types-in x is) wanted h e;
+        answers = λ test of x y w at a is wanted h suits e. keeps.answers test of x y w at a (types-in x is) wanted h e;
       }
 
   unfoldable pub source-keeps-sound : KeepsSound (source modules) (IsSoundProcess program modules)

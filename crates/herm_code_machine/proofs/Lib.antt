@@ -12,3 +12,4 @@ pub mod CodeLimits
 pub mod TrimmedExcess
 pub mod ExpressionValues
 pub mod CodeCalls
+pub mod counted

@@ -12,3 +12,11 @@ pub mod Processes
 pub mod ActionEffects
 pub mod ActionSteps
 pub mod ItemSteps
+pub mod CallArguments
+pub mod CallEffects
+pub mod CallSteps
+pub mod CopiedStacks
+pub mod AlongRuns
+pub mod AlongSteps
+pub mod AlongAnswers
+pub mod SoundProcesses

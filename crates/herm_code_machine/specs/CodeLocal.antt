@@ -2,6 +2,7 @@
 use Rattle.std.specs.Prelude.{ℕ, List, [], ◌∷◌, map, drop, Option, Some, None, IsTrue, IsFalse, ⊤, ◌≡◌}
 use Rattle.herm_model.specs.Lists.{IsIn, list_of, any_pass}
 use Rattle.herm_model.specs.Paths.{Path, Fact, path_of, is_at_or_below}
+use Rattle.herm_model.specs.Copyable.{IsCopyable}
 use Rattle.herm_model.specs.Statements.{Differ}
 use Rattle.herm_model.specs.Types.{TypeTable}
 use Rattle.herm_model.specs.FactsOfValues.{HasExactly}
@@ -76,7 +77,7 @@ WaitsAlone (cell n k (gap ps)) = ⊥
 WaitsAlone (cell n k (part c ps)) = ⊥
 
 -- A process of code stands at a piece that has a label, or at an end. It has values exactly where the facts of its label say, each of its type; its stack has full
--- values of the label's types, and its slots are the label's, with full rows, and no two of one number; a call is open only at a call; and
+-- values of the label's types, which are copyable, and its slots are the label's, with full rows, and no two of one number; a call is open only at a call; and
 -- the work list has inports and callmessages alone. Code reference, "Sound states of code".
 pub record IsLocallySoundCode {N : Type 0} (c : ReadyCode) (s : CodeState N) : Type 0 where
   pub stands : IsAtPiece c s.position
@@ -84,6 +85,7 @@ pub record IsLocallySoundCode {N : Type 0} (c : ReadyCode) (s : CodeState N) : T
   pub values : HasExactly s.frame.variables (HasFactOfLabel c s)
   pub types : HaveTypes c.scope.types c.scope.variables s.frame.variables
   pub stack : AreFull c.scope.types (stack_types c s) s.stack
+  pub copies : (t : ℕ) → IsIn t (stack_types c s) → IsCopyable c.scope.types t
   pub slots : AreSlots c.scope.types (slots_at c s) s.frame.loops
   pub slots_differ : Differ (map (λ (l : Loop N). l.statement) s.frame.loops)
   pub call : (k : ℕ) → s.frame.call ≡ Some k → (m : Met) × (met_at c s.position ≡ Some m) × IsCall m.instruction

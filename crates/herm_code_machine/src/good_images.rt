@@ -19,8 +19,9 @@ pub fn local_steps_are_sound()
     ensures steps { LocalStepsAreSound }
 {}
 
-/// Where what comes next in such a process is an action but a call, or something that waits to be finalised: it wants something, each answer
-/// with which what suits comes in is taken, and behind it the process is sound within itself again.
+/// Where an action is next in such a process it wants something: also a call, whose values are on its stack, the reply to one, and something
+/// that waits to be finalised. Each answer with which what suits comes in is taken, and behind it the process is sound within itself again; a
+/// call is open from where its callmessage is placed to where its reply is heard.
 pub fn answers_are_sound()
     ensures answers { AnswersAreSound }
 {}

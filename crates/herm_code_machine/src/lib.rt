@@ -8,4 +8,5 @@ pub mod instructions;
 pub mod machine;
 pub mod pieces;
 pub mod runs;
+pub mod sound_images;
 pub mod trims;

@@ -27,7 +27,7 @@ use Rattle.herm_forms.specs.Excess.{excess_over_full}
 use Rattle.herm_forms.specs.Modules.{Module}
 use Rattle.herm_forms.specs.Acts.{arguments_at, is_inout, inputs_of, composed, given_back}
 use Rattle.herm_forms.proofs.Arrived.{drop-variables}
-use Rattle.herm_forms.proofs.KeptNumbers.{is-composed}
+use Rattle.herm_forms.proofs.KeptNumbers.{is-compose}
 use Rattle.herm_forms.proofs.Begun.{kind_load, source_load}
 use Rattle.herm_forms.proofs.called.Returns.{taken-variables}
 use Rattle.herm_forms.proofs.forms.ExcessDropped.{beyond-below}
@@ -43,13 +43,17 @@ module _ (name : Name → Name) where
       let t = chain-some (λ (taken : Taken Name). option_map (with_message name taken.frame) (assemble modes copies taken.cells)) (take_all moved (drop lost (record b { serial = b.serial + count_in inputs }))) x is in
       message-kind t.0.frame (assemble modes copies t.0.cells) x t.2
 
+  -- which is the one that composes it
+  pub composed-kind : (modes : List Mode) (inputs : Parts ⊤) (lost moved : List Path) (b : Frame Name) (x : Composed Name) → compose name modes inputs lost moved b ≡ Some x → kind_of x.message ≡ a_callmessage b.number x.call
+  composed-kind modes inputs lost moved b x is = compose-kind modes inputs lost moved b x is ∙ ap (λ n. a_callmessage n x.call) (is-compose name b.number modes inputs lost moved b x refl is)
+
   pub call-kind : (c : Module) (o : Path) (arguments : List Atom) (b : Frame Name) (x : Composed Name) → composed name c o arguments b ≡ Some x → kind_of x.message ≡ a_callmessage b.number x.call
   call-kind c o arguments b x is =
       let modes = map (λ (p : Parameter). p.mode) (call_parameters c.types c.variables o) in
       let moved = arguments_at c is_inout o arguments in
       let lost = flat_map (λ (p : Path). excess_over_full c p b) moved in
       let r = chain-some (λ inputs. compose name modes inputs lost moved b) (inputs_of (call_parameters c.types c.variables o) arguments b.variables) x is in
-      compose-kind modes r.0 lost moved b x r.2 ∙ ap (λ n. a_callmessage n x.call) (is-composed name b.number c o arguments b x refl is)
+      composed-kind modes r.0 lost moved b x r.2
 
 -- what is cleared below a path leaves the kind of the cell there
 abbrev IsBelow : Path → Path → Type 0

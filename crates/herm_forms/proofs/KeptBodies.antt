@@ -82,12 +82,12 @@ module _ {N : Type 0} (Is : Frame N → Type 0) (lets : LetsGo Is) where
   is-all [] b e = e
   is-all (c ∷ cs) b e = is-all cs (finalise c b) (lets.value c b e)
 
-  is-end : (c : Cell N) (b : Frame N) → Is b → Is (finalise_at_once c b)
-  is-end (cell m k ps) b e = lets.parts ps (finalise_name m b) (lets.name m b e)
+  pub is-end_at_once : (c : Cell N) (b : Frame N) → Is b → Is (finalise_at_once c b)
+  is-end_at_once (cell m k ps) b e = lets.parts ps (finalise_name m b) (lets.name m b e)
 
   pub all-work : (item : Cell N) (a : CellAction N) (b : Frame N) → Is b → All Is Is (ClosesAndAnswers.work_done item a b)
-  all-work item (close count left) b e = stayed (finalise_at_once item (finalise_all left b)) (is-end item (finalise_all left b) (is-all left b e))
-  all-work item (answer k r) b e = stayed (finalise_at_once item b) (is-end item b e)
+  all-work item (close count left) b e = stayed (finalise_at_once item (finalise_all left b)) (is-end_at_once item (finalise_all left b) (is-all left b e))
+  all-work item (answer k r) b e = stayed (finalise_at_once item b) (is-end_at_once item b e)
   all-work item _ b e = never
 
 module _ {N : Type 0} (name : Name → N) (Is Stay : Frame N → Type 0) (keeps-it : IsKept Is) where
@@ -298,11 +298,11 @@ module _ {N : Type 0} (name : Name → N) (Is Stay : Frame N → Type 0) (keeps-
 
   pub all-call : Opens Is Stay → (k : Option (Composed N)) (outs : List Path) (a : CellAction N) → ((c : Composed N) → k ≡ Some c → Is c.frame) → All Is Stay (callmessages.call k outs a)
   all-call opens k outs (put (Some i) m) on = all-there-is _ k (λ c is. stayed (record c.frame { call = Some c.call }) (opens c.call c.frame (on c is)))
-  all-call opens k outs (put None m) on = all-there-is _ k (λ c is. went (raised disconnected) (drop outs (finalise_at_once m c.frame)) (is-drop outs (finalise_at_once m c.frame) (is-end Is keeps-it.letting m c.frame (on c is))))
+  all-call opens k outs (put None m) on = all-there-is _ k (λ c is. went (raised disconnected) (drop outs (finalise_at_once m c.frame)) (is-drop outs (finalise_at_once m c.frame) (is-end_at_once Is keeps-it.letting m c.frame (on c is))))
   all-call opens k outs _ on = never
 
   pub all-return : (taken : Option (Taken N)) (m : Path) (a : CellAction N) → ((t : Taken N) → taken ≡ Some t → Is t.frame) → All Is Stay (ReturnForms.return taken m a)
-  all-return taken m (answer k r) on = all-there-is _ taken (λ t is. all-taking m _ t.frame (on t is) (λ d b' e'. went ok (finalise_at_once d b') (is-end Is keeps-it.letting d b' e')))
+  all-return taken m (answer k r) on = all-there-is _ taken (λ t is. all-taking m _ t.frame (on t is) (λ d b' e'. went ok (finalise_at_once d b') (is-end_at_once Is keeps-it.letting d b' e')))
   all-return taken m _ on = never
 
   all-hear_reply : (back outs : List Path) (keep left : ℕ → List Path) (r : CellReply N) (b : Frame N) → Is b → All Is Stay (HearReply.hear_reply back outs keep left r b)

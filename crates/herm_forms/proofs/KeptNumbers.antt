@@ -1,14 +1,16 @@
 -- Edges, what a statement does and what an answer leaves keep the process's number.
 use Rattle.std.proofs.Common.{◌≡◌, ℕ, List, Some}
+use Rattle.std.specs.Prelude.{⊤}
 use Rattle.herm_model.specs.Paths.{Path}
 use Rattle.herm_model.specs.Expressions.{Atom}
 use Rattle.herm_model.specs.Statements.{Form}
 use Rattle.herm_model.specs.Targets.{Target}
-use Rattle.herm_model.specs.Values.{Cell}
+use Rattle.herm_model.specs.Types.{Mode}
+use Rattle.herm_model.specs.Values.{Cell, Parts}
 use Rattle.herm_journal.specs.Messages.{CellAction}
 use Rattle.herm_forms.specs.Frames.{Name, Frame, Completion}
 use Rattle.herm_forms.specs.ClosesAndAnswers
-use Rattle.herm_forms.specs.Callmessages.{Composed}
+use Rattle.herm_forms.specs.Callmessages.{Composed, compose}
 use Rattle.herm_forms.specs.EdgeFinalising.{arrive}
 use Rattle.herm_forms.specs.Modules.{Module}
 use Rattle.herm_forms.specs.Acts.{act, composed, settle, settle_reply}
@@ -37,6 +39,9 @@ module _ {N : Type 0} (name : Name → N) (n : ℕ) where
   is-arrive c t b e = KeptBodies.is-arrive name Is Is numbers (λ stay b e. e) c t b e
 
   -- what a call composes
+  pub is-compose : (modes : List Mode) (inputs : Parts ⊤) (lost moved : List Path) (b : Frame N) (k : Composed N) → Is b → compose name modes inputs lost moved b ≡ Some k → Is k.frame
+  is-compose modes inputs lost moved b k e is = KeptBodies.is-from name Is Is numbers k (KeptBodies.from-compose name Is Is numbers modes inputs lost moved b k e is)
+
   pub is-composed : (c : Module) (o : Path) (arguments : List Atom) (b : Frame N) (k : Composed N) → Is b → composed name c o arguments b ≡ Some k → Is k.frame
   is-composed c o arguments b k e is = KeptBodies.is-composed name Is Is numbers c o arguments b k e is
 

@@ -172,7 +172,7 @@ module _ {N : Type 0} (c : Module) (ps : Parts N) (typed : HaveTypes c.types c.v
       let x = is-table N c.types u row key d shape (read-typed N c.types c.variables i q u ps d typed at is) in
       subst (λ (d : Cell N). HaveKinds IsPlainKind (parts_of d)) (sym x.is) (fits-plain c.types (many row) x.rows' copyable x.fits)
 
-  table-plain : (p : Path) (u row : ℕ) (key : List ℕ) → type_at c.types c.variables p ≡ Some u → slice_get c.types u ≡ Some (rows row key) → IsCopyable c.types row
+  pub table-plain : (p : Path) (u row : ℕ) (key : List ℕ) → type_at c.types c.variables p ≡ Some u → slice_get c.types u ≡ Some (rows row key) → IsCopyable c.types row
       → (d : Cell N) → read_at p ps ≡ Some d → HaveKinds IsPlainKind (parts_of d)
   table-plain [] u row key at shape copyable d is = none-not_some is
   table-plain (i ∷ q) u row key at shape copyable d is = rows-plain i q u row key at shape copyable d is

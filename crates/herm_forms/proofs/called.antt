@@ -9,3 +9,5 @@ pub mod ApartPaths
 pub mod HeardReplies
 pub mod TakenApart
 pub mod CallMessages
+pub mod SetArguments
+pub mod GivenInputs

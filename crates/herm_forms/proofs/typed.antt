@@ -15,3 +15,5 @@ pub mod WantsThere
 pub mod AnswersTaken
 pub mod LocalOutcomes
 pub mod EachGoes
+pub mod CalledForms
+pub mod ComposedCalls

@@ -145,7 +145,7 @@ module _ {P : Type 0} (machine : Machine Name P) (Is : P → Type 0) (keeps : Ke
             let moves = act-moves test machine s x p w place h a act parts.at.1 in
             let set = total-from_one (of_process test machine) s0.processes p x y is0 in
             let held = ap (total (of_process test machine)) same in
-            let own = keeps.counts.answers test of x y w (number_of place) a before parts.want.1 answers does in
+            let own = keeps.counts.answers test of x y w (number_of place) a before parts.want.1 answers suits does in
             omega (arith, u, v, made.0, made.1, moves, set, held, own);
         is = stay.0;
         calls = stay.1;

@@ -15,7 +15,8 @@ use Rattle.herm_system.specs.Machines.{Machine, inport_of}
 use Rattle.herm_system.specs.Summary.{how_many}
 use Rattle.herm_system.specs.Systems.{System, holding_at, set_holding, with_made, console_port}
 use Rattle.herm_system.specs.Kinds.{kinds_of, kinds_by, unfinalised}
-use Rattle.herm_runs.specs.Counting.{kinds_coming, kinds_going, IsOfWaiting, KeepsCounts}
+use Rattle.herm_runs.specs.Counting.{kinds_coming, kinds_going, IsOfWaiting}
+use Rattle.herm_sound.specs.SoundMachines.{KeepsWaiting}
 use Rattle.herm_runs.proofs.SystemLedger.{total-set, total-from_one}
 use Rattle.herm_sound.proofs.Acted.{Holding, port_of, IsAct, port_made, port_refused, process_made, process_refused, placed, came_back, taken, closed, answered, heard}
 use Rattle.herm_sound.proofs.Places.{port-there, cell-there}
@@ -119,7 +120,7 @@ module _ (test : Kind → Bool) where
         omega (arith, total-from_one of_replies s.replies p ((k, r) ∷ rs) rs (cell-there s p ((k, r) ∷ rs) at), many-flat test kinds_of (cells_in r))
 
     -- what is made holds what was born
-    pub made-counts : (Is : P → Type 0) → KeepsCounts machine Is → IsOfWaiting test → (x : P) (a : CellAction Name) (s t : System P) → with_made machine x a s ≡ Some t
+    pub made-counts : (Is : P → Type 0) → KeepsWaiting machine Is → IsOfWaiting test → (x : P) (a : CellAction Name) (s t : System P) → with_made machine x a s ≡ Some t
         → (total of_process t.processes ≡ total of_process s.processes + born x a) × (queued t ≡ queued s)
     made-counts Is keeps of x (make_port (Some n)) s t e =
         subst (λ (t : System P). (total of_process t.processes ≡ total of_process s.processes + 0) × (queued t ≡ queued s)) (some-injective e) (omega arith, omega (arith, total-append of_port s.ports (empty_port ∷ [])))
@@ -127,7 +128,7 @@ module _ (test : Kind → Bool) where
         let inport = inport_of machine made.1 x in
         let m = map-some _ (machine.begin code made.0 inport) t e in
         subst (λ (t : System P). (total of_process t.processes ≡ total of_process s.processes + of_cell inport) × (queued t ≡ queued s)) m.2 (
-          omega (arith, total-append of_process s.processes (m.0 ∷ []), keeps.begins test of code made.0 inport m.0 m.1),
+          omega (arith, total-append of_process s.processes (m.0 ∷ []), keeps.begins test of code made.0 made.1 (machine.number x, machine.serial x) m.0 m.1),
           omega (arith, total-append of_port s.ports (empty_port ∷ []), total-append of_replies s.replies ([] ∷ [])),
         )
     made-counts Is keeps of x a s t e = subst (λ (t : System P). (total of_process t.processes ≡ total of_process s.processes + 0) × (queued t ≡ queued s)) (some-injective e) (omega arith, refl)

@@ -95,7 +95,7 @@ module _ {P : Type 0} (machine : Machine Name P) (Is : P → Type 0) (keeps : Ke
     own-kinds : (test : Kind → Bool) → IsOfWaiting test → how_many test (unfinalised machine opened) ≡ how_many test (kinds_of console_port) + (how_many test (kinds_of main_port) + 0) + (0 + (how_many test (kinds_of (first_message argument)) + 0 + 0) + (0 + 0))
     own-kinds test of =
         let all = unfinalised-parts test machine opened in
-        let own = keeps.counts.begins test of machine.main 1 main_port first is-first in
+        let own = keeps.counts.begins test of machine.main 1 1 (opening_name 1) first is-first in
         omega (arith, all, own)
 
     inports : (n : ℕ) → how_many (is_inport_of n) (unfinalised machine opened) ≡ one_if (is_open_port opened n)

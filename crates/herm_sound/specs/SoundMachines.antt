@@ -1,5 +1,5 @@
 -- What a machine is to meet, of one process, so that each step of its systems keeps a sound state sound.
-use Rattle.std.specs.Prelude.{◌≡◌, ◌⊎◌, ◌<◌, ◌≤◌, ℕ, suc, List, [], ◌∷◌, Option, Some, None, slice_get, option_and_then, IsTrue}
+use Rattle.std.specs.Prelude.{◌≡◌, ◌⊎◌, ◌<◌, ◌≤◌, ℕ, suc, ◌+◌, Bool, List, [], ◌∷◌, Option, Some, None, slice_get, option_and_then, IsTrue}
 use Rattle.herm_model.specs.Lists.{IsIn}
 use Rattle.herm_model.specs.Calls.{led_to}
 use Rattle.herm_model.specs.Typed.{is_text}
@@ -12,7 +12,8 @@ use Rattle.herm_system.specs.Systems.{first_message, main_port}
 use Rattle.herm_system.specs.Kinds.{kinds_by, typed_of}
 use Rattle.herm_system.specs.Sound.{console_type}
 use Rattle.herm_system.specs.Suiting.{Answers, Suits}
-use Rattle.herm_runs.specs.Counting.{KeepsCounts}
+use Rattle.herm_runs.specs.Counting.{IsOfWaiting, kinds_coming, kinds_going, kinds_made, kinds_ended}
+use Rattle.herm_system.specs.Summary.{how_many}
 use Rattle.herm_runs.specs.laws.ProcessLaws.{KeepsNumbers, KeepsLedger}
 use Rattle.herm_sound.specs.Standing.{at_type, AllStand, OutportsStand, typed_places, typed_coming, typed_made, typed_going}
 
@@ -63,6 +64,18 @@ module _ {P : Type 0} (machine : Machine Name P) where
     pub answers : (x y : P) (want : CellWant Name) (at : ℕ) (a : CellAction Name) → Is x → machine.wanted x ≡ Some want → Answers want a → Suits machine x at a → machine.answered x at a ≡ Some y
         → Is y × CallMoves x y a
 
+  -- How many inports and callmessages of a kind a process has that are not finalised, as it begins with the inport of a port, and while it
+  -- is sound within itself: as KeepsCounts says, where what comes in with an answer suits. Language reference, "Sound states".
+  pub record KeepsWaiting (Is : P → Type 0) : Type 0 where
+    pub begins : (test : Kind → Bool) → IsOfWaiting test → (code number port : ℕ) (n : Name) (x : P) → machine.begin code number (cell n (an_inport port) no_parts) ≡ Some x
+        → how_many test (kinds_by machine x) ≡ how_many test (an_inport port ∷ [])
+    pub local_steps : (test : Kind → Bool) → IsOfWaiting test → (x y : P) → Is x → machine.local_step x ≡ Some y
+        → how_many test (kinds_by machine y) ≡ how_many test (kinds_by machine x)
+    pub answers : (test : Kind → Bool) → IsOfWaiting test → (x y : P) (want : CellWant Name) (at : ℕ) (a : CellAction Name) → Is x → machine.wanted x ≡ Some want → Answers want a → Suits machine x at a
+        → machine.answered x at a ≡ Some y
+        → how_many test (kinds_by machine y) + how_many test (kinds_going machine x want a) + how_many test (kinds_ended want)
+        ≡ how_many test (kinds_by machine x) + how_many test (kinds_coming a) + how_many test (kinds_made machine y a)
+
   -- A machine of which each step of a system keeps a sound state sound.
   pub record KeepsSound (Is : P → Type 0) : Type 0 where
     -- the types of the ports of modules, and of the inport that a process makes next; and the values that a process has beside its cells,
@@ -72,7 +85,7 @@ module _ {P : Type 0} (machine : Machine Name P) where
     pub beside : P → List (ℕ × Kind)
     pub numbers : KeepsNumbers machine
     pub ledger : KeepsLedger machine
-    pub counts : KeepsCounts machine Is
+    pub counts : KeepsWaiting Is
     pub processes : StaysSound Is
     pub wants : (x : P) (want : CellWant Name) → Is x → machine.wanted x ≡ Some want → HasFor first_type new_type x want
     pub standing : (ports : List ℕ) (calls : ℕ → ℕ → Option ℕ) → KeepsStanding first_type new_type Is beside ports calls

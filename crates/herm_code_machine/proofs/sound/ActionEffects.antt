@@ -111,7 +111,7 @@ arms-numbered k [] o h = absurd h
 arms-numbered k (x ∷ choices) o (inl e) = (k, x, inl refl, e)
 arms-numbered k (x ∷ choices) o (inr h) = let r = arms-numbered (suc k) choices o h in (r.0, r.1, inr r.2, r.3)
 
-loops-kept : (loops : List (Loop Name)) → IsKept (λ (b : Frame Name). b.loops ≡ loops)
+pub loops-kept : (loops : List (Loop Name)) → IsKept (λ (b : Frame Name). b.loops ≡ loops)
 loops-kept loops = record { letting = record { value = λ d b h. h; parts = λ ps b h. h; name = λ n b h. h }; variables = λ ps b h. h; serial = λ s b h. h; calls = λ b h. h }
 
 module _ (x : ℕ) (image : Image) (formed : IsWellFormedTable x image.types) (ls : (l : Literal) → IsIn l image.constants → IsLiteralOf image.types l (type_of_literal l))

@@ -25,7 +25,7 @@ use Rattle.herm_instructions.specs.Actions.{is_step, is_action}
 use Rattle.herm_instructions.specs.Effects.{label_behind}
 use Rattle.herm_instructions.specs.Pieces.{is_operand}
 use Rattle.herm_instructions.specs.Places.{label_at}
-use Rattle.herm_instructions.specs.GoodCode.{IsGood}
+use Rattle.herm_instructions.specs.GoodCode.{Arrives, IsGood}
 use Rattle.herm_code_machine.specs.ReadyCode.{ReadyCode, ready_code}
 use Rattle.herm_code_machine.specs.Stacks.{pushing, leaving}
 use Rattle.herm_code_machine.specs.Effects.{effect, constant_value}
@@ -40,6 +40,7 @@ use Rattle.herm_code_machine.proofs.sound.AtLabels.{Holds, GoesWell}
 use Rattle.herm_code_machine.proofs.sound.ActionEffects.{each-action, TakesMessage}
 use Rattle.herm_code_machine.proofs.sound.Between.{IsAtRest, AreAlone, rest-kept, any-rest, holds-at, arrived}
 use Rattle.herm_code_machine.proofs.sound.Between as between
+use Rattle.herm_code_machine.proofs.sound.CopiedStacks.{AreCopied, label-copied}
 use Rattle.herm_code_machine.proofs.sound.EachEffect as each
 use Rattle.herm_code_machine.proofs.sound.LocalSteps as steps
 use Rattle.herm_code_machine.proofs.sound.RunsThere as runs
@@ -68,21 +69,24 @@ module _ (exceptions' : ℕ) (image : Image) (good : IsGood exceptions' image) (
   HasWay i instruction l o = between.HasWay exceptions' image good formed m in-image i instruction l o
 
   -- an operand of an action, before the action
-  record Pushes (i : ℕ) (instruction : Instruction) (l : Label) (stack : List Value) (b : Frame Name) : Type 0 where
-    value : Value
-    is : operand code instruction b.variables ≡ gives value
-    index : ℕ
-    next : Label
-    follows : index ≡ suc i
-    labelled : code.label index ≡ Some next
-    holds : Holds code next (value ∷ stack) b
+  pub record Pushes (i : ℕ) (instruction : Instruction) (l : Label) (stack : List Value) (b : Frame Name) : Type 0 where
+    pub value : Value
+    pub is : operand code instruction b.variables ≡ gives value
+    pub index : ℕ
+    pub next : Label
+    pub follows : index ≡ suc i
+    pub labelled : code.label index ≡ Some next
+    pub does : effect name code instruction stack b ≡ leaving (value ∷ stack) (goes ok b)
+    pub arrives : Arrives (label_behind image.types m.variables image.constants instruction ok l) next
+    pub holds : Holds code next (value ∷ stack) b
+    pub copied : AreCopied image.types next.stack
 
   pushes-by : (i : ℕ) (instruction : Instruction) (l : Label) (stack : List Value) (b : Frame Name) (e : Evaluated) → ((x : ℕ) → e ≡ raises x → ⊥) → operand code instruction b.variables ≡ e → effect name code instruction stack b ≡ pushing e stack b
-      → ((j : ℕ) → leads code i instruction ok ≡ Some j → j ≡ suc i) → GoesWell exceptions' image m (HasWay i instruction l) code instruction l (effect name code instruction stack b) → Pushes i instruction l stack b
-  pushes-by i instruction l stack b e none is does onward g = by e none is (subst (GoesWell exceptions' image m (HasWay i instruction l) code instruction l) does g)
+      → ((j : ℕ) → leads code i instruction ok ≡ Some j → j ≡ suc i) → AreCopied image.types (label_behind image.types m.variables image.constants instruction ok l).stack → GoesWell exceptions' image m (HasWay i instruction l) code instruction l (effect name code instruction stack b) → Pushes i instruction l stack b
+  pushes-by i instruction l stack b e none is does onward copied g = by e none is does (subst (GoesWell exceptions' image m (HasWay i instruction l) code instruction l) does g)
     where
-      of : (v : Value) → operand code instruction b.variables ≡ gives v → GoesWell exceptions' image m (HasWay i instruction l) code instruction l (leaving (v ∷ stack) (goes ok b)) → Pushes i instruction l stack b
-      of v is g =
+      of : (v : Value) → operand code instruction b.variables ≡ gives v → effect name code instruction stack b ≡ leaving (v ∷ stack) (goes ok b) → GoesWell exceptions' image m (HasWay i instruction l) code instruction l (leaving (v ∷ stack) (goes ok b)) → Pushes i instruction l stack b
+      of v is does g =
           let o = same_outcome_of ok g.outcome b g.frame g.completes in
           let d = same_body ok g.outcome b g.frame g.completes in
           let way = subst (HasWay i instruction l) (sym o) g.way in
@@ -94,24 +98,27 @@ module _ (exceptions' : ℕ) (image : Image) (good : IsGood exceptions' image) (
             next = way.next;
             follows = onward way.index way.leads_there;
             labelled = way.labelled;
+            does = does;
+            arrives = way.arrives;
             holds = arrived code (label_behind image.types m.variables image.constants instruction ok l) way.next (v ∷ stack) b way.arrives (subst (λ d. Holds code (label_behind image.types m.variables image.constants instruction ok l) (v ∷ stack) d) (sym d) holds);
+            copied = subst (AreCopied image.types) (sym (way.arrives).stack) copied;
           }
 
-      by : (e : Evaluated) → ((x : ℕ) → e ≡ raises x → ⊥) → operand code instruction b.variables ≡ e → GoesWell exceptions' image m (HasWay i instruction l) code instruction l (pushing e stack b) → Pushes i instruction l stack b
-      by (gives v) none is g = of v is g
-      by (raises x) none is g = absurd (none x refl)
-      by no_value none is g = never g.outcome g.frame g.completes
+      by : (e : Evaluated) → ((x : ℕ) → e ≡ raises x → ⊥) → operand code instruction b.variables ≡ e → effect name code instruction stack b ≡ pushing e stack b → GoesWell exceptions' image m (HasWay i instruction l) code instruction l (pushing e stack b) → Pushes i instruction l stack b
+      by (gives v) none is does g = of v is does g
+      by (raises x) none is does g = absurd (none x refl)
+      by no_value none is does g = never g.outcome g.frame g.completes
 
-  operand-there : (i : ℕ) (instruction : Instruction) (l : Label) (stack : List Value) (b : Frame Name) → instruction_at m i ≡ Some instruction → code.label i ≡ Some l → Holds code l stack b → is_operand instruction ≡ true → Pushes i instruction l stack b
-  operand-there i (Const k) l stack b at labelled holds is =
+  pub operand-there : (i : ℕ) (instruction : Instruction) (l : Label) (stack : List Value) (b : Frame Name) → instruction_at m i ≡ Some instruction → code.label i ≡ Some l → Holds code l stack b → AreCopied image.types l.stack → is_operand instruction ≡ true → Pushes i instruction l stack b
+  operand-there i (Const k) l stack b at labelled holds copied is =
       let finds = between.finds-there exceptions' image good formed m in-image i (Const k) l at labelled in
-      pushes-by i (Const k) l stack b (constant_value (slice_get image.constants k)) (constant-raises code (slice_get image.constants k)) refl refl (λ j e. sym (some-injective e))
+      pushes-by i (Const k) l stack b (constant_value (slice_get image.constants k)) (constant-raises code (slice_get image.constants k)) refl refl (λ j e. sym (some-injective e)) (label-copied exceptions' image formed good.constants m (HasWay i (Const k) l) (Const k) ok l finds copied)
       (each.const-goes exceptions' image formed good.constants m (between.good-module exceptions' image good formed m in-image).variables_known (label_at image.types image.constants) name (HasWay i (Const k) l) l stack b holds k finds)
-  operand-there i (Load p) l stack b at labelled holds is =
+  operand-there i (Load p) l stack b at labelled holds copied is =
       let finds = between.finds-there exceptions' image good formed m in-image i (Load p) l at labelled in
-      pushes-by i (Load p) l stack b (value_there (read_at p b.variables)) (value-raises (read_at p b.variables)) refl refl (λ j e. sym (some-injective e))
+      pushes-by i (Load p) l stack b (value_there (read_at p b.variables)) (value-raises (read_at p b.variables)) refl refl (λ j e. sym (some-injective e)) (label-copied exceptions' image formed good.constants m (HasWay i (Load p) l) (Load p) ok l finds copied)
       (each.load-goes exceptions' image formed good.constants m (between.good-module exceptions' image good formed m in-image).variables_known (label_at image.types image.constants) name (HasWay i (Load p) l) l stack b holds p finds)
-  operand-there i instruction l stack b at labelled holds is = absurd (false≢true is)
+  operand-there i instruction l stack b at labelled holds copied is = absurd (false≢true is)
 
   -- an action behind its operands
   pub record ActionAt (xs : List Instruction) (stack : List Value) (b : Frame Name) (met : Met) : Type 0 where
@@ -122,12 +129,13 @@ module _ (exceptions' : ℕ) (image : Image) (good : IsGood exceptions' image) (
     pub acts : is_action image.types met.instruction ≡ true
     pub labelled : code.label met.index ≡ Some label
     pub holds : Holds code label before b
+    pub copied : AreCopied image.types label.stack
 
-  pub action-there : (xs : List Instruction) (i : ℕ) (l : Label) (stack : List Value) (b : Frame Name) (met : Met) → drop i m.code ≡ xs → code.label i ≡ Some l → Holds code l stack b → action_from image.types xs i ≡ Some met → ActionAt xs stack b met
-  action-there [] i l stack b met at labelled holds is = none-not_some is
-  action-there (instruction ∷ more) i l stack b met at labelled holds is =
+  pub action-there : (xs : List Instruction) (i : ℕ) (l : Label) (stack : List Value) (b : Frame Name) (met : Met) → drop i m.code ≡ xs → code.label i ≡ Some l → Holds code l stack b → AreCopied image.types l.stack → action_from image.types xs i ≡ Some met → ActionAt xs stack b met
+  action-there [] i l stack b met at labelled holds copied is = none-not_some is
+  action-there (instruction ∷ more) i l stack b met at labelled holds copied is =
       let d = dropped-got m.code i instruction more at in
-      by (is_operand instruction) refl d.0 is (λ j l stack next labelled holds is. action-there more j l stack b met next labelled holds is) d.1
+      by (is_operand instruction) refl d.0 is (λ j l stack next labelled holds copied is. action-there more j l stack b met next labelled holds copied is) d.1
     where
       acting : (t : Bool) → is_action image.types instruction ≡ t → is_operand instruction ≡ false → instruction_at m i ≡ Some instruction → cond t (Some (record { index = i; instruction = instruction })) None ≡ Some met → ActionAt (instruction ∷ more) stack b met
       acting false e other at is = none-not_some is
@@ -139,14 +147,15 @@ module _ (exceptions' : ℕ) (image : Image) (good : IsGood exceptions' image) (
         acts = e;
         labelled = labelled;
         holds = holds;
+        copied = copied;
       })
 
       by : (t : Bool) → is_operand instruction ≡ t → instruction_at m i ≡ Some instruction → cond t (action_from image.types more (suc i)) (cond (is_action image.types instruction) (Some (record { index = i; instruction = instruction })) None) ≡ Some met
-          → ((j : ℕ) (l : Label) (stack : List Value) → drop j m.code ≡ more → code.label j ≡ Some l → Holds code l stack b → action_from image.types more j ≡ Some met → ActionAt more stack b met) → drop (suc i) m.code ≡ more → ActionAt (instruction ∷ more) stack b met
+          → ((j : ℕ) (l : Label) (stack : List Value) → drop j m.code ≡ more → code.label j ≡ Some l → Holds code l stack b → AreCopied image.types l.stack → action_from image.types more j ≡ Some met → ActionAt more stack b met) → drop (suc i) m.code ≡ more → ActionAt (instruction ∷ more) stack b met
       by false e at is again next = acting (is_action image.types instruction) refl e at is
       by true e at is again next =
-          let p = operand-there i instruction l stack b at labelled holds e in
-          let r = again p.index p.next (p.value ∷ stack) (ap (λ j. drop j m.code) p.follows ∙ next) p.labelled p.holds (ap (action_from image.types more) p.follows ∙ is) in
+          let p = operand-there i instruction l stack b at labelled holds copied e in
+          let r = again p.index p.next (p.value ∷ stack) (ap (λ j. drop j m.code) p.follows ∙ next) p.labelled p.holds p.copied (ap (action_from image.types more) p.follows ∙ is) in
           record {
             label = r.label;
             before = r.before;
@@ -156,6 +165,7 @@ module _ (exceptions' : ℕ) (image : Image) (good : IsGood exceptions' image) (
             acts = r.acts;
             labelled = r.labelled;
             holds = r.holds;
+            copied = r.copied;
           }
 
   -- a process at a piece with an action
@@ -163,7 +173,7 @@ module _ (exceptions' : ℕ) (image : Image) (good : IsGood exceptions' image) (
     pub there : ActionAt (drop p.first m.code) s.stack s.frame met
     pub rest : IsAtRest s.frame
 
-  step-or-action : (position : Position) (p : Piece) → piece_at code position ≡ Some p → (i : ℕ) × (position ≡ at_index i) × (((instruction_at m i ≡ Some Step) × (p ≡ record { has_step = true; first = suc i })) ⊎ (p ≡ record { has_step = false; first = i }))
+  pub step-or-action : (position : Position) (p : Piece) → piece_at code position ≡ Some p → (i : ℕ) × (position ≡ at_index i) × (((instruction_at m i ≡ Some Step) × (p ≡ record { has_step = true; first = suc i })) ⊎ (p ≡ record { has_step = false; first = i }))
   step-or-action at_end p e = none-not_some e
   step-or-action (at_end_by x) p e = none-not_some e
   step-or-action (at_index i) p e = by (instruction_at m i) refl e
@@ -185,25 +195,25 @@ module _ (exceptions' : ℕ) (image : Image) (good : IsGood exceptions' image) (
   acting-at s p met sound idle closed at is =
       let x = step-or-action s.position p at in
       let h = holds-at code s x.0 x.1 closed sound in
-      record { there = by x.0 x.2 h.0 h.1 h.2; rest = rest }
+      record { there = by x.0 x.2 h.0 h.1 h.2 h.3; rest = rest }
     where
       rest : IsAtRest s.frame
       rest = (closed, subst AreAlone (sym idle) (λ item i. absurd i))
 
-      by : (i : ℕ) → ((instruction_at m i ≡ Some Step) × (p ≡ record { has_step = true; first = suc i })) ⊎ (p ≡ record { has_step = false; first = i }) → (l : Label) → code.label i ≡ Some l → Holds code l s.stack s.frame → ActionAt (drop p.first m.code) s.stack s.frame met
-      by i (inl step) l labelled holds =
+      by : (i : ℕ) → ((instruction_at m i ≡ Some Step) × (p ≡ record { has_step = true; first = suc i })) ⊎ (p ≡ record { has_step = false; first = i }) → (l : Label) → code.label i ≡ Some l → Holds code l s.stack s.frame → AreCopied image.types l.stack → ActionAt (drop p.first m.code) s.stack s.frame met
+      by i (inl step) l labelled holds copied =
           let t : CodeState Name = record { module_number = s.module_number; position = at_index (suc i); stack = s.stack; frame = counted_step s.frame } in
-          let next = steps.past-step exceptions' image good formed m in-image i l s t step.0 labelled holds rest refl in
+          let next = steps.past-step exceptions' image good formed m in-image i l s t step.0 labelled holds copied rest refl in
           let there = next.1 in
           let first : suc i ≡ p.first = ap (λ (p : Piece). p.first) (sym step.1) in
           action-there (drop p.first m.code) p.first next.0 s.stack s.frame met refl (ap code.label (sym first) ∙ there.labelled)
-          (record { sound = record { types = ((there.holds).sound).types; facts = ((there.holds).sound).facts }; stack = (there.holds).stack; slots = (there.holds).slots; differ = (there.holds).differ }) is
-      by i (inr e) l labelled holds =
+          (record { sound = record { types = ((there.holds).sound).types; facts = ((there.holds).sound).facts }; stack = (there.holds).stack; slots = (there.holds).slots; differ = (there.holds).differ }) there.copied is
+      by i (inr e) l labelled holds copied =
           let first : i ≡ p.first = ap (λ (p : Piece). p.first) (sym e) in
-          action-there (drop p.first m.code) p.first l s.stack s.frame met refl (ap code.label (sym first) ∙ labelled) holds is
+          action-there (drop p.first m.code) p.first l s.stack s.frame met refl (ap code.label (sym first) ∙ labelled) holds copied is
 
   -- what an answer to an action but a call leaves at rest
-  settles-rest : (i : Instruction) → is_action image.types i ≡ true → (IsCall i → ⊥) → (stack : List Value) (at : ℕ) (a : CellAction Name) (b : Frame Name) → IsAtRest b → AllOf IsAtRest (code_settles name code i stack at a b).completion
+  pub settles-rest : (i : Instruction) → is_action image.types i ≡ true → (IsCall i → ⊥) → (stack : List Value) (at : ℕ) (a : CellAction Name) (b : Frame Name) → IsAtRest b → AllOf IsAtRest (code_settles name code i stack at a b).completion
   settles-rest (New x t) acts none stack at a b h = as-all name IsAtRest rest-kept any-rest _ (KeptBodies.all-settle name IsAtRest IsAtRest rest-kept code.scope (Form.New x) at a b h (λ v. absurd v))
   settles-rest (Send x o trim) acts none stack at a b h = as-all name IsAtRest rest-kept any-rest _ (KeptBodies.all-send name IsAtRest IsAtRest rest-kept trim x a b h)
   settles-rest (Receive x i) acts none stack at a b h = as-all name IsAtRest rest-kept any-rest _ (KeptBodies.all-settle name IsAtRest IsAtRest rest-kept code.scope (Form.Receive x i) at a b h (λ v. absurd v))
@@ -215,7 +225,7 @@ module _ (exceptions' : ℕ) (image : Image) (good : IsGood exceptions' image) (
   settles-rest (Create o n) acts none stack at a b h = as-all name IsAtRest rest-kept any-rest _ (KeptBodies.all-settle name IsAtRest IsAtRest rest-kept code.scope (Form.Create o n) at a b h (λ v. absurd v))
   settles-rest i acts none stack at a b h = absurd (false≢true acts)
 
-  counted-is : (t : Bool) (b : Frame Name) → counted_action (counted_if t b) ≡ recount (counted_if t b).steps (suc b.actions) b
+  pub counted-is : (t : Bool) (b : Frame Name) → counted_action (counted_if t b) ≡ recount (counted_if t b).steps (suc b.actions) b
   counted-is true b = refl
   counted-is false b = refl
 
@@ -244,7 +254,7 @@ module _ (exceptions' : ℕ) (image : Image) (good : IsGood exceptions' image) (
           let b = recount (counted_if p.has_step s.frame).steps (suc s.frame.actions) s.frame in
           let e = code_settles name code met.instruction x.before at a b in
           let rest = between.rest-of exceptions' image good formed m in-image e.completion g.outcome g.frame g.completes (settles-rest met.instruction x.acts none x.before at a b acting.rest) in
-          let led = between.led-on exceptions' image good formed m in-image met.index met.instruction x.label s e.stack e.completion g.outcome g.frame g.completes g.way g.holds rest in
+          let led = between.led-on exceptions' image good formed m in-image met.index met.instruction x.label s e.stack e.completion g.outcome g.frame g.completes g.way g.holds (label-copied exceptions' image formed good.constants m (HasWay met.index met.instruction x.label) met.instruction g.outcome x.label (between.finds-there exceptions' image good formed m in-image met.index met.instruction x.label x.at x.labelled) x.copied) rest in
           let on = led.2 in
           let r = runs.next-there exceptions' image good formed m in-image name on.index on.label led.0 on.stands in (
             r.0,

@@ -36,6 +36,7 @@ use Rattle.herm_code_machine.specs.laws.PieceLaws.{IsAtPiece}
 use Rattle.herm_code_machine.proofs.RunsKeep.{AllOf}
 use Rattle.herm_code_machine.proofs.kept.KeptEffects.{keeps-effect}
 use Rattle.herm_code_machine.proofs.sound.AtLabels.{Holds, Finds}
+use Rattle.herm_code_machine.proofs.sound.CopiedStacks.{AreCopied, label-copied}
 use Rattle.herm_code_machine.proofs.sound.EachInstruction.{each-instruction}
 use Rattle.herm_code_machine.proofs.sound.Ways.{ways-lead_there}
 
@@ -110,8 +111,8 @@ arrived c arriving listed stack b a h = record {
 }
 
 -- With no call open, a process at a label is sound within itself where it stands at a piece.
-pub sound-at : (c : ReadyCode) (s : CodeState Name) (i : ℕ) (l : Label) → s.position ≡ at_index i → c.label i ≡ Some l → IsAtPiece c s.position → Holds c l s.stack s.frame → IsAtRest s.frame → IsLocallySoundCode c s
-sound-at c s i l at labelled piece h rest =
+pub sound-at : (c : ReadyCode) (s : CodeState Name) (i : ℕ) (l : Label) → s.position ≡ at_index i → c.label i ≡ Some l → IsAtPiece c s.position → Holds c l s.stack s.frame → AreCopied c.scope.types l.stack → IsAtRest s.frame → IsLocallySoundCode c s
+sound-at c s i l at labelled piece h copied rest =
     let idle : met_while_open c s ≡ None = ap (λ k. elim k [ None ↦ None | Some k ↦ met_at c s.position ]) rest.0 in
     let label : label_of c s.position ≡ Some l = ap (label_of c) at ∙ labelled in
     let facts : facts_at c s ≡ l.facts = ap (list_of (λ (l : Label). l.facts)) label in
@@ -127,6 +128,8 @@ sound-at c s i l at labelled piece h rest =
       types = (h.sound).types;
       stack = subst (λ (o : Option Met). AreFull c.scope.types (elim o [ None ↦ stack_at c s | Some m ↦ Rattle.std.specs.Prelude.drop (inputs_of m.instruction) (stack_at c s) ]) s.stack) (sym idle)
           (subst (λ ts. AreFull c.scope.types ts s.stack) (sym (ap (list_of (λ (l : Label). l.stack)) label)) h.stack);
+      copies = subst (λ (o : Option Met). AreCopied c.scope.types (elim o [ None ↦ stack_at c s | Some m ↦ Rattle.std.specs.Prelude.drop (inputs_of m.instruction) (stack_at c s) ])) (sym idle)
+          (subst (AreCopied c.scope.types) (sym (ap (list_of (λ (l : Label). l.stack)) label)) copied);
       slots = subst (λ slots. AreSlots c.scope.types slots s.frame.loops) (sym (ap (list_of (λ (l : Label). l.slots)) label)) h.slots;
       slots_differ = h.differ;
       call = λ k e. none-not_some (sym rest.0 ∙ e);
@@ -141,7 +144,7 @@ sound-at c s i l at labelled piece h rest =
     same-index j e = some-injective (ap index_in (sym e ∙ at))
 
 -- and back: what is so of a process at an index with no call open
-pub holds-at : (c : ReadyCode) (s : CodeState Name) (i : ℕ) → s.position ≡ at_index i → s.frame.call ≡ None → IsLocallySoundCode c s → (l : Label) × (c.label i ≡ Some l) × Holds c l s.stack s.frame
+pub holds-at : (c : ReadyCode) (s : CodeState Name) (i : ℕ) → s.position ≡ at_index i → s.frame.call ≡ None → IsLocallySoundCode c s → (l : Label) × (c.label i ≡ Some l) × Holds c l s.stack s.frame × AreCopied c.scope.types l.stack
 holds-at c s i at closed sound =
     let l = sound.label i at in
     let idle : met_while_open c s ≡ None = ap (λ k. elim k [ None ↦ None | Some k ↦ met_at c s.position ]) closed in
@@ -163,6 +166,8 @@ holds-at c s i at closed sound =
         slots = subst (λ slots. AreSlots c.scope.types slots s.frame.loops) (ap (list_of (λ (l : Label). l.slots)) label) sound.slots;
         differ = sound.slots_differ;
       },
+      subst (AreCopied c.scope.types) (ap (list_of (λ (l : Label). l.stack)) label)
+          (subst (λ (o : Option Met). AreCopied c.scope.types (elim o [ None ↦ stack_at c s | Some m ↦ Rattle.std.specs.Prelude.drop (inputs_of m.instruction) (stack_at c s) ])) idle sound.copies),
     )
 
 before-or-not : (i j : ℕ) → (i < j) ⊎ (j ≤ i)
@@ -249,6 +254,7 @@ module _ (exceptions' : ℕ) (image : Image) (good : IsGood exceptions' image) (
     pub position : s.position ≡ at_index i
     pub labelled : code.label i ≡ Some l
     pub holds : Holds code l s.stack s.frame
+    pub copied : AreCopied image.types l.stack
     pub rest : IsAtRest s.frame
 
   -- what an outcome leads to
@@ -260,15 +266,15 @@ module _ (exceptions' : ℕ) (image : Image) (good : IsGood exceptions' image) (
     pub same : t.module_number ≡ s.module_number
 
   pub led-on : (i : ℕ) (instruction : Instruction) (l : Label) (s : CodeState Name) (stack : List Value) (r : Completion Name) (o : Outcome) (b : Frame Name) → r ≡ goes o b → HasWay i instruction l o
-      → Holds code (label_behind image.types m.variables image.constants instruction o l) (stack_after o stack) b → IsAtRest b → (t : CodeState Name) × (state_behind code s i instruction stack r ≡ Some t) × LeadsOn i s t
-  led-on i instruction l s stack r o b completes way holds rest =
+      → Holds code (label_behind image.types m.variables image.constants instruction o l) (stack_after o stack) b → AreCopied image.types (label_behind image.types m.variables image.constants instruction o l).stack → IsAtRest b → (t : CodeState Name) × (state_behind code s i instruction stack r ≡ Some t) × LeadsOn i s t
+  led-on i instruction l s stack r o b completes way holds copied rest =
       let t : CodeState Name = record { module_number = s.module_number; position = at_index way.index; stack = stack_after o stack; frame = b } in (
         t,
         ap (state_behind code s i instruction stack) completes ∙ ap (option_map (λ j. record { module_number = s.module_number; position = at_index j; stack = stack_after o stack; frame = b })) way.leads_there,
         record {
           index = way.index;
           label = way.next;
-          stands = record { position = refl; labelled = way.labelled; holds = arrived code (label_behind image.types m.variables image.constants instruction o l) way.next (stack_after o stack) b way.arrives holds; rest = rest };
+          stands = record { position = refl; labelled = way.labelled; holds = arrived code (label_behind image.types m.variables image.constants instruction o l) way.next (stack_after o stack) b way.arrives holds; copied = subst (AreCopied image.types) (sym (way.arrives).stack) copied; rest = rest };
           onward = way.onward;
           same = refl;
         },
@@ -285,7 +291,7 @@ module _ (exceptions' : ℕ) (image : Image) (good : IsGood exceptions' image) (
       let g = each-instruction exceptions' image formed good.constants m (good-module).variables_known labels name (HasWay i instruction l) l s.stack s.frame here.holds instruction no_end other finds in
       let e = effect name code instruction s.stack s.frame in
       let rest = rest-of e.completion g.outcome g.frame g.completes (keeps-effect name IsAtRest rest-kept any-rest code instruction s.stack s.frame here.rest) in
-      let t = led-on i instruction l s e.stack e.completion g.outcome g.frame g.completes g.way g.holds rest in
+      let t = led-on i instruction l s e.stack e.completion g.outcome g.frame g.completes g.way g.holds (label-copied exceptions' image formed good.constants m (HasWay i instruction l) instruction g.outcome l finds here.copied) rest in
       (t.0, by instruction no_end ∙ t.1, t.2)
     where
       by : (instruction : Instruction) → (IsEnd instruction → ⊥) → done_instruction name code s i instruction ≡ state_behind code s i instruction (effect name code instruction s.stack s.frame).stack (effect name code instruction s.stack s.frame).completion

@@ -15,7 +15,7 @@ use Rattle.herm_instructions.specs.Images.{CodeModule, Image, instruction_at}
 use Rattle.herm_instructions.specs.Actions.{is_step, is_action}
 use Rattle.herm_instructions.specs.Effects.{label_behind}
 use Rattle.herm_instructions.specs.Places.{label_at}
-use Rattle.herm_instructions.specs.GoodCode.{IsGood}
+use Rattle.herm_instructions.specs.GoodCode.{Arrives, IsGood}
 use Rattle.herm_instructions.proofs.FactsBehind.{facts-held_behind}
 use Rattle.herm_system.specs.Machines.{is_local, to_act, greatest_actions}
 use Rattle.herm_code_machine.specs.ReadyCode.{ReadyCode, ready_code}
@@ -27,6 +27,7 @@ use Rattle.herm_code_machine.proofs.CodeLimits.{first-dropped, action-there}
 use Rattle.herm_code_machine.proofs.sound.AtLabels.{has_of, Holds, has_behind, holds-behind}
 use Rattle.herm_code_machine.proofs.sound.Between.{IsAtRest, holds-at, arrived}
 use Rattle.herm_code_machine.proofs.sound.Between as between
+use Rattle.herm_code_machine.proofs.sound.CopiedStacks.{AreCopied}
 use Rattle.herm_code_machine.proofs.sound.RunsThere as runs
 
 -- What comes next in a process, by its work list, its call and its position.
@@ -104,9 +105,9 @@ module _ (exceptions' : ℕ) (image : Image) (good : IsGood exceptions' image) (
   Reaches s t = runs.Reaches exceptions' image good formed m in-image s t
 
   -- behind a step the label behind it holds
-  pub past-step : (i : ℕ) (l : Label) (s t : CodeState Name) → instruction_at m i ≡ Some Step → code.label i ≡ Some l → Holds code l s.stack s.frame → IsAtRest s.frame
-      → t ≡ record { module_number = s.module_number; position = at_index (suc i); stack = s.stack; frame = counted_step s.frame } → (next : Label) × StandsAt (suc i) next t
-  past-step i l s t step labelled holds rest same =
+  pub past-step : (i : ℕ) (l : Label) (s t : CodeState Name) → instruction_at m i ≡ Some Step → code.label i ≡ Some l → Holds code l s.stack s.frame → AreCopied image.types l.stack → IsAtRest s.frame
+      → t ≡ record { module_number = s.module_number; position = at_index (suc i); stack = s.stack; frame = counted_step s.frame } → (next : Label) × StandsAt (suc i) next t × Arrives (label_behind image.types m.variables image.constants Step ok l) next
+  past-step i l s t step labelled holds copied rest same =
       let way = (between.finds-there exceptions' image good formed m in-image i Step l step labelled).on ok refl in
       let index : way.index ≡ suc i = some-injective (sym way.leads_there) in
       let behind = holds-behind image m code Step l ok s.stack (counted_step s.frame) (same_facts code.scope (has_of l) (has_behind image m code Step l ok) s.frame.variables (λ f. sym (facts-held_behind image.types m.variables Step ok l.facts f)) holds.sound)
@@ -115,9 +116,10 @@ module _ (exceptions' : ℕ) (image : Image) (good : IsGood exceptions' image) (
         position = refl;
         labelled = ap code.label (sym index) ∙ way.labelled;
         holds = arrived code (label_behind image.types m.variables image.constants Step ok l) way.next s.stack (counted_step s.frame) way.arrives behind;
+        copied = subst (AreCopied image.types) (sym (way.arrives).stack) copied;
         rest = rest;
       } in
-      (way.next, subst (λ t. StandsAt (suc i) way.next t) (sym same) here)
+      (way.next, subst (λ t. StandsAt (suc i) way.next t) (sym same) here, way.arrives)
 
   -- where a local piece is next, its step is there
   pub local-there : (name : Name → Name) (s : CodeState Name) (p : Piece) → IsLocallySoundCode code s → s.frame.work ≡ [] → s.frame.call ≡ None → piece_at code s.position ≡ Some p → action_of code p ≡ None
@@ -128,7 +130,7 @@ module _ (exceptions' : ℕ) (image : Image) (good : IsGood exceptions' image) (
       let first : CodeState Name = record { module_number = s.module_number; position = at_index p.first; stack = s.stack; frame = counted_if p.has_step s.frame } in
       let same : first ≡ record { module_number = s.module_number; position = at_index (suc st.index); stack = s.stack; frame = counted_step s.frame } =
       ap (λ (p : Piece). record { module_number = s.module_number; position = at_index p.first; stack = s.stack; frame = counted_if p.has_step s.frame }) st.is in
-      let here = past-step st.index h.0 s first st.step h.1 h.2 (closed, subst (between.AreAlone) (sym idle) (λ item i. absurd i)) same in
+      let here = past-step st.index h.0 s first st.step h.1 h.2 h.3 (closed, subst (between.AreAlone) (sym idle) (λ item i. absurd i)) same in
       let r = runs.next-there exceptions' image good formed m in-image name (suc st.index) here.0 first here.1 in
       (r.0, r.1, r.2)
 

@@ -24,7 +24,7 @@ use Rattle.herm_instructions.specs.Instructions.{Instruction, Step, End, EndBy}
 use Rattle.herm_instructions.specs.Labels.{Label}
 use Rattle.herm_instructions.specs.Images.{CodeModule, Image, instruction_at}
 use Rattle.herm_instructions.specs.Places.{Place, label_at_start, label_at}
-use Rattle.herm_instructions.specs.GoodCode.{IsGood}
+use Rattle.herm_instructions.specs.GoodCode.{Arrives, IsGood}
 use Rattle.herm_instructions.proofs.LabelsOfCode.{begins-at_label}
 use Rattle.herm_code_machine.specs.ReadyCode.{ReadyCode, ready_code}
 use Rattle.herm_code_machine.specs.CodeStates.{Position, at_index, at_end, at_end_by, CodeState, ended_at, done_instruction, begins_piece, first_frame}
@@ -49,6 +49,7 @@ use Rattle.herm_code_machine.specs.CodeStates.{on_by, on_from, run_on, to_next_p
 use Rattle.herm_code_machine.proofs.sound.LoopEffects.{left-alone}
 use Rattle.herm_code_machine.proofs.sound.Between.{AreAlone, IsAtRest, rest-kept, sound-at, holds-at, exact-listed, arrived}
 use Rattle.herm_code_machine.proofs.sound.Between as between
+use Rattle.herm_code_machine.proofs.sound.CopiedStacks.{AreCopied}
 
 no-loops : (loops : List (Loop Name)) → filter (λ (l : Loop Name). false) loops ≡ []
 no-loops [] = refl
@@ -101,6 +102,8 @@ module _ (exceptions' : ℕ) (image : Image) (good : IsGood exceptions' image) (
         types = sound.types;
         stack = subst (λ (o : Option Met). AreFull {N = ⊤} code.scope.types (elim o [ None ↦ stack_at code t | Some m ↦ drop (inputs_of m.instruction) (stack_at code t) ]) []) (sym idle)
             (subst (λ o. AreFull {N = ⊤} code.scope.types (list_of (λ (l : Label). l.stack) o) []) (sym unlabelled) tt);
+        copies = subst (λ (o : Option Met). AreCopied code.scope.types (elim o [ None ↦ stack_at code t | Some m ↦ drop (inputs_of m.instruction) (stack_at code t) ])) (sym idle)
+            (subst (λ o. AreCopied code.scope.types (list_of (λ (l : Label). l.stack) o)) (sym unlabelled) (λ t h. absurd h));
         slots = subst (λ o. AreSlots code.scope.types (list_of (λ (l : Label). l.slots) o) b.loops) (sym unlabelled) (subst (λ loops. AreSlots code.scope.types [] loops) (sym loops) tt);
         slots_differ = subst (λ loops. Differ (numbers loops)) (sym loops) tt;
         call = λ k e. none-not_some (sym kept.0 ∙ e);
@@ -136,7 +139,7 @@ module _ (exceptions' : ℕ) (image : Image) (good : IsGood exceptions' image) (
     stays-there n i l s here instruction at begins = (
       s,
       ap (λ b. cond b (Some s) (option_and_then (run_on name code n) (done_instruction name code s i instruction))) begins,
-      (sound-at code s i l here.position here.labelled (subst (IsAtPiece code) (sym here.position) (instruction, at, begins)) here.holds here.rest, here.rest, refl),
+      (sound-at code s i l here.position here.labelled (subst (IsAtPiece code) (sym here.position) (instruction, at, begins)) here.holds here.copied here.rest, here.rest, refl),
     )
 
     -- at an end
@@ -223,8 +226,12 @@ module _ (exceptions' : ℕ) (image : Image) (good : IsGood exceptions' image) (
       no-case p c (inl e) = absurd (false≢true (sym (ap is_case e)))
       no-case p c (inr h) = absurd h
 
-  pub begins-there : (name : Name → Name) (number' number port : ℕ) (n : Name) → (x : CodeState Name) × (code_begin name code number' number (cell n (an_inport port) no_parts) ≡ Some x) × IsLocallySoundCode code x × IsAtRest x.frame × (x.module_number ≡ number')
-  begins-there name number' number port n = by m.variables refl (between.good-module exceptions' image good formed m in-image).port
+  -- as a process begins
+  abbrev pub first_state : (number' number port : ℕ) (n : Name) → CodeState Name
+  first_state number' number port n = record { module_number = number'; position = at_index 0; stack = []; frame = first_frame m.variables number (cell n (an_inport port) no_parts) }
+
+  pub begins-at : (number' number port : ℕ) (n : Name) → (l : Label) × StandsAt 0 l (first_state number' number port n) × Arrives label_at_start l
+  begins-at number' number port n = by m.variables refl (between.good-module exceptions' image good formed m in-image).port
     where
       first-types : (ts : List ℕ) → m.variables ≡ ts → (t message : ℕ) (declared : List Fact) → slice_get m.variables 0 ≡ Some t → slice_get image.types t ≡ Some (inport message declared)
           → HaveTypes image.types m.variables (part (cell n (an_inport port) no_parts) (gaps (pred (length m.variables))))
@@ -237,17 +244,20 @@ module _ (exceptions' : ℕ) (image : Image) (good : IsGood exceptions' image) (
           (typed-by image.types u (inport message declared) n (an_inport port) no_parts (subst (λ t. slice_get image.types t ≡ Some (inport message declared)) (sym type) shape) tt refl, gaps-typed Name image.types more))
 
       by : (ts : List ℕ) → m.variables ≡ ts → (t message : ℕ) × (declared : List Fact) × (slice_get m.variables 0 ≡ Some t) × (slice_get image.types t ≡ Some (inport message declared))
-          → (x : CodeState Name) × (code_begin name code number' number (cell n (an_inport port) no_parts) ≡ Some x) × IsLocallySoundCode code x × IsAtRest x.frame × (x.module_number ≡ number')
+          → (l : Label) × StandsAt 0 l (first_state number' number port n) × Arrives label_at_start l
       by ts e port' =
           let l = begins-at_label exceptions' image m (between.good-module exceptions' image good formed m in-image) in
           let b = first_frame m.variables number (cell n (an_inport port) no_parts) in
-          let s : CodeState Name = record { module_number = number'; position = at_index 0; stack = []; frame = b } in
           let holds : Holds code label_at_start [] b = record {
             sound = record { types = first-types ts e port'.0 port'.1 port'.2 port'.3 port'.4; facts = exact-listed b.variables label_at_start.facts (first-exact port n (pred (length m.variables))) };
             stack = tt;
             slots = tt;
             differ = tt;
           } in
-          let here : StandsAt 0 l.0 s = record { position = refl; labelled = l.1; holds = arrived code label_at_start l.0 [] b l.2 holds; rest = (refl, λ item h. absurd h) } in
-          let r = next-there name 0 l.0 s here in
-          (r.0, r.1, r.2.0, r.2.1, r.2.2)
+          (l.0, record { position = refl; labelled = l.1; holds = arrived code label_at_start l.0 [] b l.2 holds; copied = λ t h. absurd (subst (IsIn t) (l.2).stack h); rest = (refl, λ item h. absurd h) }, l.2)
+
+  pub begins-there : (name : Name → Name) (number' number port : ℕ) (n : Name) → (x : CodeState Name) × (code_begin name code number' number (cell n (an_inport port) no_parts) ≡ Some x) × IsLocallySoundCode code x × IsAtRest x.frame × (x.module_number ≡ number')
+  begins-there name number' number port n =
+      let l = begins-at number' number port n in
+      let r = next-there name 0 l.0 (first_state number' number port n) l.1 in
+      (r.0, r.1, r.2.0, r.2.1, r.2.2)

@@ -10,6 +10,7 @@ use Rattle.herm_journal.specs.Messages.{CellWant, CellAction, AreFull}
 use Rattle.herm_forms.specs.Frames.{Name, Loop, Frame, goes}
 use Rattle.herm_system.specs.Machines.{is_local, is_acting}
 use Rattle.herm_system.specs.Suiting.{Answers, Suits}
+use Rattle.herm_sound.specs.SoundMachines.{CallMoves}
 use Rattle.herm_instructions.specs.Instructions.{Instruction, End, EndBy}
 use Rattle.herm_instructions.specs.Labels.{Label}
 use Rattle.herm_instructions.specs.Images.{CodeModule, Image}
@@ -19,9 +20,8 @@ use Rattle.herm_instructions.specs.GoodCode.{IsGoodModule, IsGood, OfEachInstruc
 use Rattle.herm_code_machine.specs.ReadyCode.{ReadyCode, ReadyImage, ready_code, labelled_image}
 use Rattle.herm_code_machine.specs.Effects.{effect}
 use Rattle.herm_code_machine.specs.CodeStates.{CodeState, begins_piece, leads, stack_after}
-use Rattle.herm_code_machine.specs.CodeLocal.{AreSlots, IsCall, IsSoundCodeIn}
-use Rattle.herm_code_machine.specs.CodeInstance.{code_at, code_machine}
-use Rattle.herm_code_machine.specs.CodeSteps.{CodeNext, an_action, a_reply, code_next}
+use Rattle.herm_code_machine.specs.CodeLocal.{AreSlots, IsSoundCodeIn}
+use Rattle.herm_code_machine.specs.CodeInstance.{code_machine}
 
 -- the instruction is an end
 abbrev pub IsEnd : Instruction → Type 0
@@ -77,22 +77,13 @@ pub record StepsAreSound (image : ReadyImage) : Type 0 where
 abbrev pub LocalStepsAreSound : Type 0
 LocalStepsAreSound = (exceptions : ℕ) (image : Image) (main : ℕ) → IsGoodOver exceptions image → StepsAreSound (labelled_image image main)
 
--- What comes next in a process is neither a call nor the reply to one.
-abbrev pub IsNoCall : CodeNext Name → Type 0
-IsNoCall (an_action p m) = IsCall m.instruction → ⊥
-IsNoCall (a_reply call i instruction) = ⊥
-IsNoCall next = ⊤
-
-abbrev pub NextIsNoCall : ReadyImage → CodeState Name → Type 0
-NextIsNoCall image x = (c : ReadyCode) → code_at image x ≡ Some c → IsNoCall (code_next c x)
-
--- Of a good image, where a process is sound within itself and what comes next is no call: where an action is next, something is wanted; and
--- each answer to it is taken, where what comes in suits, and leaves the process sound within itself, with the same call.
--- Code reference, "Sound states of code".
+-- Of a good image, where a process is sound within itself and an action is next, something is wanted; and each answer to it is taken, where
+-- what comes in suits, and leaves the process sound within itself. A call is opened where its callmessage is placed, and closed where its
+-- reply is heard. Code reference, "Sound states of code".
 pub record ActionsAreSound (image : ReadyImage) : Type 0 where
-  pub wants : (limit : ℕ) (x : CodeState Name) → IsSoundCodeIn image x → NextIsNoCall image x → IsTrue (is_acting ((code_machine image).ready limit x)) → (want : CellWant Name) × ((code_machine image).wanted x ≡ Some want)
-  pub answers : (x : CodeState Name) (want : CellWant Name) (at : ℕ) (a : CellAction Name) → IsSoundCodeIn image x → NextIsNoCall image x → (code_machine image).wanted x ≡ Some want → Answers want a → Suits (code_machine image) x at a
-      → (y : CodeState Name) × ((code_machine image).answered x at a ≡ Some y) × IsSoundCodeIn image y × ((code_machine image).open_call y ≡ (code_machine image).open_call x)
+  pub wants : (limit : ℕ) (x : CodeState Name) → IsSoundCodeIn image x → IsTrue (is_acting ((code_machine image).ready limit x)) → (want : CellWant Name) × ((code_machine image).wanted x ≡ Some want)
+  pub answers : (x : CodeState Name) (want : CellWant Name) (at : ℕ) (a : CellAction Name) → IsSoundCodeIn image x → (code_machine image).wanted x ≡ Some want → Answers want a → Suits (code_machine image) x at a
+      → (y : CodeState Name) × ((code_machine image).answered x at a ≡ Some y) × IsSoundCodeIn image y × CallMoves (code_machine image) x y a
 
 abbrev pub AnswersAreSound : Type 0
 AnswersAreSound = (exceptions : ℕ) (image : Image) (main : ℕ) → IsGoodOver exceptions image → ActionsAreSound (labelled_image image main)

@@ -133,7 +133,7 @@ module _ (types : TypeTable) (t port : ℕ) (shape : slice_get types port ≡ So
       let r = in-map_from (λ r. init ((0 ∷ []) ++ r)) (init p) (part_paths full_parts types t) h in
       subst (λ p. IsTrue (has_value (part m no_parts) p)) (sym (ap path_of r.2)) ((full-exact types t m deep is_full r.0).0 r.1)
 
-  full-message : IsMessage types port m
+  pub full-message : IsMessage types port m
   full-message = (
     subst (λ o. OfType types o m) (sym (ap (option_and_then message_type) shape)) (full-typed types t m is_full),
     record {

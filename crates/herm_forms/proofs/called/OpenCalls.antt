@@ -98,14 +98,14 @@ below-path x [] is h = absurd (false≢true (sym (ap (λ x. is_at_or_below x [])
 below-path x (j ∷ r) is h = (j, r, refl)
 
 -- what a callmessage is composed of was taken, and its body has what is left
-record Left (lost moved : List Path) (b : Frame Name) (x : Composed Name) : Type 0 where
+pub record Left (lost moved : List Path) (b : Frame Name) (x : Composed Name) : Type 0 where
   cut : Frame Name
   before : cut.variables ≡ b.variables
   taken : Taken Name
   at : take_all moved (drop lost cut) ≡ Some taken
   left : x.frame.variables ≡ taken.frame.variables
 
-composed-left : (name : Name → Name) (modes : List Mode) (lost moved : List Path) (b : Frame Name) (y : Option (Parts ⊤)) (x : Composed Name) → option_and_then (λ inputs. compose name modes inputs lost moved b) y ≡ Some x → Left lost moved b x
+pub composed-left : (name : Name → Name) (modes : List Mode) (lost moved : List Path) (b : Frame Name) (y : Option (Parts ⊤)) (x : Composed Name) → option_and_then (λ inputs. compose name modes inputs lost moved b) y ≡ Some x → Left lost moved b x
 composed-left name modes lost moved b None x e = none-not_some e
 composed-left name modes lost moved b (Some inputs) x e = by (take_all moved (drop lost cut)) refl e
   where
@@ -154,7 +154,7 @@ module _ (c : Module) (k : Calling) (has : Fact → Bool) where
         by (inl h) = let x = lost-of p h in of-under moved p x.0 x.1 x.2
         by (inr h) = of-under moved p p h (below-self p)
 
-    left-sound : (x : Composed Name) → Left lost moved b x → AreSound c (less moved has) x.frame.variables
+    pub left-sound : (x : Composed Name) → Left lost moved b x → AreSound c (less moved has) x.frame.variables
     left-sound x l =
         let paths = taken-paths moved (drop lost l.cut) l.taken l.at in
         let first = all-cleared c lost (λ p h. let x = lost-of p h in below-path x.0 p (paths x.0 x.1) x.2) has b.variables sound in
@@ -205,7 +205,7 @@ module _ (c : Module) (k : Calling) (has : Fact → Bool) where
         ∙ ap (λ ns. cond (any_pass (same_fact f) (closed c.types c.variables (full_of_each c.types c.variables (flat_map (λ i. argument_path (slice_get k.arguments i)) ns)))) true (cond (is_under set (path_of f)) false (has f))) (sym none)
 
     -- what the arguments of mode out hold is finalised
-    disconnected-sound : (b b' : Frame Name) (o : Outcome) → AreSound c (less moved has) b.variables → goes (raised disconnected) (drop outs b) ≡ goes o b' → AreSound c (held_after c.types c.variables (Call k.port k.arguments) o has) b'.variables
+    pub disconnected-sound : (b b' : Frame Name) (o : Outcome) → AreSound c (less moved has) b.variables → goes (raised disconnected) (drop outs b) ≡ goes o b' → AreSound c (held_after c.types c.variables (Call k.port k.arguments) o has) b'.variables
     disconnected-sound b b' o sound is =
         let out = all-cleared c outs (λ p h. let t = targets p (out-set p h) in typed-path c p t.0 t.1) (less moved has) b.variables sound in
         let facts = same_facts c (less outs (less moved has)) (held_after c.types c.variables (Call k.port k.arguments) (raised disconnected) has) (clear_all outs b.variables) table out in

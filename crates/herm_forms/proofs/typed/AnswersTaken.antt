@@ -41,7 +41,6 @@ use Rattle.herm_forms.specs.laws.FormsTakeAnswers.{IsTaken, IsStaying, IsTakenAt
 use Rattle.herm_forms.proofs.Arrived.{drop-variables}
 use Rattle.herm_forms.proofs.CountedCalls.{source-kind}
 use Rattle.herm_forms.proofs.forms.Messages.{beyond-below}
-use Rattle.herm_forms.proofs.forms.ToldFacts.{part-on}
 use Rattle.herm_forms.proofs.forms.ExcessDropped.{source-taken}
 use Rattle.herm_forms.proofs.called.ApartPaths.{apart-not_below}
 use Rattle.herm_forms.proofs.called.LostApart.{apart-back}
@@ -49,9 +48,11 @@ use Rattle.herm_forms.proofs.called.LessFacts.{less, all-cleared}
 use Rattle.herm_forms.proofs.called.HeardReplies.{none-under, with_one, put-one}
 use Rattle.herm_forms.proofs.called.OpenCalls.{typed-path, inout-set, out-set}
 use Rattle.herm_forms.proofs.typed.ActionForms.{leads-cond}
-use Rattle.herm_forms.proofs.typed.CallForms.{returned-typed, kept-typed, set-apart, set-direct, kept-apart, kept-among, call-targets}
+use Rattle.herm_forms.proofs.typed.CalledForms.{returned-typed, kept-typed, set-apart, set-direct, kept-apart, call-targets}
+use Rattle.herm_forms.proofs.called.SetArguments.{IsCalled, typed-called, kept-among}
+use Rattle.herm_forms.proofs.forms.ToldFacts.{part-on, in-closed}
 use Rattle.herm_forms.proofs.typed.Room.{HasParent, has-parent, parent-left, place-there}
-use Rattle.herm_forms.proofs.typed.LocalGoes.{asked, place-of}
+use Rattle.herm_forms.proofs.typed.LocalGoes.{place-of}
 use Rattle.herm_forms.proofs.typed.WantsThere.{want-there, source-there, composed-there, select-there, plain-given, plain-source, raised-given, raised-source}
 use Rattle.herm_model.proofs.TypedPaths.{parent-split}
 
@@ -368,7 +369,7 @@ module _ (exceptions : ℕ) (processes : List Process) (c : Module) (name : Name
   answer-taken form is acts needed from a meets looks = not_true acts
 
 -- the reply to an open call, while the values are sound but for the arguments that it lends
-module _ (exceptions : ℕ) (processes : List Process) (c : Module) (o : Path) (arguments : List Atom) (is : IsTypedIn exceptions processes c (Call o arguments)) (has : Fact → Bool) (needed : (f : Fact) → IsIn f (needs c.types c.variables (Call o arguments)) → IsTrue (has f)) where
+module _ (exceptions : ℕ) (c : Module) (o : Path) (arguments : List Atom) (is : IsCalled exceptions c o arguments) (has : Fact → Bool) (needed : (f : Fact) → IsIn f (needs c.types c.variables (Call o arguments)) → IsTrue (has f)) where
   abbrev k : Calling
   k = record { port = o; arguments = arguments }
 
@@ -378,17 +379,17 @@ module _ (exceptions : ℕ) (processes : List Process) (c : Module) (o : Path) (
   abbrev T : List Outcome
   T = outcomes c.types c.variables (Call o arguments)
 
-  raised-outcome : (e : ℕ) → IsIn e (disconnected ∷ map (λ (r : Raised). r.exception) (call_raises c.types c.variables o)) → IsIn (raised e) T
+  pub raised-outcome : (e : ℕ) → IsIn e (disconnected ∷ map (λ (r : Raised). r.exception) (call_raises c.types c.variables o)) → IsIn (raised e) T
   raised-outcome e h = inr (in-map raised e (rising (disconnected ∷ map (λ (r : Raised). r.exception) (call_raises c.types c.variables o))) (in-rising e (disconnected ∷ map (λ (r : Raised). r.exception) (call_raises c.types c.variables o)) h))
 
   set-parent : (x : Path) → IsIn x sets → HasParent has x
   set-parent x h =
-      let t = call-targets exceptions processes c o arguments is x h in
-      has-parent c has x t.0 t.1 (set-direct exceptions processes c o arguments is x h)
+      let t = call-targets exceptions c o arguments is x h in
+      has-parent c has x t.0 t.1 (set-direct exceptions c o arguments is x h)
       (λ f m. let rooms = flat_map (room_for c.types c.variables) sets in
       let there = present c.types c.variables o in
       let fulls = full_of_each c.types c.variables (given c.types c.variables o arguments) in
-      asked exceptions processes c (Call o arguments) is has needed f (in-append_left f (rooms ++ there) fulls (in-append_left f rooms there (in-flat_map (room_for c.types c.variables) x f sets h m))))
+      needed f (in-closed c.types c.variables (rooms ++ there ++ fulls) f (in-append_left f (rooms ++ there) fulls (in-append_left f rooms there (in-flat_map (room_for c.types c.variables) x f sets h m)))))
 
   lent-set : (x : Path) → IsIn x (lent_paths c k) → IsIn x sets
   lent-set x h = inout-set c k has x h
@@ -397,7 +398,7 @@ module _ (exceptions : ℕ) (processes : List Process) (c : Module) (o : Path) (
   left-set e x h = out-set c k has x (in-filter_from (λ p. not (any_pass (same_path p) (kept_at c o arguments e))) x (arguments_at c is_out o arguments) h).0
 
   apart-of : (paths : List Path) → ((x : Path) → IsIn x paths → IsIn x sets) → (x : Path) → IsIn x sets → (p : Path) → IsIn p paths → (p ≡ x) ⊎ IsTrue (are_apart p x)
-  apart-of paths among x h p m = pairs-apart sets (set-apart exceptions processes c o arguments is) p x (among p m) h
+  apart-of paths among x h p m = pairs-apart sets (set-apart exceptions c o arguments is) p x (among p m) h
 
   pub reply-taken : (call n : ℕ) (r : CellReply Name) (b : Frame Name) → n ≡ call → IsReply c k r → AreSound c (without_lent c k has) b.variables → IsTaken T (settle_reply c (Call o arguments) call (hear n r) b)
   reply-taken call n r b same reply sound =
@@ -408,16 +409,16 @@ module _ (exceptions : ℕ) (processes : List Process) (c : Module) (o : Path) (
 
       by : (r : CellReply Name) → IsReply c k r → IsTaken T (HearReply.hear_reply sets (arguments_at c is_out o arguments) (kept_at c o arguments) (left_at c o arguments) r heard)
       by (values cs) reply =
-          sets-taken c T sets (returned_types c k) (returned-typed exceptions processes c k is) (set-apart exceptions processes c o arguments is) (set-direct exceptions processes c o arguments is) ok (inl refl) cs reply (without_lent c k has) heard sound
+          sets-taken c T sets (returned_types c k) (returned-typed exceptions c o arguments is) (set-apart exceptions c o arguments is) (set-direct exceptions c o arguments is) ok (inl refl) cs reply (without_lent c k has) heard sound
           (λ x h. parent-less has (lent_paths c k) x (apart-of (lent_paths c k) lent-set x h) (set-parent x h))
       by (Actions.raised e cs) reply =
           let left = left_at c o arguments e in
           let kept = kept_by_call c.types c.variables o arguments e in
-          let out = all-cleared c left (λ p h. let t = call-targets exceptions processes c o arguments is p (left-set e p h) in typed-path c p t.0 t.1) (without_lent c k has) heard.variables sound in
+          let out = all-cleared c left (λ p h. let t = call-targets exceptions c o arguments is p (left-set e p h) in typed-path c p t.0 t.1) (without_lent c k has) heard.variables sound in
           let sound' = subst (AreSound c (less left (without_lent c k has))) (sym (drop-variables left heard)) out in
-          sets-taken c T kept (kept_types c k e) (kept-typed exceptions processes c k is e) (kept-apart exceptions processes c o arguments is e) (λ x h. set-direct exceptions processes c o arguments is x (kept-among exceptions processes c o arguments is e x h)) (raised e)
+          sets-taken c T kept (kept_types c k e) (kept-typed exceptions c o arguments is e) (kept-apart exceptions c o arguments is e) (λ x h. set-direct exceptions c o arguments is x (kept-among exceptions c o arguments is e x h)) (raised e)
           (raised-outcome e (inr (in-raises e (call_raises c.types c.variables o) reply.0))) cs reply.1 (less left (without_lent c k has)) (drop left heard) sound'
-          (λ x h. let m = kept-among exceptions processes c o arguments is e x h in
+          (λ x h. let m = kept-among exceptions c o arguments is e x h in
           parent-less (without_lent c k has) left x (apart-of left (left-set e) x m) (parent-less has (lent_paths c k) x (apart-of (lent_paths c k) lent-set x m) (set-parent x m)))
       by gone reply = raised-outcome disconnected (inl refl)
 
@@ -442,5 +443,5 @@ module _ (exceptions : ℕ) (processes : List Process) (c : Module) where
     return = λ m. each-answer (Return m);
     return_by = λ m e. each-answer (ReturnBy m e);
     create = λ o process. each-answer (Create o process);
-    replied = λ k is call r has b needed reply sound. reply-taken exceptions processes c k.port k.arguments is has needed call call r b refl reply sound;
+    replied = λ k is call r has b needed reply sound. reply-taken exceptions c k.port k.arguments (typed-called exceptions processes c k.port k.arguments is) has needed call call r b refl reply sound;
   }

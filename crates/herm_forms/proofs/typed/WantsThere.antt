@@ -41,7 +41,8 @@ use Rattle.herm_forms.proofs.typed.WantKinds.{put-in, put-message}
 use Rattle.herm_forms.proofs.typed.TypedAtoms.{typed-atoms}
 use Rattle.herm_forms.proofs.typed.LocalForms.{path-deep}
 use Rattle.herm_model.proofs.ThereFacts.{listed-there}
-use Rattle.herm_forms.proofs.typed.CallForms.{lent-typed, lent-direct, lent-apart}
+use Rattle.herm_forms.proofs.typed.CalledForms.{lent-typed, lent-direct, lent-apart}
+use Rattle.herm_forms.proofs.called.SetArguments.{typed-called}
 use Rattle.herm_forms.proofs.typed.Room.{value-there}
 use Rattle.herm_forms.proofs.typed.LocalGoes.{asked, looked-there, has-inport}
 use Rattle.herm_forms.proofs.typed.TakesThere.{takes-there, fit-there, assembles-there, returned-differ}
@@ -118,8 +119,8 @@ module _ (exceptions : ℕ) (processes : List Process) (c : Module) where
       let held : (f : Fact) → IsIn f (full_of_each c.types c.variables moved) → IsTrue (has f) = λ f m.
       (let y = in-flat_map_from (full c.types c.variables) f moved m in
       asked exceptions processes c (Call o arguments) is has needed f (in-append_right f before fulls (in-flat_map (full c.types c.variables) y.0 f (given c.types c.variables o arguments) (among y.0 y.1) y.2))) in
-      let there = fit-there c has b sound moved _ (lent-typed exceptions processes c o arguments is) (lent-apart exceptions processes c o arguments is) (lent-direct exceptions processes c o arguments is) held cut refl in
-      let t = takes-there moved (lent-apart exceptions processes c o arguments is) (drop lost cut) there in
+      let there = fit-there c has b sound moved _ (lent-typed exceptions c o arguments (typed-called exceptions processes c o arguments is)) (lent-apart exceptions c o arguments (typed-called exceptions processes c o arguments is)) (lent-direct exceptions c o arguments (typed-called exceptions processes c o arguments is)) held cut refl in
+      let t = takes-there moved (lent-apart exceptions c o arguments (typed-called exceptions processes c o arguments is)) (drop lost cut) there in
       let ps = assembles-there c (λ s. name (b.number, s)) b.variables params arguments (subst (λ params. AreArguments c.types c.variables params arguments) (sym same) h.5) inputs.1 b.serial t.0.cells inputs.2 t.2 in (
         with_message name t.0.frame ps.0,
         ap (option_and_then (λ inputs. compose name modes inputs lost moved b)) inputs.2
