@@ -197,17 +197,17 @@ module _ {N : Type 0} (name : Name → N) (c : Module) (P : ℕ → Kind → Typ
     all-content y t o b type h e = all-putting y t ok o.content (finalise_name o.name b) type h e
 
     -- the rows of a table
-    rows-are : (u r : ℕ) (key : List ℕ) (d : Cell N) → slice_get c.types u ≡ Some (rows r key) → Is u d → ArePlaced c.types P (all_of r) (parts_of d)
+    pub rows-are : (u r : ℕ) (key : List ℕ) (d : Cell N) → slice_get c.types u ≡ Some (rows r key) → Is u d → ArePlaced c.types P (all_of r) (parts_of d)
     rows-are u r key (cell n k ps) shape h = subst (λ o. ArePlaced c.types P (part_types_at o k) ps) shape h.1
 
     with-rows : (u r : ℕ) (key : List ℕ) (f : Parts N → Parts N) (d : Cell N) → slice_get c.types u ≡ Some (rows r key) → ((ps : Parts N) → ArePlaced c.types P (all_of r) ps → ArePlaced c.types P (all_of r) (f ps)) → Is u d → Is u (with_parts f d)
     with-rows u r key f (cell n k ps) shape on h = (h.0, subst (λ o. ArePlaced c.types P (part_types_at o k) (f ps)) (sym shape) (on ps (subst (λ o. ArePlaced c.types P (part_types_at o k) ps) shape h.1)))
 
-    change-is : (t : Path) (u r : ℕ) (key : List ℕ) (f : Parts N → Parts N) (b : Frame N) → Typed t u → slice_get c.types u ≡ Some (rows r key) → ((ps : Parts N) → ArePlaced c.types P (all_of r) ps → ArePlaced c.types P (all_of r) (f ps)) → BodyIs b → BodyIs (change_rows t f b)
+    pub change-is : (t : Path) (u r : ℕ) (key : List ℕ) (f : Parts N → Parts N) (b : Frame N) → Typed t u → slice_get c.types u ≡ Some (rows r key) → ((ps : Parts N) → ArePlaced c.types P (all_of r) ps → ArePlaced c.types P (all_of r) (f ps)) → BodyIs b → BodyIs (change_rows t f b)
     change-is [] u r key f b type shape on e = none-not_some type
     change-is (i ∷ q) u r key f b type shape on e = (change-placed c.types P agrees (with_parts f) u (λ d h. with-rows u r key f d shape on h) c.variables i q b.variables e.0 type, e.1)
 
-    all-finding : (key : List ℕ) (k : List Scalar) (t : Path) (u r : ℕ) (key' : List ℕ) (next : ℕ → Cell N → Completion N) (b : Frame N) → Typed t u → slice_get c.types u ≡ Some (rows r key') → BodyIs b → ((i : ℕ) (d : Cell N) → Is r d → AllAre (next i d)) → AllAre (finding key k t next b)
+    pub all-finding : (key : List ℕ) (k : List Scalar) (t : Path) (u r : ℕ) (key' : List ℕ) (next : ℕ → Cell N → Completion N) (b : Frame N) → Typed t u → slice_get c.types u ≡ Some (rows r key') → BodyIs b → ((i : ℕ) (d : Cell N) → Is r d → AllAre (next i d)) → AllAre (finding key k t next b)
     all-finding key k t u r key' next b type shape e on =
         all-there (λ table. elim (place_of_key key k (parts_of table)) [ None ↦ goes (raised not_found) b | Some i ↦ if_there (next i) (part_at i (parts_of table)) ]) (read_at t b.variables) (λ table at. by table (read-is t u b.variables table e.0 at type) (place_of_key key k (parts_of table)))
       where
@@ -224,7 +224,7 @@ module _ {N : Type 0} (name : Name → N) (c : Module) (P : ℕ → Kind → Typ
         by true more = (subst (λ o. RowsAre o ps) (sym is) h, k.1)
         by false more = (k.0, more)
 
-    found-rows : (s t : ℕ) (ps : Parts N) (loops : List (Loop N)) → row s ≡ Some t → LoopsAre loops → rows_for s loops ≡ Some ps → ArePlaced c.types P (all_of t) ps
+    pub found-rows : (s t : ℕ) (ps : Parts N) (loops : List (Loop N)) → row s ≡ Some t → LoopsAre loops → rows_for s loops ≡ Some ps → ArePlaced c.types P (all_of t) ps
     found-rows s t ps [] is k e = none-not_some e
     found-rows s t ps (l ∷ loops) is k e = by (nat_eq l.statement s) refl e (found-rows s t ps loops is k.1)
       where
@@ -232,7 +232,7 @@ module _ {N : Type 0} (name : Name → N) (c : Module) (P : ℕ → Kind → Typ
         by true same e more = subst (RowsAre (Some t)) (some-injective e) (subst (λ o. RowsAre o l.rows) (ap row (eqb-true l.statement s same) ∙ is) k.0)
         by false same e more = more e
 
-    all-next : (s : ℕ) (r : Path) (t : ℕ) (ps : Parts N) (b : Frame N) → row s ≡ Some t → Typed r t → ArePlaced c.types P (all_of t) ps → BodyIs b → AllAre (next_row s r ps b)
+    pub all-next : (s : ℕ) (r : Path) (t : ℕ) (ps : Parts N) (b : Frame N) → row s ≡ Some t → Typed r t → ArePlaced c.types P (all_of t) ps → BodyIs b → AllAre (next_row s r ps b)
     all-next s r t no_parts b is type h e = e
     all-next s r t (gap ps) b is type h e = tt
     all-next s r t (part d ps) b is type h e = all-putting r t turn d (record b { loops = set_rows s ps b.loops }) type h.0 (e.0, set-rows s t ps b.loops is h.1 e.1)
@@ -267,7 +267,7 @@ module _ {N : Type 0} (name : Name → N) (c : Module) (P : ℕ → Kind → Typ
     given-scalar modulo = refl
     given-scalar concatenated = refl
 
-    scalar-is : (t : ℕ) (s : Shape) → slice_get c.types t ≡ Some s → IsTrue (is_scalar_shape s) → (x : Scalar) → IsPlaced c.types P t (scalar_value x)
+    pub scalar-is : (t : ℕ) (s : Shape) → slice_get c.types t ≡ Some s → IsTrue (is_scalar_shape s) → (x : Scalar) → IsPlaced c.types P t (scalar_value x)
     scalar-is t boolean shape h x = (portless-at t boolean (a_scalar x) shape refl refl, subst (λ o. ArePlaced c.types P {N = ⊤} (part_types_at o (a_scalar x)) no_parts) (sym shape) tt)
     scalar-is t integer shape h x = (portless-at t integer (a_scalar x) shape refl refl, subst (λ o. ArePlaced c.types P {N = ⊤} (part_types_at o (a_scalar x)) no_parts) (sym shape) tt)
     scalar-is t text shape h x = (portless-at t text (a_scalar x) shape refl refl, subst (λ o. ArePlaced c.types P {N = ⊤} (part_types_at o (a_scalar x)) no_parts) (sym shape) tt)
@@ -296,7 +296,7 @@ module _ {N : Type 0} (name : Name → N) (c : Module) (P : ℕ → Kind → Typ
     value-of : (v : Evaluated) (w : Value) (t : ℕ) → Gives (IsPlaced c.types P t) v → v ≡ gives w → IsPlaced c.types P t w
     value-of v w t h is = subst (Gives (IsPlaced c.types P t)) is h
 
-    all-copying : (d : Value) (x : Path) (t : ℕ) (b : Frame N) → Typed x t → IsPlaced c.types P t d → BodyIs b → AllAre (copying name d (putting x ok) b)
+    pub all-copying : (d : Value) (x : Path) (t : ℕ) (b : Frame N) → Typed x t → IsPlaced c.types P t d → BodyIs b → AllAre (copying name d (putting x ok) b)
     all-copying d x t b type h e = all-putting x t ok (copy_from (λ s. name (b.number, s)) b.serial d) (record b { serial = b.serial + count d }) type (copy-placed c.types P agrees (λ s. name (b.number, s)) b.serial t d h) e
 
     pub outport-is : (t port k : ℕ) (n : N) → slice_get c.types t ≡ Some (outport port) → P t (an_outport k) → Is t (cell n (an_outport k) no_parts)
@@ -306,7 +306,7 @@ module _ {N : Type 0} (name : Name → N) (c : Module) (P : ℕ → Kind → Typ
     inport-has t k (cell n (an_inport m) ps) h is = subst (λ m. P t (an_inport m)) (some-injective is) h.0
     inport-has t k (cell n kind ps) h is = none-not_some is
 
-    all-tested : (v : Value) (b : Frame N) → BodyIs b → AllAre (tested v b)
+    pub all-tested : (v : Value) (b : Frame N) → BodyIs b → AllAre (tested v b)
     all-tested (cell m (a_scalar (a_boolean true)) ps) b e = e
     all-tested (cell m (a_scalar (a_boolean false)) ps) b e = e
     all-tested v b e = tt
