@@ -4,3 +4,4 @@ mod PortActs
 mod ReplyActs
 mod BookActs
 mod CellsSeen
+mod StampsOfPlaces

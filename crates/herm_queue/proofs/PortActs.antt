@@ -1,6 +1,6 @@
 -- What each action does to the fields of a cell, and what they keep.
 use Rattle.std.proofs.Common.{◌≡◌, ℕ, ◌+◌, ◌-◌, ◌≤◌, List, [], ◌∷◌, ◌++◌, Bool, true, false, Option, Some, None, refl, sym, ap, ap₂, subst, ◌∙◌, arith, map, length}
-use Rattle.herm_model.proofs.Lists.{length-map}
+use Rattle.herm_model.proofs.Lists.{cons-not_nil, length-map}
 use Rattle.herm_model.proofs.Renaming.{map-append}
 use Rattle.herm_base.specs.declared.numbers.PortNo.{PortNo}
 use Rattle.herm_base.specs.declared.numbers.ProcNo.{ProcNo}
@@ -72,6 +72,10 @@ queued ms ms' x is = ap (λ (m : MessageState). queue_of m.parcels) is ∙ map-a
 
 pub emptied-taken : (ms ms' : MessageState) (x : Parcel) → ms.parcels ≡ x ∷ ms'.parcels → queue_of ms.parcels ≡ [] → queue_of ms'.parcels ≡ []
 emptied-taken ms ms' x first none = sym (ap (λ (ps : List Parcel). behind_first (queue_of ps)) first) ∙ ap behind_first none
+
+pub none-queued : (ps : List Parcel) → queue_of ps ≡ [] → ps ≡ []
+none-queued [] none = refl
+none-queued (p ∷ ps) none = cons-not_nil (p.number, p.value) (queue_of ps) none
 
 -- Behind an action of which it is known what it does, the fields keep what they kept, where this is known of what is written besides.
 pub kept-behind : (n : PortNo) (f : Option Text) (b b' : Bool) (placed placed' : ℕ) (ms ms' : MessageState) (w w' : Option ProcNo) (log log' : LogState) (spare spare' p c : ℕ) (a : CellAction) (r : Record) →

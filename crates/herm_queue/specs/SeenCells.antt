@@ -1,16 +1,18 @@
 -- Cells in the words of the language, and the laws that join them to its places.
-use Rattle.std.specs.Prelude.{nat_eq, false, Some, None, ◌≡◌, ⊤}
+use Rattle.std.specs.Prelude.{ℕ, List, nat_eq, false, Some, None, ◌≡◌, ⊤}
 use Rattle.herm_model.specs.Values.{Cell}
 use Rattle.herm_journal.specs.Actions.{Action}
 use Rattle.herm_journal.specs.NextNumbers.{Limits}
 use Rattle.herm_journal.specs.PlaceStates.{PlaceState, IsEnabled, after}
 use Rattle.herm_journal.specs.Entries as source
-use Rattle.herm_journal.specs.Entries.{Text, recorded_state, map_action, map_holding}
+use Rattle.herm_journal.specs.Entries.{Text, Entry, recorded_state, map_action, map_holding}
 use Rattle.herm_journal.specs.Histories.{first_recorded_state}
+use Rattle.herm_journal.specs.Journals.{part_of_place}
 use Rattle.herm_journal.specs.Messages.{CellReply}
+use Rattle.herm_journal.specs.Stamps.{clock_of_process, entry_behind}
 use Rattle.herm_values.specs.View.{value_view}
 use Rattle.herm_letters.specs.View.{reply_view}
-use Rattle.herm_queue.specs.CellStates.{CellAction, CellState, Holding, recorded, told}
+use Rattle.herm_queue.specs.CellStates.{CellAction, CellState, Holding, IsReplayed, entry_at, recorded, told}
 use Rattle.herm_queue.specs.PortStates.{PortState, port_cell}
 use Rattle.herm_queue.specs.ReplyStates.{ReplyState, reply_cell_of}
 use Rattle.herm_queue.specs.BookStates.{BookState, book_cell}
@@ -52,3 +54,11 @@ ActionsAreRecorded = (a : CellAction) → recorded a ≡ source.recorded (seen_a
 
 abbrev pub HoldingsAreTold : Type 0
 HoldingsAreTold = (h : Holding) → told h ≡ recorded_state (seen h)
+
+-- Where the cell's history is the part of its place in the entries so far, and the process's clock is what they give, the
+-- action's entry is the one that comes behind them. Language reference, "Stamps".
+abbrev pub ActionsAreStamped : Type 0
+ActionsAreStamped =
+    (before : List Entry) (process clock : ℕ) (a : CellAction) (s : CellState) →
+    IsReplayed s → part_of_place s.place before ≡ s.entries → clock_of_process process before ≡ clock →
+    entry_at process clock a s ≡ entry_behind before process s.place (recorded a)

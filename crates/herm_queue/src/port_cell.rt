@@ -224,6 +224,7 @@ impl PortCell {
         ensures acted { IsActed who.number clock.0 (close (length result.1.parcels) (values_of result.1.parcels)) (port_cell self.old) (port_cell self.new) }
         ensures stamp { result.0.0 ≡ self.new.clock }
         ensures parcels { queue_of result.1.parcels ≡ self.old.held.queue }
+        ensures closed { self.old.held.is_open ≡ false → result.1.parcels ≡ [] }
         ensures waiter { self.new.waiter ≡ None }
     {
         let count = self.messages.len() as u64;

@@ -1,6 +1,7 @@
-ghost use Rattle.std.specs.Prelude.{IsTrue, IfOk, ◌≡◌};
+ghost use Rattle.std.specs.Prelude.{IsTrue, IfOk, ◌≡◌, ◌≤◌, ◌<◌, ◌^◌};
 ghost use Rattle.herm_events.specs.Names.{IsReplyNamed, IsNamed};
 ghost use Rattle.herm_events.specs.View.{reply_trace_view, action_view};
+ghost use Rattle.herm_letters.specs.Letters.{IsWholeReply};
 ghost use Rattle.herm_queue.specs.CellStates.{reply_text};
 
 use super::*;
@@ -364,5 +365,176 @@ fn the_book_records_what_is_done(rt: HostRuntime) -> Result<(), Fail> {
     let want =
         "1 1 book port 2\n2 1 book process 2 3 7\n10 2 book process 3 4 0\n11 3 book process full 4\n12 3 book port 5\n13 2 book port full\n14 1 book process full 1\n";
     assert!(rt; has_lines(alloc, book.history(), &[], want)?);
+    Ok(())
+}
+
+/// A string whose text is not kept in itself.
+fn long_letter(alloc: Global) -> Result<Letter, AllocError> {
+    let word = Word::of(alloc, b"a text of more than twenty-two bytes")?;
+    match Letter::of(alloc, Value::Text(word)) {
+        Ok(letter) => Ok(letter),
+        Err((_, error)) => Err(error),
+    }
+}
+
+/// Puts a string on the port.
+fn put_long(alloc: Global, cell: &mut PortCell) -> Result<(), AllocError> {
+    let letter = long_letter(alloc)?;
+    cell.reserve()?;
+    if cell.clock().0 < LATEST {
+        let _ = cell.put(P1, Stamp(0), letter);
+    }
+    Ok(())
+}
+
+/// An open port with so many strings, ready for one action.
+fn ready_port(alloc: Global, count: u8) -> Result<PortCell, AllocError>
+    ensures spare { IfOk result (λ c. 1 ≤ c.spare) }
+    ensures clock { IfOk result (λ c. c.clock < 2 ^ 63) }
+{
+    let mut cell = PortCell::new(alloc, PortNo { number: 2 });
+    for _ in 0..count {
+        put_long(alloc, &mut cell)?;
+    }
+    cell.reserve()?;
+    if cell.clock().0 >= LATEST {
+        return Err(AllocError);
+    }
+    Ok(cell)
+}
+
+/// A closed port, ready for one action.
+fn shut_port(alloc: Global) -> Result<PortCell, AllocError>
+    ensures spare { IfOk result (λ c. 1 ≤ c.spare) }
+    ensures clock { IfOk result (λ c. c.clock < 2 ^ 63) }
+{
+    let mut cell = PortCell::new(alloc, PortNo { number: 3 });
+    let _ = close(&mut cell, P1, 0)?;
+    cell.reserve()?;
+    if cell.clock().0 >= LATEST {
+        return Err(AllocError);
+    }
+    Ok(cell)
+}
+
+/// A string that comes back.
+fn long_reply(alloc: Global) -> Result<Reply, AllocError>
+    ensures { IfOk result IsWholeReply }
+{
+    let word = Word::of(alloc, b"a text of more than twenty-two bytes")?;
+    let mut values = Vec::new(alloc);
+    values.push(Value::Text(word))?;
+    Ok(Reply::Values(values))
+}
+
+/// Answers a call with a string.
+fn answer_long(alloc: Global, cell: &mut ReplyCell) -> Result<(), AllocError> {
+    let reply = long_reply(alloc)?;
+    let traces = two_texts(alloc, &reply)?;
+    cell.reserve()?;
+    if cell.clock().0 < LATEST {
+        let _ = cell.answer(P1, Stamp(0), 7, reply, traces);
+    }
+    Ok(())
+}
+
+/// A reply cell with so many strings, ready for one action.
+fn ready_cell(alloc: Global, count: u8) -> Result<ReplyCell, AllocError>
+    ensures spare { IfOk result (λ c. 1 ≤ c.spare) }
+    ensures clock { IfOk result (λ c. c.clock < 2 ^ 63) }
+{
+    let mut cell = ReplyCell::new(alloc, P2);
+    for _ in 0..count {
+        answer_long(alloc, &mut cell)?;
+    }
+    cell.reserve()?;
+    if cell.clock().0 >= LATEST {
+        return Err(AllocError);
+    }
+    Ok(cell)
+}
+
+/// A book, ready for one action.
+fn ready_book(alloc: Global) -> Result<Book, AllocError>
+    ensures spare { IfOk result (λ b. 1 ≤ b.spare) }
+    ensures clock { IfOk result (λ b. b.clock < 2 ^ 63) }
+{
+    let mut book = Book::new(alloc, &SMALL);
+    book.reserve()?;
+    if book.clock().0 >= LATEST {
+        return Err(AllocError);
+    }
+    Ok(book)
+}
+
+/// Whether the port is open: it takes the message.
+fn is_placed(cell: &mut PortCell, letter: Letter) -> bool
+    requires spare { 1 ≤ cell.old.spare }
+    requires clock { cell.old.clock < 2 ^ 63 }
+{
+    match cell.put(P1, Stamp(0), letter) {
+        Put::Placed {
+            stamp: _,
+            number: _,
+            trace: _,
+        } => true,
+        Put::Closed {
+            stamp: _,
+            value: _,
+            trace: _,
+        } => false,
+    }
+}
+
+/// Notes that a process waits, and takes it from there.
+fn is_noted(cell: &mut PortCell) -> bool
+    requires spare { 1 ≤ cell.old.spare }
+{
+    cell.wait_here(P2);
+    cell.take_waiter() == Some(P2)
+}
+
+/// Each action of a port with ready memory: whether it is done.
+fn ports_act(
+    mut ports: (PortCell, PortCell, PortCell, PortCell, PortCell),
+    letters: (Letter, Letter),
+) -> bool
+    requires first { (1 ≤ ports.0.spare) × (ports.0.clock < 2 ^ 63) }
+    requires second { (1 ≤ ports.1.spare) × (ports.1.clock < 2 ^ 63) }
+    requires third { (1 ≤ ports.2.spare) × (ports.2.clock < 2 ^ 63) }
+    requires fourth { (1 ≤ ports.3.spare) × (ports.3.clock < 2 ^ 63) }
+    requires fifth { 1 ≤ ports.4.spare }
+{
+    let placed = is_placed(&mut ports.0, letters.0);
+    let back = !is_placed(&mut ports.1, letters.1);
+    let taken = ports.2.take(P1, Stamp(0)).is_some();
+    let closed = ports.3.close(P1, Stamp(0)).1.len() == 3;
+    placed && back && taken && closed && is_noted(&mut ports.4)
+}
+
+#[test]
+fn actions_take_no_memory_after_reserve(rt: HostRuntime) -> Result<(), Fail> {
+    let alloc = rt.alloc();
+    let ports = (
+        ready_port(alloc, 0)?,
+        shut_port(alloc)?,
+        ready_port(alloc, 2)?,
+        ready_port(alloc, 3)?,
+        ready_port(alloc, 0)?,
+    );
+    let letters = (long_letter(alloc)?, long_letter(alloc)?);
+    let mut answered = ready_cell(alloc, 1)?;
+    let mut heard = ready_cell(alloc, 2)?;
+    let reply = long_reply(alloc)?;
+    let traces = two_texts(alloc, &reply)?;
+    let mut ports_made = ready_book(alloc)?;
+    let mut processes_made = ready_book(alloc)?;
+    assert!(rt; ports_act(ports, letters));
+    assert!(rt; answered.answer(P1, Stamp(0), 8, reply, traces).0 == 2);
+    assert!(rt; heard.hear(Stamp(5)).is_some());
+    assert!(rt; ports_made.make_port(P1, Stamp(0)).1.is_some());
+    assert!(rt; processes_made.make_process(P1, Stamp(0), 3).1.is_some());
+    // The first that takes memory behind the last `reserve`.
+    assert!(rt; Vec::<u8>::with_capacity(alloc, 1).is_ok());
     Ok(())
 }
