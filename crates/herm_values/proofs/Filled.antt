@@ -1,5 +1,5 @@
 -- How many places have a row.
-use Rattle.std.proofs.Common.{◌≡◌, ℕ, zero, suc, ◌+◌, ◌≤◌, ◌<◌, ◌⊎◌, inl, inr, List, [], ◌∷◌, map, length, Bool, true, false, not, cond, Option, Some, None, IfNone, option_map, get_or, nat_lt, max, refl, sym, ap, subst, ◌∙◌, arith}
+use Rattle.std.proofs.Common.{◌≡◌, ℕ, zero, suc, ◌+◌, ◌≤◌, ◌<◌, ◌⊎◌, inl, inr, List, [], ◌∷◌, map, length, Bool, true, false, not, cond, Option, Some, None, IfNone, IfSome, option_map, get_or, nat_lt, max, refl, sym, ap, subst, ◌∙◌, arith}
 use Rattle.std.specs.Option.{is_none}
 use Rattle.std.proofs.lemmas.Bool.{ltb-false}
 use Rattle.std.specs.List.{AllByRecursion, position, prefix_len}
@@ -55,6 +55,19 @@ all-filled os h = by (nat_lt (prefix_len (λ o. not (is_none o)) os) (length os)
     by : (b : Bool) → nat_lt (prefix_len (λ o. not (is_none o)) os) (length os) ≡ b → None ≡ cond b (Some (prefix_len (λ o. not (is_none o)) os)) None → filled os ≡ length os
     by true t e = cc e
     by false t e = long-filled os (ltb-false (prefix_len (λ o. not (is_none o)) os) (length os) t)
+
+-- before the first empty place all have a row
+filled-before : {X : Type 0} (os : List (Option X)) → prefix_len (λ o. not (is_none o)) os ≤ filled os
+filled-before [] = omega arith
+filled-before (None ∷ os) = omega arith
+filled-before (Some x ∷ os) = omega (arith, filled-before os)
+
+pub low-from : (os : List (Option Value)) (found : Option ℕ) → found ≡ position is_none os → IfSome found (λ place. place ≤ filled os)
+low-from os found is = subst (λ o. IfSome o (λ place. place ≤ filled os)) (sym is) (by (nat_lt (prefix_len (λ o. not (is_none o)) os) (length os)))
+  where
+    by : (b : Bool) → IfSome (cond b (Some (prefix_len (λ o. not (is_none o)) os)) None) (λ place. place ≤ filled os)
+    by true = filled-before os
+    by false = tt
 
 pub full-from : (os : List (Option Value)) (found : Option ℕ) → found ≡ position is_none os → IfNone found (filled os ≡ length os)
 full-from os None is = all-filled os is

@@ -17,3 +17,6 @@ mod VeryRows
 mod Tables
 mod Copied
 mod Distinct
+mod RowKeys
+mod NewKeys
+mod AsItWas

@@ -38,7 +38,7 @@ integers_same x y =
     (λ e. subst (λ z. IsTrue (same_integer x z)) (int_ranked x y Equal (sym e)) (same_scalar_self (model.an_integer x)))
     (λ h. subst (λ z. int_cmp x z ≡ Equal) (same_integer-is x y h) (tied_itself int_cmp_total x))
 
-texts_same : (xs ys : List ℕ) → is_eq (slice_cmp nat_cmp xs ys) ≡ same_numbers xs ys
+pub texts_same : (xs ys : List ℕ) → is_eq (slice_cmp nat_cmp xs ys) ≡ same_numbers xs ys
 texts_same xs ys = same_from_slice_cmp nat_cmp is_eq same_numbers refl (λ _ _. refl) (λ _ _. refl) (λ x y xs ys o h. grind (arith, nat_tests)) xs ys (slice_cmp nat_cmp xs ys) refl
 
 scalar_same : (a b : Scalar) → is_eq (scalar_cmp a b) ≡ same_scalar (scalar_view a) (scalar_view b)

@@ -71,6 +71,8 @@ HasOneMore old new row = (v : Value) → IsRowOf new v ↔ (IsRowOf old v ⊎ (v
 abbrev pub HasAllBut : Table → Table → Option Value → Type 0
 HasAllBut old new lost = (v : Value) → (IsRowOf new v → IsRowOf old v) × (IsRowOf old v → IsRowOf new v ⊎ (lost ≡ Some v))
 
--- the table has the rows that it had
-abbrev pub HasTheSame : Table → Table → Type 0
-HasTheSame old new = (v : Value) → IsRowOf new v ↔ IsRowOf old v
+-- the table is as it was, but for the room that it has
+pub record IsAsItWas (old new : Table) : Type 0 where
+  pub columns : new.columns ≡ old.columns
+  pub keys : new.keys ≡ old.keys
+  pub rows : new.rows.items ≡ old.rows.items

@@ -1,6 +1,9 @@
 //! Copies of values.
-ghost use Rattle.std.specs.Prelude.{◌≡◌, ◌++◌, ◌∷◌, [], map, IfOk, OnOk};
-ghost use Rattle.herm_rows.specs.Keys.{rows_of};
+ghost use Rattle.std.specs.Prelude.{◌≡◌, ◌≤◌, ◌<◌, ◌++◌, ◌∷◌, [], false, length, map, IfOk, OnOk};
+ghost use Rattle.std.specs.List.{list_any};
+ghost use Rattle.herm_model.specs.Tables.{same_key};
+ghost use Rattle.herm_rows.specs.Keys.{rows_of, most_rows};
+ghost use Rattle.herm_values.specs.declared.scalar.KeyRow.{KeyRow};
 ghost use Rattle.herm_values.specs.View.{value_view, key_view};
 ghost use Rattle.herm_values.specs.Keyed.{keyed_view, keyed_parts, keyed_of};
 ghost use Rattle.herm_values.specs.Copies.{key_row_view};
@@ -8,8 +11,9 @@ ghost use Rattle.herm_values.specs.Whole.{IsWhole, AllWhole, IsWholeTable};
 
 use crate::scalar::{KeyRow, Scalar};
 use crate::value::{Table, Value};
-use herm_parcels::{CallMsg, Poly};
-use herm_rows::Rows;
+use herm_base::TypeNo;
+use herm_parcels::{CallMsg, Poly, PolyFault};
+use herm_rows::{InsertFault, Rows};
 use std::alloc::{AllocError, Global};
 
 /// An equal scalar.
@@ -56,13 +60,18 @@ fn copy_columns(alloc: Global, columns: &[u32]) -> Result<Vec<u32>, AllocError>
     Ok(copy)
 }
 
-/// Puts a key behind the others. Keys of one table differ and are few, so that memory alone can be wanting.
+/// Puts a key behind the others, where none of them is the same and there are fewer than there may be: then memory alone
+/// can be wanted.
 fn add_key(keys: &mut Rows<KeyRow>, row: KeyRow) -> Result<(), AllocError>
+    requires new { list_any (λ (k : KeyRow). same_key (key_view k.key.items) (key_view row.key.items)) (rows_of keys.old) ≡ false }
+    requires few { length (rows_of keys.old) < most_rows }
     ensures { OnOk result (rows_of keys.new ≡ rows_of keys.old ++ row ∷ []) }
 {
     match keys.insert(row) {
         Ok(()) => Ok(()),
-        Err(_) => Err(AllocError),
+        Err(InsertFault::Duplicate(_)) => unreachable!(),
+        Err(InsertFault::Full(_)) => unreachable!(),
+        Err(InsertFault::Memory(_)) => Err(AllocError),
     }
 }
 
@@ -71,6 +80,9 @@ fn copy_keys(alloc: Global, keys: &Rows<KeyRow>) -> Result<Rows<KeyRow>, AllocEr
     ensures { IfOk result (λ ks. map key_row_view (rows_of ks) ≡ map key_row_view (rows_of keys.now)) }
 {
     let mut copies = Rows::new(alloc);
+    if keys.len() == 0 {
+        return Ok(copies);
+    }
     let mut next = keys.first();
     'keys: while let Some(node) = next {
         let row = copy_row(alloc, keys.row(node))?;
@@ -78,6 +90,24 @@ fn copy_keys(alloc: Global, keys: &Rows<KeyRow>) -> Result<Rows<KeyRow>, AllocEr
         next = keys.after(node);
     }
     Ok(copies)
+}
+
+/// The polymorph with this content. Its depth is one that may be, so that memory alone can be wanted.
+fn wrapped(
+    alloc: Global,
+    tag: TypeNo,
+    depth: u32,
+    content: Value,
+) -> Result<Poly<Value>, AllocError>
+    requires nests { 1 ≤ depth }
+    requires few { depth ≤ 16 }
+    ensures { IfOk result (λ poly. (poly.tag ≡ tag) × ((poly.depth ≡ depth) × (poly.value.value ≡ content))) }
+{
+    match Poly::new(alloc, tag, depth, content) {
+        Ok(poly) => Ok(poly),
+        Err(PolyFault::Deep(_)) => unreachable!(),
+        Err(PolyFault::Memory(_)) => Err(AllocError),
+    }
 }
 
 /// An equal value, whose tables have the same fields as their keys. What copies is the caller's business: inports,
@@ -124,10 +154,8 @@ fn copy_value(alloc: Global, v: &Value) -> Result<Value, AllocError>
         }
         Value::Poly(poly) => {
             let copy = copy_value(alloc, poly.content())?;
-            match Poly::new(alloc, poly.tag(), poly.depth(), copy) {
-                Ok(poly) => Ok(Value::Poly(poly)),
-                Err(_) => Err(AllocError),
-            }
+            let wrapped = wrapped(alloc, poly.tag(), poly.depth(), copy)?;
+            Ok(Value::Poly(wrapped))
         }
         Value::Call(call) => {
             let params = copy_places(alloc, call.params())?;

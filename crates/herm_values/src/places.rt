@@ -1,5 +1,7 @@
 //! Places of rows.
-ghost use Rattle.std.specs.Prelude.{◌≡◌, ◌<◌, ◌≤◌, ◌+◌, ℕ, Some, None, IfSome, IfNone, length, get_or, IfOk, max};
+ghost use Rattle.std.specs.Prelude.{◌≡◌, ◌<◌, ◌≤◌, ◌+◌, ℕ, Some, None, IfSome, IfNone, length, get_or, IfOk, OnOk, max};
+ghost use Rattle.std.specs.Vec.{vec_len, vec_capacity};
+ghost use Rattle.herm_rows.specs.Keys.{most_rows};
 ghost use Rattle.std.specs.List.{position};
 ghost use Rattle.std.specs.Option.{is_none};
 ghost use Rattle.herm_values.specs.Parts.{filled};
@@ -23,53 +25,40 @@ fn first_empty(rows: &[Option<Value>]) -> Option<usize>
 fn empty_place(rows: &[Option<Value>]) -> Option<usize>
     ensures empty { IfSome result (λ place. get_or rows.now place None ≡ None) }
     ensures within { IfSome result (λ place. place < length rows.now) }
+    ensures low { IfSome result (λ place. place ≤ filled rows.now) }
     ensures full { IfNone result (filled rows.now ≡ length rows.now) }
 {
     first_empty(rows)
 }
 
-/// A new place behind the others.
-fn add_place(rows: &mut Vec<Option<Value>>) -> Result<u32, AllocError>
-    ensures same { (i : ℕ) → get_or rows.new.items i None ≡ get_or rows.old.items i None }
-    ensures empty { IfOk result (λ place. get_or rows.new.items place None ≡ None) }
-    ensures within { IfOk result (λ place. place < length rows.new.items) }
-    ensures longer { length rows.new.items ≤ length rows.old.items + 1 }
-    ensures whole { AllWhole rows.old.items → AllWhole rows.new.items }
+/// A place behind the others, for which there is room then.
+fn last_place(rows: &mut Vec<Option<Value>>) -> Result<usize, AllocError>
+    ensures same { rows.new.items ≡ rows.old.items }
+    ensures last { IfOk result (λ place. place ≡ length rows.old.items) }
+    ensures room { OnOk result (vec_len rows.new < vec_capacity rows.new) }
 {
-    let place = number(rows.len())?;
-    rows.push(None)?;
-    Ok(place)
+    rows.reserve(1)?;
+    Ok(rows.len())
 }
 
-/// A place that is empty, where so many have a row. It is a new one only where all have.
-pub fn make_place(rows: &mut Vec<Option<Value>>, used: usize) -> Result<u32, AllocError>
+/// The place for one row more, where so many have a row: the first that is empty, or one behind the others, for which there
+/// is room then.
+pub fn free_place(rows: &mut Vec<Option<Value>>, used: usize) -> Result<u32, AllocError>
     requires used { filled rows.old.items ≤ used }
-    ensures same { (i : ℕ) → get_or rows.new.items i None ≡ get_or rows.old.items i None }
-    ensures empty { IfOk result (λ place. get_or rows.new.items place None ≡ None) }
-    ensures within { IfOk result (λ place. place < length rows.new.items) }
-    ensures few { length rows.new.items ≤ max (length rows.old.items) (used + 1) }
-    ensures whole { AllWhole rows.old.items → AllWhole rows.new.items }
+    requires few { used ≤ most_rows }
+    ensures same { rows.new.items ≡ rows.old.items }
+    ensures empty { IfOk result (λ place. get_or rows.old.items place None ≡ None) }
+    ensures low { IfOk result (λ place. place ≤ used) }
+    ensures within { IfOk result (λ place. place ≤ length rows.old.items) }
+    ensures room { IfOk result (λ place. length rows.old.items ≤ place → vec_len rows.new < vec_capacity rows.new) }
 {
     if used >= rows.len() {
-        let place = add_place(rows)?;
-        return Ok(place);
+        let place = last_place(rows)?;
+        return Ok(place as u32);
     }
     match empty_place(rows.as_slice()) {
-        Some(place) => number(place),
-        None => {
-            let place = add_place(rows)?;
-            Ok(place)
-        }
-    }
-}
-
-/// The number of a place; no memory suffices for more places than there are numbers.
-fn number(place: usize) -> Result<u32, AllocError>
-    ensures { IfOk result (λ n. n ≡ place) }
-{
-    match u32::try_from(place) {
-        Ok(n) => Ok(n),
-        Err(_) => Err(AllocError),
+        Some(place) => Ok(place as u32),
+        None => unreachable!(),
     }
 }
 
@@ -86,13 +75,29 @@ pub fn exchange(rows: &mut Vec<Option<Value>>, place: u32, held: Option<Value>) 
     mem::replace(&mut rows[place as usize], held)
 }
 
-/// Puts a row at a place.
+/// Puts a row behind the others.
+fn add_row(rows: &mut Vec<Option<Value>>, row: Value)
+    requires room { vec_len rows.old < vec_capacity rows.old }
+    ensures put { get_or rows.new.items (length rows.old.items) None ≡ Some row }
+    ensures places { length rows.new.items ≡ length rows.old.items + 1 }
+    ensures others { (i : ℕ) → (i ≡ length rows.old.items → ⊥) → get_or rows.new.items i None ≡ get_or rows.old.items i None }
+    ensures whole { AllWhole rows.old.items → IsWhole row → AllWhole rows.new.items }
+{
+    rows.push_reserved(Some(row));
+}
+
+/// Puts a row at an empty place, or at the one behind the others.
 pub fn put_row(rows: &mut Vec<Option<Value>>, place: u32, row: Value)
-    requires within { place < length rows.old.items }
+    requires within { place ≤ length rows.old.items }
+    requires room { length rows.old.items ≤ place → vec_len rows.old < vec_capacity rows.old }
     ensures put { get_or rows.new.items place None ≡ Some row }
-    ensures places { length rows.new.items ≡ length rows.old.items }
+    ensures places { length rows.new.items ≡ max (length rows.old.items) (place + 1) }
     ensures others { (i : ℕ) → (i ≡ place → ⊥) → get_or rows.new.items i None ≡ get_or rows.old.items i None }
     ensures whole { AllWhole rows.old.items → IsWhole row → AllWhole rows.new.items }
 {
-    let _ = exchange(rows, place, Some(row));
+    if (place as usize) < rows.len() {
+        let _ = exchange(rows, place, Some(row));
+        return;
+    }
+    add_row(rows, row);
 }

@@ -1,23 +1,24 @@
 //! Tables: rows with different keys, in the order of their insertion.
-ghost use Rattle.std.specs.Prelude.{◌≡◌, ◌≤◌, ◌<◌, ◌+◌, max, [], true, length, Some, None, IfSome, IfErr, OnOk, OnErr, drop, get_or, option_map, nat_le, slice_get};
+ghost use Rattle.std.specs.Prelude.{◌≡◌, ◌≤◌, ◌<◌, ◌+◌, ◌&&◌, not, max, [], true, length, Some, None, IfSome, IfOk, IfErr, IsErr, OnOk, OnErr, drop, get_or, option_map, nat_le, slice_get};
+ghost use Rattle.std.specs.Vec.{vec_len, vec_capacity};
 ghost use Rattle.herm_rows.specs.Keys.{most_rows};
-ghost use Rattle.herm_rows.specs.Faults.{refused_row};
+ghost use Rattle.herm_rows.specs.Faults.{refused_row, is_duplicate, is_full};
 ghost use Rattle.herm_rows.specs.Nodes.{HasNode};
 ghost use Rattle.herm_model.specs.Values.{part, no_parts, part_at, joined, size};
 ghost use Rattle.herm_model.specs.Tables.{key_of, has_key, has_distinct_keys};
-ghost use Rattle.herm_values.specs.Keys.{row_with, without_key, Answers};
+ghost use Rattle.herm_values.specs.Keys.{row_with, without_key};
 ghost use Rattle.herm_values.specs.View.{value_view, key_view, row_views, rows_from, table_parts, views_of, places_in};
-ghost use Rattle.herm_values.specs.Whole.{IsWhole, IsWholeTable, IsRowOf, HasOneMore, HasTheSame, HasAllBut};
+ghost use Rattle.herm_values.specs.Whole.{IsWhole, IsWholeTable, IsRowOf, HasOneMore, IsAsItWas, HasAllBut};
 ghost use Rattle.herm_values.specs.declared.value.Value.{size-Value};
 ghost use Rattle.herm_values.specs.declared.value.Table.{size-Table};
 
-use crate::keys::{held_at, key_of};
-use crate::places::{exchange, make_place, put_row};
+use crate::keys::{held_at, is_key_there, key_of};
+use crate::places::{exchange, free_place, put_row};
 use crate::scalar::{KeyRow, Scalar};
 use crate::value::{Table, Value};
 use herm_links::NodeNo;
-use herm_rows::{InsertFault, Rows};
-use std::alloc::Global;
+use herm_rows::{InsertFault, MOST_ROWS, Rows};
+use std::alloc::{AllocError, Global};
 
 impl Table {
     /// A table with these fields as its key, and no rows. It takes no memory.
@@ -119,30 +120,61 @@ impl Table {
         held_at(self.rows.as_slice(), found.place)
     }
 
+    /// The key of a row and the place for it, for which there is room then.
+    fn entry_of(&mut self, row: &Value) -> Result<KeyRow, AllocError>
+        requires whole { IsWholeTable self.old }
+        ensures as_it_was { IsAsItWas self.old self.new }
+        ensures key { IfOk result (λ entry. key_view entry.key.items ≡ key_of self.old.columns.items (value_view row.now)) }
+        ensures empty { IfOk result (λ entry. get_or self.old.rows.items entry.place None ≡ None) }
+        ensures low { IfOk result (λ entry. entry.place ≤ length (row_views self.old)) }
+        ensures within { IfOk result (λ entry. entry.place ≤ length self.old.rows.items) }
+        ensures room { IfOk result (λ entry. length self.old.rows.items ≤ entry.place → vec_len self.new.rows < vec_capacity self.new.rows) }
+    {
+        let key = key_of(*self.columns.allocator(), self.columns.as_slice(), row)?;
+        let place = free_place(&mut self.rows, self.keys.len())?;
+        Ok(KeyRow { key, place })
+    }
+
+    /// Refuses a row for which memory is wanted. Where a row has its key, or there are as many as there may be, that is told.
+    fn refuse(&self, row: Value) -> Result<(), InsertFault<Value>>
+        requires whole { IsWholeTable self.now }
+        ensures duplicate { is_duplicate result ≡ has_key self.now.columns.items (key_of self.now.columns.items (value_view row)) (table_parts self.now) }
+        ensures full { is_full result ≡ (not (has_key self.now.columns.items (key_of self.now.columns.items (value_view row)) (table_parts self.now)) && nat_le most_rows (size (table_parts self.now))) }
+        ensures handed_back { IfErr result (λ fault. refused_row fault ≡ row) }
+        ensures refused { IsErr result }
+    {
+        if is_key_there(&self.keys, self.columns.as_slice(), &row) {
+            return Err(InsertFault::Duplicate(row));
+        }
+        if self.keys.len() >= MOST_ROWS {
+            return Err(InsertFault::Full(row));
+        }
+        Err(InsertFault::Memory(row))
+    }
+
     /// Puts a row behind the others. The place of a removed row is used again, so a table keeps at most one place more
-    /// than its greatest number of rows.
+    /// than its greatest number of rows. Where memory is wanted too, a row with the same key and one row too many are told
+    /// all the same.
     pub fn insert(&mut self, row: Value) -> Result<(), InsertFault<Value>>
         requires whole { IsWholeTable self.old }
         requires row { IsWhole row }
-        ensures answer { Answers (has_key self.old.columns.items (key_of self.old.columns.items (value_view row)) (table_parts self.old)) (nat_le most_rows (size (table_parts self.old))) result }
         ensures inserted { OnOk result (table_parts self.new ≡ joined (table_parts self.old) (part (value_view row) no_parts)) }
+        ensures duplicate { is_duplicate result ≡ has_key self.old.columns.items (key_of self.old.columns.items (value_view row)) (table_parts self.old) }
+        ensures full { is_full result ≡ (not (has_key self.old.columns.items (key_of self.old.columns.items (value_view row)) (table_parts self.old)) && nat_le most_rows (size (table_parts self.old))) }
         ensures unchanged { OnErr result (table_parts self.new ≡ table_parts self.old) }
+        ensures as_it_was { OnErr result (IsAsItWas self.old self.new) }
         ensures handed_back { IfErr result (λ fault. refused_row fault ≡ row) }
         ensures columns { self.new.columns ≡ self.old.columns }
         ensures row_itself { OnOk result (HasOneMore self.old self.new row) }
-        ensures rows_themselves { OnErr result (HasTheSame self.old self.new) }
         ensures places { places_in self.new ≤ max (places_in self.old) (length (row_views self.old) + 1) }
         ensures whole { IsWholeTable self.new }
     {
-        let key = match key_of(*self.columns.allocator(), self.columns.as_slice(), &row) {
-            Ok(key) => key,
-            Err(_) => return Err(InsertFault::Memory(row)),
+        let entry = match self.entry_of(&row) {
+            Ok(entry) => entry,
+            Err(_) => return self.refuse(row),
         };
-        let place = match make_place(&mut self.rows, self.keys.len()) {
-            Ok(place) => place,
-            Err(_) => return Err(InsertFault::Memory(row)),
-        };
-        match self.keys.insert(KeyRow { key, place }) {
+        let place = entry.place;
+        match self.keys.insert(entry) {
             Ok(()) => {
                 put_row(&mut self.rows, place, row);
                 Ok(())

@@ -315,3 +315,68 @@ fn a_value_meets_exactly_what_it_has(rt: HostRuntime) -> Result<(), Fail> {
     assert!(rt; has_just(alloc, &Value::Int(0), "a ")?);
     Ok(())
 }
+
+/// A table of the rows 1, 2 and 3.
+fn three_rows(alloc: Global) -> Result<Table, AllocError>
+    ensures { IfOk result IsWholeTable }
+{
+    let mut table = empty_table(alloc)?;
+    put(alloc, &mut table, 1)?;
+    put(alloc, &mut table, 2)?;
+    put(alloc, &mut table, 3)?;
+    Ok(table)
+}
+
+/// The table of three rows as a value.
+fn table_value(alloc: Global) -> Result<Value, AllocError> {
+    let table = three_rows(alloc)?;
+    let boxed = Box::new(alloc, table)?;
+    Ok(Value::Table(boxed))
+}
+
+/// Whether values are counted and looked at.
+fn are_looked_at(v: &Value, facts: &[Fact], table: &Value) -> bool {
+    counts(v, 7, 2) && meets(v, facts) && counts(table, 7, 0)
+}
+
+/// Whether the second row of three is found, refused once more, and taken out.
+fn is_found_and_taken(table: &mut Table, again: Value, key: &Vec<Scalar>) -> bool
+    requires table { IsWholeTable table.old }
+    requires row { IsWhole again }
+{
+    let found = table.find(key).is_some() && is_at(table, 1, 2);
+    let refused = is_duplicate(table.insert(again));
+    let taken = table.remove(key).is_some() && table.find(key).is_none();
+    found && refused && taken && is_at(table, 1, 3)
+}
+
+/// Whether an insertion was refused since a row has the key.
+fn is_duplicate(answer: Result<(), InsertFault<Value>>) -> bool {
+    match answer {
+        Err(InsertFault::Duplicate(_)) => true,
+        _ => false,
+    }
+}
+
+/// Behind `work.reserve` nothing takes memory but the key of the row that is refused, and a row with that key is told all the
+/// same where the key finds none: `rt try --test --fail-alloc 45` fails that allocation.
+#[test]
+fn calls_that_take_no_memory_go_on_where_it_is_wanted(rt: HostRuntime) -> Result<(), Fail> {
+    let alloc = rt.alloc();
+    let v = record_with_variant(alloc)?;
+    let facts = facts(alloc, "a aa ac aca ad ")?;
+    let counted = table_value(alloc)?;
+    let deep = record(alloc)?;
+    let mut table = three_rows(alloc)?;
+    let again = row(alloc, 2)?;
+    let mut key = Vec::new(alloc);
+    key.push(Scalar::Int(2))?;
+    let mut work = Work::new(alloc);
+    work.reserve(2)?;
+    assert!(rt; are_looked_at(&v, facts.as_slice(), &counted) && poly_depth(&deep) == 1);
+    assert!(rt; is_found_and_taken(&mut table, again, &key));
+    let_go(v, &mut work)?;
+    assert!(rt; answers(&mut work, 2, 9) && closes(&mut work, 4));
+    assert!(rt; work.front().is_none());
+    Ok(())
+}

@@ -5,8 +5,19 @@ use Rattle.herm_rows.specs.Keys.{rows_of}
 use Rattle.herm_rows.specs.Nodes.{place_at}
 use Rattle.herm_values.specs.Copies.{key_row_view}
 use Rattle.herm_values.proofs.Copied.{keys-more}
+use Rattle.herm_values.proofs.NewKeys.{new-key, few-copied}
 use Rattle.herm_values.proofs.Walked.{none-keys}
 use Rattle.herm_values.proofs.copying.copy_keys.Goals as goal
+
+pub add_key-requires : goal.add_key-requires
+add_key-requires c =
+    let n = place_at c.args.keys.now (Some c.in-Some.node) in
+    let at = slice_get-map (λ e. e.1) c.args.keys.now n ∙ ap (option_map (λ e. e.1)) c.row.ensures.place in
+    let so-far = ap (λ start. map key_row_view (rows_of c.keys.copies) ++ map key_row_view (drop (place_at c.args.keys.now start) (rows_of c.args.keys.now))) (sym c.in-Some.is) ∙ c.keys.invariant.whole in
+    record {
+      new = new-key (rows_of c.args.keys.now) (rows_of c.keys.copies) n c.row.result.now c.in_ok-row.row c.len.ensures.keys at c.in_ok-row.ensures so-far;
+      few = few-copied (rows_of c.args.keys.now) (rows_of c.keys.copies) n c.row.result.now at so-far c.len.ensures.few;
+    }
 
 pub keys-preserved : goal.keys-preserved
 keys-preserved c = record {
