@@ -2,7 +2,6 @@ pub mod Behind
 pub mod CallMoves
 pub mod CallNumbers
 pub mod SourceKeeps
-pub mod FirstMessages
 pub mod SourceBegins
 pub mod CheckedRuns
 pub mod ReadyLabels

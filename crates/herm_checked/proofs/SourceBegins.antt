@@ -35,7 +35,7 @@ use Rattle.herm_source.proofs.sound.SoundProcesses.{steps-there}
 use Rattle.herm_sound.specs.Standing.{AllStand}
 use Rattle.herm_sound.specs.SoundMachines.{BeginsSound, GoesOn, KeepsLimits}
 use Rattle.herm_checked.proofs.Behind.{behind}
-use Rattle.herm_checked.proofs.FirstMessages.{types, first-message, first-stands}
+use Rattle.herm_sound.proofs.FirstMessages.{types, first-message, first-stands}
 use Rattle.herm_checked.proofs.SourceKeeps.{first, begins-there, source-keeps-sound}
 
 module _ (exceptions : ℕ) (program : Program) (modules : Modules) (checked : IsChecked exceptions program modules) where

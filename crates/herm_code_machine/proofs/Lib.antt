@@ -13,3 +13,4 @@ pub mod TrimmedExcess
 pub mod ExpressionValues
 pub mod CodeCalls
 pub mod counted
+pub mod placed

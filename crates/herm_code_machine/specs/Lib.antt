@@ -10,6 +10,7 @@ pub mod CodeSeen
 pub mod Beside
 pub mod CodeLocal
 pub mod CodeInstance
+pub mod CodeTypes
 pub mod CodeRenaming
 pub mod examples
 pub mod laws

@@ -11,6 +11,7 @@ pub mod OpenCalls
 pub mod KeptCalls
 pub mod KeptStanding
 pub mod KeptSound
+pub mod FirstMessages
 pub mod OpeningSound
 pub mod NotStuck
 pub mod ActOnce

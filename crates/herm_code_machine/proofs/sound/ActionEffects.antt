@@ -127,6 +127,11 @@ module _ (x : ℕ) (image : Image) (formed : IsWellFormedTable x image.types) (l
   pub record Acts (i : Instruction) : Type 0 where
     pub want : CellWant Name
     pub wanted : code_wants name c i stack b ≡ Some want
+    -- the form that the action does, and what it finds
+    pub form : Form
+    pub is : IsTypedIn x (processes x image formed ls m known labels name W) (c).scope form
+    pub needed : (f : Fact) → IsIn f (needs image.types m.variables form) → IsTrue (has_of l f)
+    pub as_form : code_wants name c i stack b ≡ wants name (c).scope form b
     pub answers : (steps actions at : ℕ) (a : CellAction Name) → Answers want a → TakesMessage c i b at a → GoesWell x image m W c i l (code_settles name c i stack at a (recount steps actions b))
 
   -- the form that an action does, and what it finds
@@ -199,6 +204,10 @@ module _ (x : ℕ) (image : Image) (formed : IsWellFormedTable x image.types) (l
       record {
         want = w.0;
         wanted = (d.same b.steps b.actions).wanted stack ∙ w.1;
+        form = form;
+        is = is;
+        needed = needed;
+        as_form = (d.same b.steps b.actions).wanted stack;
         answers = λ steps actions at a h takes. subst (GoesWell x image m W c i l) (sym ((d.same steps actions).answers stack at a)) (answered steps actions i form d is needed w.0 w.1 at a h takes);
       }
 

@@ -34,6 +34,7 @@ use Rattle.herm_forms.specs.laws.CallLaws.{without_lent}
 use Rattle.herm_forms.specs.Incoming.{ComesIn, looked_at}
 use Rattle.herm_forms.specs.laws.TypedForms.{IsTypedIn}
 use Rattle.herm_forms.proofs.KeptBodies.{All, went, stayed, never, is-arrive, all-work}
+use Rattle.herm_forms.proofs.called.SetArguments.{typed-called}
 use Rattle.herm_forms.proofs.typed.EachGoes.{each-goes}
 use Rattle.herm_source.proofs.incoming.SuitsPorts.{find-some}
 use Rattle.herm_forms.proofs.forms.NewValues.{typed-by}
@@ -299,7 +300,7 @@ module _ (exceptions : ℕ) (types : TypeTable) (processes : List Process) (p : 
           by : (form : Form) → calling_form form ≡ Some k → IsTypedIn exceptions processes c form → Found c form (labels here.place) → IsTaken (outcomes types p.variables form) (settle_reply c form m (hear i r) (counted_action s.frame))
           by (Call o arguments) form typed found =
               let e : record { port = o; arguments = arguments } ≡ k = some-injective form in
-              reply-taken exceptions processes c o arguments typed (labels here.place) found m i r (counted_action s.frame) same (subst (λ k. IsReply c k r) (sym e) reply) (subst (λ k. AreSound c (without_lent c k (labels here.place)) s.frame.variables) (sym e) values)
+              reply-taken exceptions c o arguments (typed-called exceptions processes c o arguments typed) (labels here.place) found m i r (counted_action s.frame) same (subst (λ k. IsReply c k r) (sym e) reply) (subst (λ k. AreSound c (without_lent c k (labels here.place)) s.frame.variables) (sym e) values)
           by form' form typed found = none-not_some form
 
       -- the reply to an open call
