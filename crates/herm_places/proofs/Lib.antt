@@ -1,0 +1,4 @@
+pub mod Read
+pub mod Changed
+pub mod Forgotten
+pub mod Put
