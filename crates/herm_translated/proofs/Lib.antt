@@ -1,0 +1,15 @@
+pub mod Joined
+pub mod Lengths
+pub mod Addresses
+pub mod ListedLabels
+pub mod EdgeLabels
+pub mod LabelsStand
+pub mod FrontWays
+pub mod NamedOutcomes
+pub mod FoundConstants
+pub mod Handing
+pub mod EdgesLabelled
+pub mod EachInstruction
+pub mod StructureKept
+pub mod NamedIndices
+pub mod LinkedProcess

@@ -1,0 +1,9 @@
+pub mod Constants
+pub mod Fronts
+pub mod Departures
+pub mod CodeBlocks
+pub mod Layout
+pub mod BlockLabels
+pub mod Translated
+pub mod laws
+pub mod examples

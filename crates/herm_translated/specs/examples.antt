@@ -1,0 +1,3 @@
+-- Code of small programs.
+pub mod CheckedByRounds
+pub mod CodeOfPrograms

@@ -1,0 +1,31 @@
+// Laws of the code of small programs.
+
+ghost use Rattle.std.specs.Prelude.{[], ◌∷◌, ◌≡◌, true};
+ghost use Rattle.herm_instructions.specs.tests.GoodTests.{is_good};
+ghost use Rattle.herm_source.specs.examples.Programs.{greeting, left_loop, two_senders, refused_insert, waiting_select};
+ghost use Rattle.herm_source.specs.examples.CallPrograms.{kept_parameter};
+ghost use Rattle.herm_source.specs.examples.CheckedExamples.{nested_loops};
+ghost use Rattle.herm_translated.specs.examples.CheckedByRounds.{image_by};
+ghost use Rattle.herm_translated.specs.examples.CodeOfPrograms.{HasLines, ListsIndices, greeting_lines, left_loop_lines, nested_loops_lines, sender_lines};
+
+/// The images of small programs pass the test of good code.
+pub fn images_are_good()
+    ensures greeting { is_good 7 (image_by 2 greeting) ≡ true }
+    ensures loop_left { is_good 7 (image_by 3 left_loop) ≡ true }
+    ensures nested { is_good 7 (image_by 3 nested_loops) ≡ true }
+    ensures tried { is_good 7 (image_by 3 refused_insert) ≡ true }
+    ensures select { is_good 7 (image_by 3 waiting_select) ≡ true }
+    ensures call { is_good 8 (image_by 3 kept_parameter) ≡ true }
+    ensures senders { is_good 7 (image_by 3 (two_senders 2)) ≡ true }
+{}
+
+/// The code of small programs is what is written by hand.
+pub fn code_is_as_by_hand()
+    ensures greeting { HasLines (image_by 2 greeting) 0 greeting_lines }
+    ensures greeting_labels { ListsIndices (image_by 2 greeting) 0 (1 ∷ 4 ∷ 8 ∷ 11 ∷ []) }
+    ensures loop_left { HasLines (image_by 3 left_loop) 0 left_loop_lines }
+    ensures loop_labels { ListsIndices (image_by 3 left_loop) 0 (1 ∷ 4 ∷ 7 ∷ 10 ∷ 14 ∷ 17 ∷ 18 ∷ 19 ∷ 22 ∷ 26 ∷ 29 ∷ 30 ∷ 31 ∷ 35 ∷ 37 ∷ 38 ∷ 43 ∷ 46 ∷ 47 ∷ []) }
+    ensures nested { HasLines (image_by 3 nested_loops) 0 nested_loops_lines }
+    ensures sender { HasLines (image_by 3 (two_senders 2)) 0 sender_lines }
+    ensures sender_labels { ListsIndices (image_by 3 (two_senders 2)) 0 (1 ∷ 4 ∷ 8 ∷ 14 ∷ 15 ∷ 18 ∷ 22 ∷ 26 ∷ 29 ∷ 30 ∷ 36 ∷ []) }
+{}
