@@ -14,3 +14,4 @@ pub mod ExpressionValues
 pub mod CodeCalls
 pub mod counted
 pub mod placed
+pub mod SoundImageStates

@@ -3,3 +3,8 @@ pub mod TypedPlaces
 pub mod ReadPlaces
 pub mod RowsOfSlots
 pub mod StandEffects
+pub mod HeldPlaces
+pub mod ActionsStand
+pub mod CallsStand
+pub mod CodeStanding
+pub mod ImageStanding

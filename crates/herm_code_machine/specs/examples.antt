@@ -3,3 +3,4 @@ pub mod CodeByHand
 pub mod CallingCode
 pub mod BranchingCode
 pub mod CodeRuns
+pub mod StuckCode

@@ -6,3 +6,4 @@ pub mod SoundLaws
 pub mod ExpressionLaws
 pub mod TrimLaws
 pub mod GoodImageLaws
+pub mod SoundImageLaws

@@ -6,7 +6,13 @@ ghost use Rattle.herm_code_machine.specs.examples.CodeByHand.{greeting_image, le
 ghost use Rattle.herm_code_machine.specs.examples.CodeRuns.{code_ending, in_lines, limited};
 ghost use Rattle.herm_system.specs.RunTexts.{plainly, the_journal, with_summary};
 ghost use Rattle.herm_instructions.specs.tests.GoodTests.{is_good};
-ghost use Rattle.std.specs.Prelude.{List, Some, [], codes, true, ◌∷◌, ◌≡◌};
+ghost use Rattle.herm_model.specs.TypedPrograms.{main_start};
+ghost use Rattle.herm_code_machine.specs.CodeTypes.{first_type};
+ghost use Rattle.herm_code_machine.specs.ReadyCode.{labelled_image};
+ghost use Rattle.herm_code_machine.specs.laws.GoodImageLaws.{IsGoodOver};
+ghost use Rattle.herm_code_machine.specs.examples.StuckCode.{can_begin, mended_code, stuck_code};
+ghost use Rattle.herm_instructions.specs.laws.CodeExampleLaws.{broken_in_example};
+ghost use Rattle.std.specs.Prelude.{List, Some, [], codes, false, map, replicate, true, ◌∷◌, ◌≡◌};
 
 /// The code of a greeting runs to one line on the console, and four of the six cells are finalised.
 pub fn greeting_is_shown()
@@ -175,4 +181,21 @@ pub fn code_by_hand_is_good()
     ensures caught { is_good 8 caught_row ≡ true }
     ensures answered { is_good 8 (asks answering_code) ≡ true }
     ensures lost { is_good 8 (asks losing_code) ≡ true }
+{}
+
+/// Code that calls meets what the laws of good images ask: with a parameter of mode in, one that comes back and an exception that keeps it,
+/// and with one of mode out that is answered. It is good over a well-formed table, and the port of its main is of the type main_start.
+pub fn calling_code_meets_the_laws()
+    ensures kept { IsGoodOver 8 kept_parameter }
+    ensures answered { IsGoodOver 8 (asks answering_code) }
+    ensures kept_main { first_type (labelled_image kept_parameter 1) 1 ≡ Some main_start }
+    ensures answered_main { first_type (labelled_image (asks answering_code) 1) 1 ≡ Some main_start }
+{}
+
+/// Code that breaks one rule alone, of which no process can begin; and, mended, code that is good, of which each can.
+pub fn broken_code_stands_still()
+    ensures broken { map (λ e. broken_in_example e.example) stuck_code ≡ map (λ e. e.broken) stuck_code }
+    ensures stuck { map (λ e. can_begin e.example) stuck_code ≡ replicate 8 false }
+    ensures good { map (λ e. broken_in_example e.example) mended_code ≡ replicate 5 [] }
+    ensures begun { map (λ e. can_begin e.example) mended_code ≡ replicate 5 true }
 {}

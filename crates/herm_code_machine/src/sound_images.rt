@@ -1,4 +1,4 @@
-// What the laws of sound systems ask of a machine, of the machine of images whose code is good.
+// What the laws of sound systems ask of a machine, of the machine of images whose code is good; and those laws of it.
 
 ghost use Rattle.std.specs.Prelude.{ℕ, Some, ◌≡◌};
 ghost use Rattle.herm_model.specs.TypedPrograms.{main_start};
@@ -12,6 +12,7 @@ ghost use Rattle.herm_code_machine.specs.CodeLocal.{IsSoundCodeIn};
 ghost use Rattle.herm_code_machine.specs.CodeStates.{CodeState};
 ghost use Rattle.herm_code_machine.specs.CodeTypes.{first_type, new_type};
 ghost use Rattle.herm_code_machine.specs.laws.GoodImageLaws.{IsGoodOver};
+ghost use Rattle.herm_code_machine.specs.laws.SoundImageLaws.{ImageActionsAreDone, ImageActionsAreDoneOnce, ImageNoneIsStuck, ImageOpeningIsSound, ImageRunsAreSound, ImageRunsEnd, ImageRunsKeepSound, ImageStatesAlong, ImageStepsKeepSound, ImageStepsKeepTypes, ImagesKeepStanding};
 
 /// A process begins sound within itself and with no call open, and stays so along local steps and along each answer with which what
 /// suits comes in; a call opens where its callmessage is placed, and closes where its reply is heard.
@@ -42,4 +43,46 @@ pub fn waiting_is_counted()
 /// type, whose cells stand at places of their types.
 pub fn main_begins_sound()
     ensures begins { (exceptions : ℕ) (image : Image) (main : ℕ) → IsGoodOver exceptions image → first_type (labelled_image image main) main ≡ Some main_start → BeginsSound (code_machine (labelled_image image main)) (first_type (labelled_image image main)) }
+{}
+
+/// Inports, outports and callmessages stay at places of their types, in variables, in slots and, of outports, on the stack: as a process
+/// begins, along local steps, and along each answer to what it wants, where what comes in suits and stands so, and what it makes; and what
+/// goes out stands so too.
+pub fn places_stay_typed()
+    ensures standing { ImagesKeepStanding }
+{}
+
+/// What an event leaves of a sound image state is a sound image state, whatever the event and whatever wrote the code; and the types of the
+/// ports stay. So is what a list of events leaves.
+pub fn events_keep_images_sound()
+    ensures steps { ImageStepsKeepSound }
+    ensures types { ImageStepsKeepTypes }
+    ensures runs { ImageRunsKeepSound }
+{}
+
+/// Where the port of main is of the type main_start, the state at the start is sound, with any text as the argument; so is each state that
+/// events lead to from there, whatever the schedule, and each along a journal.
+pub fn runs_of_images_are_sound()
+    ensures opening { ImageOpeningIsSound }
+    ensures runs { ImageRunsAreSound }
+    ensures along { ImageStatesAlong }
+{}
+
+/// No process of a sound image state is stuck: each that is to make a local step makes it, each that can act can do so at some place, and
+/// at each place where something of what it wants can be done; and each that can do nothing of what it wants waits for a message at open ports,
+/// or for the reply to its open call.
+pub fn no_process_of_an_image_is_stuck()
+    ensures none { ImageNoneIsStuck }
+{}
+
+/// In a sound image state a port that is closed was open, and a call that is answered is open and has no answer yet. So along a run no port is
+/// closed twice, and no call is answered twice; and one that is open was answered, or has its callmessage.
+pub fn actions_of_images_are_done_once()
+    ensures done { ImageActionsAreDone }
+    ensures once { ImageActionsAreDoneOnce }
+{}
+
+/// The limits bound the events of a run, and so many rounds, and one more, reach a state in which no process can step.
+pub fn runs_of_images_end()
+    ensures end { ImageRunsEnd }
 {}

@@ -20,7 +20,7 @@ use Rattle.herm_code_machine.proofs.sound.AtLabels.{Holds, Finds}
 use Rattle.herm_code_machine.proofs.sound.CopiedStacks.{AreCopied}
 
 -- values of copyable types
-stack-plain : (types : TypeTable) (ts : List ℕ) (stack : List Value) → AreFull types ts stack → AreCopied types ts → AllKinds IsPlainKind stack
+pub stack-plain : (types : TypeTable) (ts : List ℕ) (stack : List Value) → AreFull types ts stack → AreCopied types ts → AllKinds IsPlainKind stack
 stack-plain types [] [] h copied = tt
 stack-plain types [] (v ∷ stack) h copied = absurd h
 stack-plain types (t ∷ ts) [] h copied = absurd h

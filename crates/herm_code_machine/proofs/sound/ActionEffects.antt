@@ -1,11 +1,11 @@
 -- Each action of good code but a call wants what is there, and each answer to it goes on where control goes, and leaves what the label
 -- behind it says.
-use Rattle.std.proofs.Common.{◌≡◌, ◌⊎◌, inl, inr, ℕ, suc, List, [], ◌∷◌, ◌++◌, map, true, Option, Some, option_and_then, refl, sym, ap, subst, ◌∙◌}
+use Rattle.std.proofs.Common.{◌≡◌, ◌⊎◌, inl, inr, ℕ, suc, List, [], ◌∷◌, ◌++◌, map, true, Option, Some, None, option_and_then, refl, sym, ap, subst, ◌∙◌}
 use Rattle.std.specs.Prelude.{slice_get, find, is_some, IsTrue, ⊤}
 use mathlib.Core.Bool.{false≢true}
 use Rattle.herm_model.specs.Lists.{IsIn, numbered}
 use Rattle.herm_model.specs.Paths.{Path, Fact}
-use Rattle.herm_model.specs.Types.{type_at}
+use Rattle.herm_model.specs.Types.{TypeTable, type_at}
 use Rattle.herm_model.specs.ControlPaths.{held_after_edge}
 use Rattle.herm_model.specs.Targets.{end}
 use Rattle.herm_model.specs.Expressions.{Literal}
@@ -51,6 +51,7 @@ use Rattle.herm_code_machine.specs.CodeActions.{code_wants, code_settles}
 use Rattle.herm_code_machine.specs.CodeLocal.{AreSlots}
 use Rattle.herm_code_machine.specs.CodeLocal
 use Rattle.herm_code_machine.specs.CodeSeen.{ports_of}
+use Rattle.herm_code_machine.specs.CodeTypes.{type_made}
 use Rattle.herm_code_machine.specs.laws.InstructionLaws.{ActsAsForm, DoForms}
 use Rattle.herm_code_machine.proofs.DoneForms.{instructions-do-forms, ports-same}
 use Rattle.herm_code_machine.proofs.TrimmedExcess.{trims-are_excess}
@@ -106,6 +107,11 @@ abbrev pub TakesMessage : ReadyCode → Instruction → Frame Name → (at : ℕ
 TakesMessage c i b at (take k m) = (t : ℕ) × (looked_by c i b at ≡ Some t) × IsMessage c.scope.types t m
 TakesMessage c i b at a = ⊤
 
+-- the type of the value that a form makes
+abbrev pub made_by : TypeTable → List ℕ → Form → Option ℕ
+made_by types variables (Form.New x) = type_at types variables x
+made_by types variables form = None
+
 arms-numbered : (k : ℕ) (choices : List Choice) (o : Outcome) → IsIn o (arms_from k (map arm_of choices)) → (n : ℕ) × (x : Choice) × IsIn (n, x) (numbered k choices) × (o ≡ arm n)
 arms-numbered k [] o h = absurd h
 arms-numbered k (x ∷ choices) o (inl e) = (k, x, inl refl, e)
@@ -132,6 +138,13 @@ module _ (x : ℕ) (image : Image) (formed : IsWellFormedTable x image.types) (l
     pub is : IsTypedIn x (processes x image formed ls m known labels name W) (c).scope form
     pub needed : (f : Fact) → IsIn f (needs image.types m.variables form) → IsTrue (has_of l f)
     pub as_form : code_wants name c i stack b ≡ wants name (c).scope form b
+    pub acts : IsTrue (is_action (c).scope form)
+    pub no_call : IsCall form → ⊥
+    pub same_stack : behind_stack image m c i l ≡ l.stack
+    pub same_slots : slots_behind image.types m.variables i l.slots ≡ l.slots
+    pub ports : ports_of i ≡ incoming.ports_of form
+    pub makes : type_made i ≡ made_by image.types m.variables form
+    pub settles : (steps actions at : ℕ) (a : CellAction Name) → code_settles name c i stack at a (recount steps actions b) ≡ leaving stack (settle name (c).scope form at a (recount steps actions b))
     pub answers : (steps actions at : ℕ) (a : CellAction Name) → Answers want a → TakesMessage c i b at a → GoesWell x image m W c i l (code_settles name c i stack at a (recount steps actions b))
 
   -- the form that an action does, and what it finds
@@ -143,6 +156,7 @@ module _ (x : ℕ) (image : Image) (formed : IsWellFormedTable x image.types) (l
     same_stack : behind_stack image m c i l ≡ l.stack
     same_slots : slots_behind image.types m.variables i l.slots ≡ l.slots
     ports : ports_of i ≡ incoming.ports_of form
+    makes : type_made i ≡ made_by image.types m.variables form
     same : (steps actions : ℕ) → ActsAsForm name c 0 (recount steps actions b) i form
     ways : (o : Outcome) → IsIn o (outcomes image.types m.variables form) → W o
     meets : (w : CellWant Name) → wants name (c).scope form b ≡ Some w → (a : CellAction Name) → Answers w a → Meets a form
@@ -208,6 +222,13 @@ module _ (x : ℕ) (image : Image) (formed : IsWellFormedTable x image.types) (l
         is = is;
         needed = needed;
         as_form = (d.same b.steps b.actions).wanted stack;
+        acts = d.acts;
+        no_call = d.no_call;
+        same_stack = d.same_stack;
+        same_slots = d.same_slots;
+        ports = d.ports;
+        makes = d.makes;
+        settles = λ steps actions at a. (d.same steps actions).answers stack at a;
         answers = λ steps actions at a h takes. subst (GoesWell x image m W c i l) (sym ((d.same steps actions).answers stack at a)) (answered steps actions i form d is needed w.0 w.1 at a h takes);
       }
 
@@ -227,6 +248,7 @@ module _ (x : ℕ) (image : Image) (formed : IsWellFormedTable x image.types) (l
     same_stack = refl;
     same_slots = refl;
     ports = refl;
+    makes = sym finds.typed.1;
     same = λ steps actions. (does steps actions).new_inport p t;
     ways = way-one (New p t) (Form.New p) finds refl refl refl;
     meets = λ w e a h. meets-port p a (subst (λ w. Answers w a) (sym (some-injective e)) h);
@@ -241,6 +263,7 @@ module _ (x : ℕ) (image : Image) (formed : IsWellFormedTable x image.types) (l
     same_stack = refl;
     same_slots = refl;
     ports = refl;
+    makes = refl;
     same = λ steps actions. (does steps actions).create o n;
     ways = way-one (Create o n) (Form.Create o n) finds refl refl refl;
     meets = λ w e a h. meets-process o n a (subst (λ w. Answers w a) (sym (some-injective e)) h);
@@ -255,6 +278,7 @@ module _ (x : ℕ) (image : Image) (formed : IsWellFormedTable x image.types) (l
     same_stack = refl;
     same_slots = refl;
     ports = refl;
+    makes = refl;
     same = λ steps actions. (does steps actions).receive p i;
     ways = way-one (Receive p i) (Form.Receive p i) finds refl refl refl;
     meets = λ w e a h. let k = take-want name (c).scope b w p i e in meets-receive k.0 p i a (subst (λ w. Answers w a) (sym k.1) h);
@@ -269,6 +293,7 @@ module _ (x : ℕ) (image : Image) (formed : IsWellFormedTable x image.types) (l
     same_stack = refl;
     same_slots = refl;
     ports = ports-same choices;
+    makes = refl;
     same = λ steps actions. (does steps actions).select choices;
     ways = ways;
     meets = λ w e a h. let k = select-want name (c).scope b w (map arm_of choices) e in meets-select k.0 (map arm_of choices) a (subst (λ w. Answers w a) (sym k.1) h);
@@ -292,6 +317,7 @@ module _ (x : ℕ) (image : Image) (formed : IsWellFormedTable x image.types) (l
     same_stack = refl;
     same_slots = refl;
     ports = refl;
+    makes = refl;
     same = λ steps actions. (does steps actions).return p;
     ways = way-one (Return p) (Form.Return p) finds refl refl refl;
     meets = λ w e a h. let k = return-want name (c).scope b w values (given_back (c).scope (given_at (c).scope p) b) p e in meets-return k.0 k.1 k.2 p a (subst (λ w. Answers w a) (sym k.3) h);
@@ -306,6 +332,7 @@ module _ (x : ℕ) (image : Image) (formed : IsWellFormedTable x image.types) (l
     same_stack = refl;
     same_slots = refl;
     ports = refl;
+    makes = refl;
     same = λ steps actions. (does steps actions).return_by p e kept finds.keeps;
     ways = way-one (ReturnBy p e kept) (Form.ReturnBy p e) finds refl refl refl;
     meets = λ w f a h. let k = return-want name (c).scope b w (Actions.raised e) (given_back (c).scope (given_by (c).scope p e) b) p f in meets-return_by k.0 k.1 k.2 p e a (subst (λ w. Answers w a) (sym k.3) h);
@@ -325,6 +352,7 @@ module _ (x : ℕ) (image : Image) (formed : IsWellFormedTable x image.types) (l
         same_stack = refl;
         same_slots = refl;
         ports = refl;
+        makes = refl;
         same = λ steps actions. (does steps actions).send (i ∷ q) o trim excess;
         ways = way-one (Send (i ∷ q) o trim) (Form.Send (i ∷ q) o) finds refl refl refl;
         meets = λ w e a h. let k = send-want name (c).scope b w (i ∷ q) o e in meets-put k.0 k.1 (i ∷ q) o a (subst (λ w. Answers w a) (sym k.3) h);

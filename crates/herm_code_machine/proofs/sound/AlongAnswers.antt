@@ -73,7 +73,7 @@ module _ (exceptions' : ℕ) (image : Image) (good : IsGood exceptions' image) (
         ∙ ap (λ b. let e = code_settles name code met.instruction (acting.there).before at a b in settled name code s met.index met.instruction e.stack e.completion) (counted-is exceptions' image good formed m in-image name p.has_step s.frame)) ∙ is
 
     -- the answer to an action but a call
-    plain-along : (IsCall met.instruction → ⊥) → (want : CellWant Name) → wanted_next name code s (an_action p met) ≡ Some want → Answers want a → TakesMessage code met.instruction s.frame at a
+    pub plain-along : (IsCall met.instruction → ⊥) → (want : CellWant Name) → wanted_next name code s (an_action p met) ≡ Some want → Answers want a → TakesMessage code met.instruction s.frame at a
         → GoesSo met.instruction (acting.there).label (completed).stack (completed).completion → settle_next name code s at a (an_action p met) ≡ Some t → ComesSo t
     plain-along none want wanted h takes so is =
         let x = acting.there in

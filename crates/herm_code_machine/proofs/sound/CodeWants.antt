@@ -94,7 +94,7 @@ flat-more : {X Y : Type 0} (f : X → List Y) (y : Y) (xs ys : List X) → IsIn 
 flat-more f y xs ys h = let k = in-flat_map_from f y xs h in in-flat_map f k.0 y (xs ++ ys) (in-append_left k.0 xs ys k.1) k.2
 
 -- the process of a module's variables, by which its port is typed
-abbrev process_of : CodeModule → Process
+abbrev pub process_of : CodeModule → Process
 process_of m = record { variables = m.variables; body = no_statements }
 
 module _ (exceptions' : ℕ) (image : Image) (main : ℕ) (good : IsGoodOver exceptions' image) where
@@ -102,7 +102,7 @@ module _ (exceptions' : ℕ) (image : Image) (main : ℕ) (good : IsGoodOver exc
   ready = labelled_image image main
 
   -- the module that a `Create` names
-  created : (n port : ℕ) → TypedStatements.port_type (processes_of image.modules) n ≡ Some port → (m : CodeModule) × (slice_get image.modules n ≡ Some m) × (slice_get m.variables 0 ≡ Some port)
+  pub created : (n port : ℕ) → TypedStatements.port_type (processes_of image.modules) n ≡ Some port → (m : CodeModule) × (slice_get image.modules n ≡ Some m) × (slice_get m.variables 0 ≡ Some port)
   created n port e =
       let p = chain-some (λ (p : Process). slice_get p.variables 0) (slice_get (processes_of image.modules) n) port e in
       let m = map-some process_of (slice_get image.modules n) p.0 (sym (slice_get-map process_of image.modules n) ∙ p.1) in

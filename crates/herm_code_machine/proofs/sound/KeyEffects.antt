@@ -50,7 +50,7 @@ pop-full types (t ∷ ts) others acc taken (v ∷ stack) h k =
     let r = pop-full types ts others (t ∷ acc) (v ∷ taken) stack h.1 (h.0, k) in
     record { values = r.values; rest = r.rest; is = r.is; whole = r.whole; left = r.left }
 
-turned-reverse : (ts acc : List ℕ) → turned ts acc ≡ reverse ts ++ acc
+pub turned-reverse : (ts acc : List ℕ) → turned ts acc ≡ reverse ts ++ acc
 turned-reverse ts acc = by ts acc
   where
     by : (ts acc : List ℕ) → turned ts acc ≡ reverse ts ++ acc

@@ -79,7 +79,7 @@ module _ (exceptions' : ℕ) (image : Image) (main : ℕ) (good : IsGoodOver exc
       by None = refl
       by (Some c) = closed-call c x e
 
-  idle-before : (c : ReadyCode) (x y : CodeState Name) → code_local_step own_name c x ≡ Some y → x.frame.call ≡ None
+  pub idle-before : (c : ReadyCode) (x y : CodeState Name) → code_local_step own_name c x ≡ Some y → x.frame.call ≡ None
   idle-before c x y e = by (code_next c x) (comes-next c x) e
     where
       by : (next : CodeNext Name) → ComesNext c x next → step_next own_name c x next ≡ Some y → x.frame.call ≡ None

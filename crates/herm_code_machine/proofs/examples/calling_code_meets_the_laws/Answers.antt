@@ -1,0 +1,17 @@
+use Rattle.std.proofs.Common.{[], ◌∷◌, refl}
+use Rattle.herm_model.specs.Types.{callmessage, inport, outport, by_in, by_inout, by_out}
+use Rattle.herm_model.proofs.DecidedTables.{none-well_formed}
+use Rattle.herm_instructions.proofs.DecidedCode.{test-images}
+use Rattle.herm_code_machine.specs.examples.CallingCode.{answering_code, asks, keeps_second, kept_parameter}
+use Rattle.herm_code_machine.proofs.examples.calling_code_meets_the_laws.Goals as goal
+
+pub returns : goal.returns
+returns c =
+    let kept = (none-well_formed 8 (callmessage (record { mode = by_in; content = 2 } ∷ record { mode = by_inout; content = 2 } ∷ []) keeps_second ∷ inport 8 [] ∷ outport 9 ∷ [])).0 refl in
+    let answered = (none-well_formed 8 (callmessage (record { mode = by_out; content = 2 } ∷ []) [] ∷ inport 8 [] ∷ outport 9 ∷ [])).0 refl in
+    record {
+      kept = record { good = (test-images 8 kept_parameter kept).0 refl; table = kept };
+      answered = record { good = (test-images 8 (asks answering_code) answered).0 refl; table = answered };
+      kept_main = refl;
+      answered_main = refl;
+    }

@@ -1,0 +1,41 @@
+-- Code that breaks one rule of good code, of which no process can begin: the instructions before its first piece do not go through.
+use Rattle.std.specs.Prelude.{List, [], ◌∷◌, is_some, Bool}
+use Rattle.herm_model.specs.Outcomes.{overflow}
+use Rattle.herm_model.specs.Values.{an_inport, cell, no_parts}
+use Rattle.herm_instructions.specs.Instructions.{negative, Step, Const, Apply, Jump, New, Discard, Remove, LoopStart, LoopNext, LoopDrop, End, EndBy}
+use Rattle.herm_instructions.specs.Labels.{listed_at}
+use Rattle.herm_instructions.specs.Images.{CodeModule}
+use Rattle.herm_instructions.specs.tests.GoodTests.{code, typed, stack, facts, slots, in_range, goes_back, landings}
+use Rattle.herm_instructions.specs.examples.ExampleImages.{values_at, listed, lands}
+use Rattle.herm_instructions.specs.examples.CodeExamples.{CodeExample, plain, landing}
+use Rattle.herm_instructions.specs.laws.CodeExampleLaws.{example_image}
+use Rattle.herm_code_machine.specs.ReadyCode.{ready_image}
+use Rattle.herm_code_machine.specs.CodeInstance.{code_machine}
+
+-- whether a process of a module can begin with an inport, beside a module that denies calls
+abbrev pub can_begin : CodeModule → Bool
+can_begin m = is_some ((code_machine (ready_image (example_image m) 1 (λ (m : CodeModule) index. listed_at m.labels index))).begin 1 1 (cell (0, 1) (an_inport 1) no_parts))
+
+-- The minus of nothing; no such constant; what has no value is discarded; the next row of no slot; nothing behind the last instruction; a jump to
+-- itself; an exception that lands nowhere; no code.
+abbrev pub stuck_code : List CodeExample
+stuck_code =
+    landing (4 ∷ []) (Apply negative ∷ End ∷ EndBy overflow ∷ []) ((lands overflow 2 ∷ []) ∷ [] ∷ [] ∷ []) (listed 2 [] (values_at ((0 ∷ []) ∷ [])) [] ∷ []) (stack ∷ [])
+    ∷ plain (4 ∷ []) (Const 6 ∷ End ∷ []) [] (typed ∷ [])
+    ∷ plain (4 ∷ 2 ∷ []) (Discard (1 ∷ []) ∷ End ∷ []) [] (facts ∷ [])
+    ∷ plain (4 ∷ 8 ∷ []) (LoopNext (1 ∷ []) 0 2 ∷ End ∷ End ∷ []) (listed 2 [] (values_at ((0 ∷ []) ∷ [])) [] ∷ []) (slots ∷ [])
+    ∷ plain (4 ∷ []) (Const 0 ∷ []) [] (in_range ∷ [])
+    ∷ plain (4 ∷ []) (Jump 0 ∷ []) (listed 0 [] (values_at ((0 ∷ []) ∷ [])) [] ∷ []) (goes_back ∷ [])
+    ∷ plain (4 ∷ 8 ∷ 9 ∷ []) (New (2 ∷ []) 9 ∷ Const 0 ∷ Remove (1 ∷ []) (2 ∷ []) 1 ∷ End ∷ []) [] (landings ∷ [])
+    ∷ plain (4 ∷ []) [] [] (code ∷ [])
+    ∷ []
+
+-- The same, mended.
+abbrev pub mended_code : List CodeExample
+mended_code =
+    landing (4 ∷ []) (Const 0 ∷ Apply negative ∷ End ∷ EndBy overflow ∷ []) ([] ∷ (lands overflow 3 ∷ []) ∷ [] ∷ [] ∷ []) (listed 3 [] (values_at ((0 ∷ []) ∷ [])) [] ∷ []) []
+    ∷ plain (4 ∷ []) (Const 0 ∷ End ∷ []) [] []
+    ∷ plain (4 ∷ []) (Discard (0 ∷ []) ∷ End ∷ []) [] []
+    ∷ plain (4 ∷ 9 ∷ []) (New (1 ∷ []) 9 ∷ LoopStart (1 ∷ []) 0 ∷ LoopDrop 0 ∷ End ∷ []) [] []
+    ∷ plain (4 ∷ []) (Step ∷ Jump 0 ∷ []) (listed 0 [] (values_at ((0 ∷ []) ∷ [])) [] ∷ []) []
+    ∷ []
