@@ -168,7 +168,7 @@ fn joins(alloc: Global, m: usize, n: usize) -> Result<bool, AllocError> {
     let mut stack = long_texts(alloc, m, n)?;
     match stack.concatenate(alloc)? {
         Completion::Next => match stack.pop() {
-            Some(Value::Text(text)) => Ok(text.bytes().len() == m + n),
+            Some(Value::Text(text)) => Ok(text.bytes().len() == m.wrapping_add(n)),
             _ => Ok(false),
         },
         done => Ok(done != Completion::Raised(ExcNo(1))),
