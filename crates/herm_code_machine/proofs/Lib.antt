@@ -15,3 +15,5 @@ pub mod CodeCalls
 pub mod counted
 pub mod placed
 pub mod SoundImageStates
+pub mod ReadyProcesses
+pub mod EndedRuns

@@ -7,3 +7,5 @@ pub mod ExpressionLaws
 pub mod TrimLaws
 pub mod GoodImageLaws
 pub mod SoundImageLaws
+pub mod StandingLaws
+pub mod EndLaws
