@@ -28,16 +28,16 @@ use Rattle.herm_code_machine.proofs.kept.KeptEffects.{as-all, keeps-effect, keep
 use Rattle.herm_code_machine.proofs.instance.CodeLaws.{begun-code, local-code, answer-code}
 
 -- these counts of steps and actions
-abbrev HasCounts : ℕ → ℕ → Frame Name → Type 0
+abbrev pub HasCounts : ℕ → ℕ → Frame Name → Type 0
 HasCounts n m b = (b.steps ≡ n) × (b.actions ≡ m)
 
-counts-kept : (n m : ℕ) → IsKept (HasCounts n m)
+pub counts-kept : (n m : ℕ) → IsKept (HasCounts n m)
 counts-kept n m = record { letting = record { value = λ c b h. h; parts = λ ps b h. h; name = λ k b h. h }; variables = λ ps b h. h; serial = λ s b h. h; calls = λ b h. h }
 
-abbrev On : List Value → Type 0
+abbrev pub On : List Value → Type 0
 On stack = ⊤
 
-keeps : (c : ReadyCode) (n m : ℕ) → KeepsFrames own_name c On (HasCounts n m)
+pub keeps : (c : ReadyCode) (n m : ℕ) → KeepsFrames own_name c On (HasCounts n m)
 keeps c n m = record {
   empty = tt;
   effects = λ i stack b h e. (tt, keeps-effect own_name (HasCounts n m) (counts-kept n m) (λ ls b h. h) c i stack b e);
@@ -155,12 +155,12 @@ module _ (image : ReadyImage) where
   more-steps : (limit : ℕ) (x y : CodeState Name) → HasCounts (suc x.frame.steps) (suc x.frame.actions) y.frame → x.frame.actions < greatest_actions → x.frame.steps < limit → Counted limit x y
   more-steps limit x y k less few = (k.1, less, omega (arith, k.0), λ le. omega (arith, k.0, few))
 
-  worked-counts : (n m : ℕ) (x y : CodeState Name) (r : Completion Name) → AllOf (HasCounts n m) r → worked x r ≡ Some y → HasCounts n m y.frame
+  pub worked-counts : (n m : ℕ) (x y : CodeState Name) (r : Completion Name) → AllOf (HasCounts n m) r → worked x r ≡ Some y → HasCounts n m y.frame
   worked-counts n m x y (stays b) e is = subst (λ (t : CodeState Name). HasCounts n m t.frame) (some-injective is) e
   worked-counts n m x y (goes o b) e is = none-not_some is
   worked-counts n m x y stuck e is = none-not_some is
 
-  action-counts : (c : ReadyCode) (x y : CodeState Name) (p : Piece) (met : Met) (at n m : ℕ) (a : CellAction Name) → HasCounts n m (counted_action (counted_if p.has_step x.frame)) → settle_next own_name c x at a (an_action p met) ≡ Some y → HasCounts n m y.frame
+  pub action-counts : (c : ReadyCode) (x y : CodeState Name) (p : Piece) (met : Met) (at n m : ℕ) (a : CellAction Name) → HasCounts n m (counted_action (counted_if p.has_step x.frame)) → settle_next own_name c x at a (an_action p met) ≡ Some y → HasCounts n m y.frame
   action-counts c x y p met at n m a counted is =
       let r = chain-some (settled_action own_name c x p met at a) (stack_before_action c p x.frame.variables x.stack) y is in
       let b = counted_action (counted_if p.has_step x.frame) in

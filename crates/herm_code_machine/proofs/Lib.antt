@@ -17,3 +17,5 @@ pub mod placed
 pub mod SoundImageStates
 pub mod ReadyProcesses
 pub mod EndedRuns
+pub mod CountedSteps
+pub mod OrderedWants

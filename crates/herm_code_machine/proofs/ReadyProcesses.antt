@@ -42,28 +42,28 @@ module _ (c : ReadyCode) where
   abbrev types : Rattle.herm_model.specs.Types.TypeTable
   types = c.scope.types
 
-  pub found-leads : (xs : List Instruction) (i : ℕ) (met : Met) → drop i c.code.code ≡ xs → action_from (types) xs i ≡ Some met → LeadsToAction c i
+  pub found-leads : (xs : List Instruction) (i : ℕ) (met : Met) → drop i c.code.code ≡ xs → action_from (types) xs i ≡ Some met → LeadsToAction c i met.instruction
   found-leads [] i met at is = none-not_some is
   found-leads (instruction ∷ more) i met at is =
       let d = dropped-got c.code.code i instruction more at in
       by (is_operand instruction) refl d.0 (λ is. found-leads more (suc i) met d.1 is) is
     where
-      acting : (t : Bool) → is_action (types) instruction ≡ t → instruction_at c.code i ≡ Some instruction → cond t (Some (record { index = i; instruction = instruction })) None ≡ Some met → LeadsToAction c i
-      acting true e there is = at_action i instruction there e
+      acting : (t : Bool) → is_action (types) instruction ≡ t → instruction_at c.code i ≡ Some instruction → cond t (Some (record { index = i; instruction = instruction })) None ≡ Some met → LeadsToAction c i met.instruction
+      acting true e there is = subst (λ (met : Met). LeadsToAction c i met.instruction) (some-injective is) (at_action i instruction there e)
       acting false e there is = none-not_some is
 
-      by : (t : Bool) → is_operand instruction ≡ t → instruction_at c.code i ≡ Some instruction → (action_from (types) more (suc i) ≡ Some met → LeadsToAction c (suc i))
-          → cond t (action_from (types) more (suc i)) (cond (is_action (types) instruction) (Some (record { index = i; instruction = instruction })) None) ≡ Some met → LeadsToAction c i
-      by true e there again is = behind_operand i instruction there e (again is)
+      by : (t : Bool) → is_operand instruction ≡ t → instruction_at c.code i ≡ Some instruction → (action_from (types) more (suc i) ≡ Some met → LeadsToAction c (suc i) met.instruction)
+          → cond t (action_from (types) more (suc i)) (cond (is_action (types) instruction) (Some (record { index = i; instruction = instruction })) None) ≡ Some met → LeadsToAction c i met.instruction
+      by true e there again is = behind_operand i instruction met.instruction there e (again is)
       by false e there again is = acting (is_action (types) instruction) refl there is
 
-  pub leads-found : (i : ℕ) → LeadsToAction c i → (met : Met) × (action_from (types) (drop i c.code.code) i ≡ Some met)
-  leads-found i (at_action j instruction there acts) =
+  pub leads-found : (i : ℕ) (action : Instruction) → LeadsToAction c i action → (met : Met) × (action_from (types) (drop i c.code.code) i ≡ Some met)
+  leads-found i action (at_action j instruction there acts) =
       let d = first-dropped c.code.code j instruction there in
       (record { index = j; instruction = instruction }, ap (λ xs. action_from (types) xs j) d.1 ∙ action-there (types) instruction d.0 j acts)
-  leads-found i (behind_operand j instruction there is leads) =
+  leads-found i action (behind_operand j instruction action' there is leads) =
       let d = first-dropped c.code.code j instruction there in
-      let r = leads-found (suc j) leads in (
+      let r = leads-found (suc j) action' leads in (
         r.0,
         ap (λ xs. action_from (types) xs j) d.1
             ∙ ap (λ t. cond t (action_from (types) d.0 (suc j)) (cond (is_action (types) instruction) (Some (record { index = j; instruction = instruction })) None)) is
@@ -94,16 +94,16 @@ module _ (c : ReadyCode) (s : CodeState Name) (sound : IsLocallySoundCode c s) (
   abbrev action_piece : ℕ → Piece
   action_piece i = record { has_step = false; first = i }
 
-  step-so : (i : ℕ) → IsAtInstruction c limit s i Step → (o : Option Met) → action_of c (step_piece i) ≡ o → So (ready_for limit s.frame (by_action (step_piece i) o))
+  step-so : (i : ℕ) → IsAtInstruction c s i Step → (o : Option Met) → action_of c (step_piece i) ≡ o → So (ready_for limit s.frame (by_action (step_piece i) o))
   step-so i here (Some met) found = by (within) refl
     where
       by : (b : Bool) → within ≡ b → So (within_steps true b (acts))
-      by true e = acts-so (a_step_leads_to_one i here (found-leads c (drop (suc i) c.code.code) (suc i) met refl found) (below s.frame.steps limit e))
+      by true e = acts-so (a_step_leads_to_one i met.instruction here (found-leads c (drop (suc i) c.code.code) (suc i) met refl found) (below s.frame.steps limit e))
       by false e = (i, here, not-below s.frame.steps limit e)
   step-so i here None found = by (within) refl
     where
-      none : LeadsToAction c (suc i) → ⊥
-      none h = let r = leads-found c (suc i) h in none-not_some (sym found ∙ r.1)
+      none : (action : Instruction) → LeadsToAction c (suc i) action → ⊥
+      none action h = let r = leads-found c (suc i) action h in none-not_some (sym found ∙ r.1)
 
       by : (b : Bool) → within ≡ b → So (within_steps true b local)
       by true e = (i, here, none, below s.frame.steps limit e)
@@ -115,11 +115,11 @@ module _ (c : ReadyCode) (s : CodeState Name) (sound : IsLocallySoundCode c s) (
       let d = first-dropped c.code.code i instruction there in
       ap (λ xs. action_from c.scope.types xs i) d.1 ∙ action-there c.scope.types instruction d.0 i e
 
-  action-so : (i : ℕ) (instruction : Instruction) → IsAtInstruction c limit s i instruction → is_action c.scope.types instruction ≡ true → So (ready_for limit s.frame (by_action (action_piece i) (action_of c (action_piece i))))
+  action-so : (i : ℕ) (instruction : Instruction) → IsAtInstruction c s i instruction → is_action c.scope.types instruction ≡ true → So (ready_for limit s.frame (by_action (action_piece i) (action_of c (action_piece i))))
   action-so i instruction here e =
       subst (λ o. So (ready_for limit s.frame (by_action (action_piece i) o))) (sym (action-found i instruction here.3 e)) (acts-so (an_action_is_there i instruction here e))
 
-  piece-so : (i : ℕ) (instruction : Instruction) → IsAtInstruction c limit s i instruction → begins_piece c instruction ≡ true → So (ready_for limit s.frame (by_piece c (piece_by c.scope.types i (Some instruction))))
+  piece-so : (i : ℕ) (instruction : Instruction) → IsAtInstruction c s i instruction → begins_piece c instruction ≡ true → So (ready_for limit s.frame (by_piece c (piece_by c.scope.types i (Some instruction))))
   piece-so i instruction here begins = by (is_step instruction) refl begins
     where
       acting : (t : Bool) → is_action c.scope.types instruction ≡ t → t ≡ true → So (ready_for limit s.frame (by_piece c (cond t (Some (action_piece i)) None)))
@@ -128,7 +128,7 @@ module _ (c : ReadyCode) (s : CodeState Name) (sound : IsLocallySoundCode c s) (
 
       by : (t : Bool) → is_step instruction ≡ t → (t || is_action c.scope.types instruction) ≡ true
           → So (ready_for limit s.frame (by_piece c (cond t (Some (step_piece i)) (cond (is_action c.scope.types instruction) (Some (action_piece i)) None))))
-      by true e h = step-so i (subst (IsAtInstruction c limit s i) (is-step instruction e) here) (action_of c (step_piece i)) refl
+      by true e h = step-so i (subst (IsAtInstruction c s i) (is-step instruction e) here) (action_of c (step_piece i)) refl
       by false e h = acting (is_action c.scope.types instruction) refl h
 
   position-so : s.frame.work ≡ [] → s.frame.call ≡ None → (p : Position) → s.position ≡ p → So (ready_for limit s.frame (by_piece c (piece_at c p)))
@@ -155,25 +155,25 @@ module _ (c : ReadyCode) (s : CodeState Name) (sound : IsLocallySoundCode c s) (
   stands-so = work-so s.frame.work refl
 
   -- and back
-  ready-at : (i : ℕ) (instruction : Instruction) → IsAtInstruction c limit s i instruction → code_ready c limit s ≡ ready_for limit s.frame (by_piece c (piece_by c.scope.types i (Some instruction)))
+  ready-at : (i : ℕ) (instruction : Instruction) → IsAtInstruction c s i instruction → code_ready c limit s ≡ ready_for limit s.frame (by_piece c (piece_by c.scope.types i (Some instruction)))
   ready-at i instruction here =
       ap (λ w. ready_for limit s.frame (item_or w (call_or_piece c s.position s.frame.call))) here.0 ∙ ap (λ k. ready_for limit s.frame (call_or_piece c s.position k)) here.1
       ∙ ap (λ p. ready_for limit s.frame (by_piece c (piece_at c p))) here.2 ∙ ap (λ o. ready_for limit s.frame (by_piece c (piece_by c.scope.types i o))) here.3
 
-  ready-step : (i : ℕ) → IsAtInstruction c limit s i Step → (o : Option Met) → action_of c (step_piece i) ≡ o → code_ready c limit s ≡ ready_for limit s.frame (by_action (step_piece i) o)
+  ready-step : (i : ℕ) → IsAtInstruction c s i Step → (o : Option Met) → action_of c (step_piece i) ≡ o → code_ready c limit s ≡ ready_for limit s.frame (by_action (step_piece i) o)
   ready-step i here o found = ready-at i Step here ∙ ap (λ o. ready_for limit s.frame (by_action (step_piece i) o)) found
 
-  leads-ready : (i : ℕ) → IsAtInstruction c limit s i Step → LeadsToAction c (suc i) → code_ready c limit s ≡ within_steps true (within) (acts)
-  leads-ready i here leads = let r = leads-found c (suc i) leads in ready-step i here (Some r.0) r.1
+  leads-ready : (i : ℕ) (action : Instruction) → IsAtInstruction c s i Step → LeadsToAction c (suc i) action → code_ready c limit s ≡ within_steps true (within) (acts)
+  leads-ready i action here leads = let r = leads-found c (suc i) action leads in ready-step i here (Some r.0) r.1
 
-  alone-ready : (i : ℕ) → IsAtInstruction c limit s i Step → (LeadsToAction c (suc i) → ⊥) → code_ready c limit s ≡ within_steps true (within) local
+  alone-ready : (i : ℕ) → IsAtInstruction c s i Step → ((action : Instruction) → LeadsToAction c (suc i) action → ⊥) → code_ready c limit s ≡ within_steps true (within) local
   alone-ready i here none = by (action_of c (step_piece i)) refl
     where
       by : (o : Option Met) → action_of c (step_piece i) ≡ o → code_ready c limit s ≡ within_steps true (within) local
       by None found = ready-step i here None found
-      by (Some met) found = absurd (none (found-leads c (drop (suc i) c.code.code) (suc i) met refl found))
+      by (Some met) found = absurd (none met.instruction (found-leads c (drop (suc i) c.code.code) (suc i) met refl found))
 
-  spent-ready : (i : ℕ) → IsAtInstruction c limit s i Step → within ≡ false → code_ready c limit s ≡ out_of_steps
+  spent-ready : (i : ℕ) → IsAtInstruction c s i Step → within ≡ false → code_ready c limit s ≡ out_of_steps
   spent-ready i here e = by (action_of c (step_piece i)) refl
     where
       by : (o : Option Met) → action_of c (step_piece i) ≡ o → code_ready c limit s ≡ out_of_steps
@@ -185,7 +185,7 @@ module _ (c : ReadyCode) (s : CodeState Name) (sound : IsLocallySoundCode c s) (
       let m = sound.call k opened in
       ap (λ w. ready_for limit s.frame (item_or w (call_or_piece c s.position s.frame.call))) front ∙ ap (λ o. ready_for limit s.frame (call_or_piece c s.position o)) opened ∙ ap (λ o. ready_for limit s.frame (by_met k o)) m.1
 
-  there-ready : (i : ℕ) (instruction : Instruction) → IsAtInstruction c limit s i instruction → is_action c.scope.types instruction ≡ true → code_ready c limit s ≡ acts
+  there-ready : (i : ℕ) (instruction : Instruction) → IsAtInstruction c s i instruction → is_action c.scope.types instruction ≡ true → code_ready c limit s ≡ acts
   there-ready i instruction here e = ready-at i instruction here ∙ by (is_step instruction) refl
     where
       by : (t : Bool) → is_step instruction ≡ t → ready_for limit s.frame (by_piece c (cond t (Some (step_piece i)) (cond (is_action c.scope.types instruction) (Some (action_piece i)) None))) ≡ acts
@@ -197,7 +197,7 @@ module _ (c : ReadyCode) (s : CodeState Name) (sound : IsLocallySoundCode c s) (
   ready-acts (an_item_waits item work front) = ap (λ w. ready_for limit s.frame (item_or w (call_or_piece c s.position s.frame.call))) front
   ready-acts (a_call_is_open k front opened) = call-ready k front opened
   ready-acts (an_action_is_there i instruction here e) = there-ready i instruction here e
-  ready-acts (a_step_leads_to_one i here leads few) = leads-ready i here leads ∙ ap (λ b. within_steps true b (acts)) (to-below s.frame.steps limit few)
+  ready-acts (a_step_leads_to_one i action here leads few) = leads-ready i action here leads ∙ ap (λ b. within_steps true b (acts)) (to-below s.frame.steps limit few)
 
   end-ready : s.frame.work ≡ [] → s.frame.call ≡ None → (p : Position) → s.position ≡ p → IsAtEnd p → code_ready c limit s ≡ ended
   end-ready front idle p at is =

@@ -9,3 +9,5 @@ pub mod GoodImageLaws
 pub mod SoundImageLaws
 pub mod StandingLaws
 pub mod EndLaws
+pub mod CountLaws
+pub mod WantLaws
