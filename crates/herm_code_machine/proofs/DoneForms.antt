@@ -22,6 +22,7 @@ use Rattle.herm_code_machine.specs.Effects.{next_of_loop}
 use Rattle.herm_code_machine.specs.CodeActions.{kept_parameters}
 use Rattle.herm_instructions.specs.Effects.{arm_of}
 use Rattle.herm_code_machine.specs.laws.InstructionLaws.{after_ok, DoForms, InstructionsDoForms}
+use Rattle.herm_code_machine.proofs.GivenArguments.{acts-as, hears-as}
 use Rattle.herm_code_machine.specs.laws.SoundLaws.{InstructionsKeepSound}
 
 -- the targets and ports of choices are those of the arms
@@ -94,6 +95,8 @@ module _ (name : Name → Name) (c : ReadyCode) (s : ℕ) (b : Frame Name) where
       wanted = λ stack. ap (λ ports. Exchanges.select_wants ports b) (ports-same choices);
       answers = λ stack at a. ap₂ (λ targets ports. leaving stack (Exchanges.select targets ports at a b)) (targets-same choices) (ports-same choices);
     };
+    call = λ o arguments keeps atoms as_call values stack rest popped inputs. acts-as c o arguments keeps atoms as_call name s b values stack rest popped inputs;
+    hear = λ o arguments keeps atoms as_call number a. hears-as c o arguments keeps atoms as_call number a b;
     return = λ m. record { wanted = λ stack. refl; answers = λ stack at a. refl };
     return_by = λ m e kept is. record {
       wanted = λ stack. ap (λ k. ReturnForms.return_wants (Actions.raised e) (given_back c.scope (kept_parameters c m k) b) m b) is;

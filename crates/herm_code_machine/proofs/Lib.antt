@@ -19,3 +19,4 @@ pub mod ReadyProcesses
 pub mod EndedRuns
 pub mod CountedSteps
 pub mod OrderedWants
+pub mod GivenArguments

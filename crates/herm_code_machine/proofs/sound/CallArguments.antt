@@ -26,25 +26,25 @@ use Rattle.herm_code_machine.specs.Stacks.{parts_from}
 use Rattle.herm_code_machine.specs.CodeActions.{mode_of, inouts, outs, returned, path_in, kept_paths, left_paths, code_hears}
 
 -- the paths of arguments whose parameters have such modes
-abbrev with_paths : (inout out : Bool) → List Argument → List Path
+abbrev pub with_paths : (inout out : Bool) → List Argument → List Path
 with_paths a b [] = []
 with_paths a b (of_in ∷ arguments) = with_paths a b arguments
 with_paths a b (of_inout p ∷ arguments) = cond a (p ∷ with_paths a b arguments) (with_paths a b arguments)
 with_paths a b (of_out p ∷ arguments) = cond b (p ∷ with_paths a b arguments) (with_paths a b arguments)
 
-inouts-are : (arguments : List Argument) → inouts arguments ≡ with_paths true false arguments
+pub inouts-are : (arguments : List Argument) → inouts arguments ≡ with_paths true false arguments
 inouts-are [] = refl
 inouts-are (of_in ∷ arguments) = inouts-are arguments
 inouts-are (of_inout p ∷ arguments) = ap (p ∷◌) (inouts-are arguments)
 inouts-are (of_out p ∷ arguments) = inouts-are arguments
 
-outs-are : (arguments : List Argument) → outs arguments ≡ with_paths false true arguments
+pub outs-are : (arguments : List Argument) → outs arguments ≡ with_paths false true arguments
 outs-are [] = refl
 outs-are (of_in ∷ arguments) = outs-are arguments
 outs-are (of_inout p ∷ arguments) = outs-are arguments
 outs-are (of_out p ∷ arguments) = ap (p ∷◌) (outs-are arguments)
 
-returned-are : (arguments : List Argument) → returned arguments ≡ with_paths true true arguments
+pub returned-are : (arguments : List Argument) → returned arguments ≡ with_paths true true arguments
 returned-are [] = refl
 returned-are (of_in ∷ arguments) = returned-are arguments
 returned-are (of_inout p ∷ arguments) = ap (p ∷◌) (returned-are arguments)
