@@ -1,15 +1,17 @@
 // Runs of code by hand, computed from the definitions. The comments on the code have the programs as they are written.
 
 ghost use Rattle.herm_code_machine.specs.examples.BranchingCode.{by_component, by_port, caught_row, compares, taken_by_key};
-ghost use Rattle.herm_code_machine.specs.examples.CallingCode.{answering_code, asks, kept_parameter, losing_code};
-ghost use Rattle.herm_code_machine.specs.examples.CodeByHand.{greeting_image, left_loop, whole_loop};
+ghost use Rattle.herm_code_machine.specs.examples.CallingCode.{answering_code, asks, calling_code, keeps_second, kept_parameter, losing_code};
+ghost use Rattle.herm_code_machine.specs.examples.CodeByHand.{greeting_image, left_loop, variable, whole_loop};
+ghost use Rattle.herm_code_machine.specs.examples.EndingCode.{arguments_of_call, atoms_of_call, greeting_in_one_step, raising};
+ghost use Rattle.herm_code_machine.specs.laws.InstructionLaws.{CallsAs};
 ghost use Rattle.herm_code_machine.specs.examples.CodeRuns.{code_ending, in_lines, limited};
 ghost use Rattle.herm_system.specs.RunTexts.{plainly, the_journal, with_summary};
 ghost use Rattle.herm_instructions.specs.tests.GoodTests.{is_good};
 ghost use Rattle.herm_model.specs.TypedPrograms.{main_start};
 ghost use Rattle.herm_code_machine.specs.CodeTypes.{first_type};
 ghost use Rattle.herm_code_machine.specs.ReadyCode.{labelled_image};
-ghost use Rattle.herm_code_machine.specs.laws.GoodImageLaws.{IsGoodOver};
+ghost use Rattle.herm_code_machine.specs.laws.GoodImageLaws.{IsGoodOver, labelled_code};
 ghost use Rattle.herm_code_machine.specs.examples.StuckCode.{can_begin, mended_code, stuck_code};
 ghost use Rattle.herm_instructions.specs.laws.CodeExampleLaws.{broken_in_example};
 ghost use Rattle.std.specs.Prelude.{List, Some, [], codes, false, map, replicate, true, ◌∷◌, ◌≡◌};
@@ -172,6 +174,27 @@ pub fn caller_is_left()
     }) }
 {}
 
+/// An exception that nothing catches ends main by it.
+pub fn exception_ends_main()
+    ensures at_the_end { code_ending 60 plainly (limited 1000 4 4) raising 0 ≡ Some (record {
+      status = 6;
+      text = in_lines (codes "hermes: main ended by Overflow" ∷ []);
+    }) }
+{}
+
+/// An action that begins a piece asks for no step: one step is enough for all.
+pub fn action_asks_for_no_step()
+    ensures at_the_end { code_ending 60 with_summary (limited 1 4 4) greeting_in_one_step 0 ≡ Some (record {
+      status = 0;
+      text = in_lines (
+          codes "hi"
+          ∷ codes "summary: processes 1 ended 1 waiting 0 stopped 0"
+          ∷ codes "summary: ports 2 open 1"
+          ∷ codes "summary: steps 1 actions 3"
+          ∷ codes "summary: cells made 6 held 1 queued 1 finalised 4" ∷ []);
+    }) }
+{}
+
 /// The code that these runs are of is good, where eight exceptions are there.
 pub fn code_by_hand_is_good()
     ensures truth { is_good 8 (compares 2 3) ≡ true }
@@ -184,12 +207,23 @@ pub fn code_by_hand_is_good()
 {}
 
 /// Code that calls meets what the laws of good images ask: with a parameter of mode in, one that comes back and an exception that keeps it,
-/// and with one of mode out that is answered. It is good over a well-formed table, and the port of its main is of the type main_start.
+/// and with one of mode out that is answered. It is good over a well-formed table, and the port of its main is of the type main_start; and its call is given the
+/// arguments of its statement.
 pub fn calling_code_meets_the_laws()
     ensures kept { IsGoodOver 8 kept_parameter }
     ensures answered { IsGoodOver 8 (asks answering_code) }
     ensures kept_main { first_type (labelled_image kept_parameter 1) 1 ≡ Some main_start }
     ensures answered_main { first_type (labelled_image (asks answering_code) 1) 1 ≡ Some main_start }
+    ensures calls { CallsAs (labelled_code kept_parameter calling_code) (variable 2) arguments_of_call keeps_second atoms_of_call }
+{}
+
+/// The code of the greeting, of both loops, of an end by an exception and of an action without a step meets what the laws of good images ask.
+pub fn code_by_hand_meets_the_laws()
+    ensures greeting { IsGoodOver 8 greeting_image }
+    ensures whole { IsGoodOver 8 whole_loop }
+    ensures left { IsGoodOver 8 left_loop }
+    ensures raised { IsGoodOver 8 raising }
+    ensures one_step { IsGoodOver 8 greeting_in_one_step }
 {}
 
 /// Code that breaks one rule alone, of which no process can begin; and, mended, code that is good, of which each can.
