@@ -29,7 +29,7 @@ puts-aside image = record { counts = λ x. refl; same = λ x. refl }
 pub nameless-puts_aside : (image : ReadyImage) → PutsAside (nameless_code image)
 nameless-puts_aside image = record { counts = λ x. refl; same = λ x. refl }
 
-not-both : {X A : Type 0} (x : X) (xs : List X) → x ∷ xs ≡ [] → A
+pub not-both : {X A : Type 0} (x : X) (xs : List X) → x ∷ xs ≡ [] → A
 not-both x xs e = absurd (cc)
 
 module _ (c : ReadyCode) where

@@ -23,3 +23,8 @@ pub mod SoundProcesses
 pub mod WantsHeld
 pub mod CodeWants
 pub mod CodeBegins
+pub mod WayToAction
+pub mod OnTheWay
+pub mod BehindAnswers
+pub mod RunsBehind
+pub mod StuckNowhere

@@ -11,3 +11,4 @@ pub mod StandingLaws
 pub mod EndLaws
 pub mod CountLaws
 pub mod WantLaws
+pub mod OperandLaws

@@ -1,5 +1,6 @@
 // Processes of images whose code is good.
 
+ghost use Rattle.herm_code_machine.specs.laws.OperandLaws.{RunsFindOperands, StepsAreRuns};
 ghost use Rattle.herm_code_machine.specs.laws.GoodImageLaws.{AnswersAreSound, InstructionsFindOperands, LocalStepsAreSound, OutcomesLead};
 
 /// The index that good code names for an outcome is the one to which the machine goes.
@@ -24,4 +25,16 @@ pub fn local_steps_are_sound()
 /// call is open from where its callmessage is placed to where its reply is heard.
 pub fn answers_are_sound()
     ensures answers { AnswersAreSound }
+{}
+
+/// A local step is the run of instructions behind the step at which the process is; and an answer, but for what is finalised, is the run behind
+/// what the action, or the call that is open, comes to with it. An action finds on the stack what the run behind its step has pushed.
+pub fn steps_are_runs()
+    ensures runs { StepsAreRuns }
+{}
+
+/// In a good image no such run is stuck, as a process begins or from any process that is sound within itself: each instruction that is done on the
+/// way finds its operands, with variables, stack and slots as the label there says.
+pub fn runs_find_operands()
+    ensures found { RunsFindOperands }
 {}
