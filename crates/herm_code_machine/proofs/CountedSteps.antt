@@ -1,7 +1,7 @@
 -- A process of code counts a step where it is at a step, and one action at each answer.
 use Rattle.std.proofs.Common.{◌≡◌, ℕ, suc, List, [], ◌∷◌, Bool, true, false, cond, Option, Some, None, option_and_then, refl, sym, ap, subst, ◌∙◌}
 use mathlib.Core.Bool.{false≢true}
-use Rattle.herm_model.specs.Values.{Name, Cell}
+use Rattle.herm_model.specs.Values.{Name}
 use Rattle.herm_model.proofs.Options.{none-not_some, some-injective}
 use Rattle.herm_journal.specs.Messages.{CellAction}
 use Rattle.herm_forms.specs.ClosesAndAnswers
@@ -16,7 +16,7 @@ use Rattle.herm_code_machine.specs.CodeStates.{Position, at_index, at_end, at_en
 use Rattle.herm_code_machine.specs.CodeSteps.{CodeNext, an_item, a_reply, an_action, a_local_piece, nothing, code_next, counted_if, code_local_step, code_answered, step_next, settle_next}
 use Rattle.herm_code_machine.specs.Pieces.{Piece, piece_by, piece_at}
 use Rattle.herm_code_machine.specs.ReadyCode.{ReadyCode, ReadyImage}
-use Rattle.herm_code_machine.specs.laws.CountLaws.{PutsAside, CountsSteps, StepsAreCounted}
+use Rattle.herm_code_machine.specs.laws.CountLaws.{PutsAside, StepsAreCounted}
 use Rattle.herm_code_machine.specs.laws.StandingLaws.{IsAtInstruction}
 use Rattle.herm_code_machine.proofs.CodeLimits.{HasCounts, counts-kept, On, keeps, worked-counts, action-counts}
 use Rattle.herm_code_machine.proofs.RunsKeep.{is-next, is-settled}

@@ -1,18 +1,17 @@
 -- Runs go on by instructions, and ends are those of their instructions.
-use Rattle.std.proofs.Common.{◌≡◌, ℕ, zero, suc, List, Bool, true, false, cond, Option, Some, None, option_and_then, option_map, refl, sym, ap, subst, ◌∙◌}
+use Rattle.std.proofs.Common.{◌≡◌, ℕ, zero, suc, List, Bool, true, false, cond, Option, Some, None, option_and_then, refl, sym, ap, subst}
 use Rattle.std.specs.Prelude.{length}
-use Rattle.herm_model.specs.Outcomes.{Outcome}
 use Rattle.herm_model.specs.Values.{Value}
 use Rattle.herm_model.proofs.Options.{none-not_some, some-injective, chain-some, map-some}
-use Rattle.herm_forms.specs.Frames.{Name, Frame, Completion, goes, stays, stuck}
+use Rattle.herm_forms.specs.Frames.{Name, Completion, goes, stays, stuck}
 use Rattle.herm_instructions.specs.Images.{instruction_at}
 use Rattle.herm_instructions.specs.Instructions.{Instruction, End, EndBy}
-use Rattle.herm_code_machine.specs.CodeInstance.{own_name, code_machine}
+use Rattle.herm_code_machine.specs.CodeInstance.{own_name}
 use Rattle.herm_code_machine.specs.CodeSeen.{exception_of}
 use Rattle.herm_code_machine.specs.CodeStates.{Position, at_index, at_end, at_end_by, CodeState, leads, stack_after, state_behind, done_instruction, begins_piece, on_by, on_from, run_on}
 use Rattle.herm_code_machine.specs.Effects.{effect}
-use Rattle.herm_code_machine.specs.ReadyCode.{ReadyCode, ReadyImage}
-use Rattle.herm_code_machine.specs.laws.EndLaws.{IsOnTheWay, as_it_begins, by_instruction, RunsGoOn, EndsSo, ExceptionsAreTold, EndsAreTold}
+use Rattle.herm_code_machine.specs.ReadyCode.{ReadyCode}
+use Rattle.herm_code_machine.specs.laws.EndLaws.{IsOnTheWay, as_it_begins, by_instruction, RunsGoOn, ExceptionsAreTold, EndsAreTold}
 use Rattle.herm_code_machine.specs.laws.GoodImageLaws.{IsEnd}
 use Rattle.herm_code_machine.specs.laws.PieceLaws.{IsAtPiece}
 use Rattle.herm_code_machine.specs.laws.StandingLaws.{IsAtEnd}

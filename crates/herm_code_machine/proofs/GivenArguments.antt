@@ -1,9 +1,9 @@
 -- A call does what the form of its statement does, where its arguments are given as the form's.
-use Rattle.std.proofs.Common.{◌≡◌, inl, inr, ℕ, zero, suc, List, [], ◌∷◌, ◌++◌, map, flat_map, filter, Bool, true, false, cond, not, Option, Some, None, option_and_then, nat_eq, refl, sym, ap, ap₂, subst, ◌∙◌}
+use Rattle.std.proofs.Common.{◌≡◌, inl, inr, ℕ, zero, suc, List, [], ◌∷◌, ◌++◌, map, flat_map, filter, Bool, true, false, cond, not, Some, option_and_then, nat_eq, refl, sym, ap, ap₂, subst, ◌∙◌}
 use Rattle.std.specs.Prelude.{slice_get, IsTrue}
 use mathlib.Core.Bool.{false≢true}
 use mathlib.Core.Path.{fun_ext}
-use Rattle.herm_model.specs.Calls.{call_parameters, call_raises, kept_for, is_returned, arguments_by, argument_path}
+use Rattle.herm_model.specs.Calls.{call_parameters, kept_for, is_returned, arguments_by, argument_path}
 use Rattle.herm_model.specs.Expressions.{Atom, literal, path}
 use Rattle.herm_model.specs.Lists.{IsIn, any_pass}
 use Rattle.herm_model.specs.Paths.{Path, same_path}
@@ -18,7 +18,6 @@ use Rattle.herm_forms.specs.Callmessages.{Composed, compose}
 use Rattle.herm_forms.specs.Excess.{excess_over_full}
 use Rattle.herm_forms.specs.Frames.{Name, Frame}
 use Rattle.herm_forms.specs.HearReply
-use Rattle.herm_forms.proofs.called.GivenInputs.{modes_of}
 use Rattle.herm_instructions.specs.Instructions.{Argument, of_in, of_inout, of_out, Call}
 use Rattle.herm_instructions.specs.Operands.{count_inputs}
 use Rattle.herm_code_machine.specs.CodeActions.{mode_of, inouts, outs, returned, path_in, kept_paths, left_paths, composed_of, called, code_hears}

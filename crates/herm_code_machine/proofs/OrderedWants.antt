@@ -1,9 +1,6 @@
 -- What a process of code wants is for the front of its work list, for its open call, or for its next action.
-use Rattle.std.proofs.Common.{◌≡◌, ◌⊎◌, inl, inr, ℕ, suc, List, [], ◌∷◌, Bool, true, false, cond, Option, Some, None, option_and_then, option_map, refl, sym, ap, subst, ◌∙◌, drop}
-use Rattle.std.specs.Prelude.{IsTrue}
-use mathlib.Core.Bool.{false≢true}
+use Rattle.std.proofs.Common.{◌≡◌, inl, inr, ℕ, suc, List, [], ◌∷◌, Bool, true, false, cond, Option, Some, None, option_and_then, option_map, refl, sym, ap, subst, ◌∙◌, drop}
 use Rattle.herm_model.specs.Lists.{IsIn}
-use Rattle.herm_model.specs.Paths.{Path}
 use Rattle.herm_model.specs.Values.{Name, a_callmessage, an_inport, Cell, cell, cell_at, no_parts, gap, part, Value}
 use Rattle.herm_model.proofs.Lists.{not_true}
 use Rattle.herm_model.proofs.Options.{none-not_some, some-injective, chain-some, map-some}
@@ -18,7 +15,7 @@ use Rattle.herm_forms.specs.Frames
 use Rattle.herm_forms.proofs.typed.WantKinds.{return-want}
 use Rattle.herm_instructions.specs.Actions.{is_step, is_action}
 use Rattle.herm_instructions.specs.Images.{instruction_at}
-use Rattle.herm_instructions.specs.Instructions.{Instruction, Step, New, Send, Receive, Select, Call, Return, ReturnBy, Create}
+use Rattle.herm_instructions.specs.Instructions.{Instruction, New, Send, Receive, Select, Call, Return, ReturnBy, Create}
 use Rattle.herm_code_machine.specs.CodeActions.{code_wants, called, kept_parameters, ports_of_choices}
 use Rattle.herm_code_machine.specs.CodeInstance.{own_name}
 use Rattle.herm_code_machine.specs.CodeLocal.{IsLocallySoundCode, WaitsAlone}
@@ -26,7 +23,6 @@ use Rattle.herm_code_machine.specs.CodeStates.{Position, at_index, at_end, at_en
 use Rattle.herm_code_machine.specs.CodeSteps.{CodeNext, an_item, a_reply, an_action, a_local_piece, nothing, code_next, code_wanted, wanted_next}
 use Rattle.herm_code_machine.specs.Pieces.{Piece, Met, piece_by, piece_at, action_from, action_of, stack_before_action}
 use Rattle.herm_code_machine.specs.ReadyCode.{ReadyCode}
-use Rattle.herm_code_machine.specs.laws.StandingLaws.{IsAtInstruction}
 use Rattle.herm_code_machine.specs.laws.WantLaws.{IsNextAction, it_is_there, behind_its_step, WantsFor, WantsAreInOrder}
 use Rattle.herm_code_machine.proofs.CodeLimits.{first-dropped, action-there}
 use Rattle.herm_code_machine.proofs.ReadyProcesses.{found-leads}

@@ -1,5 +1,5 @@
 -- How a process of code stands: as its work list, its call, its position and its limits say.
-use Rattle.std.proofs.Common.{◌≡◌, ◌↔◌, ◌<◌, ◌≤◌, ℕ, suc, List, [], ◌∷◌, Bool, true, false, cond, ◌||◌, Option, Some, None, option_and_then, refl, sym, ap, subst, ◌∙◌, arith, drop}
+use Rattle.std.proofs.Common.{◌≡◌, ◌<◌, ◌≤◌, ℕ, suc, List, [], ◌∷◌, Bool, true, false, cond, ◌||◌, Option, Some, None, refl, sym, ap, subst, ◌∙◌, arith, drop}
 use Rattle.std.specs.Prelude.{nat_lt, IsTrue}
 use Rattle.std.proofs.lemmas.Bool.Decides.{nat_tests}
 use mathlib.Core.Bool.{false≢true}
@@ -13,7 +13,7 @@ use Rattle.herm_instructions.specs.Pieces.{is_operand}
 use Rattle.herm_code_machine.specs.CodeInstance.{code_machine, ready_if}
 use Rattle.herm_code_machine.specs.CodeLocal.{IsLocallySoundCode}
 use Rattle.herm_code_machine.specs.CodeStates.{Position, at_index, at_end, at_end_by, CodeState, begins_piece}
-use Rattle.herm_code_machine.specs.CodeSteps.{met_at, by_action, by_piece, by_met, call_or_piece, item_or, code_next, within_steps, ready_for, code_ready}
+use Rattle.herm_code_machine.specs.CodeSteps.{met_at, by_action, by_piece, by_met, call_or_piece, item_or, within_steps, ready_for, code_ready}
 use Rattle.herm_code_machine.specs.Pieces.{Piece, Met, piece_by, piece_at, action_from, action_of}
 use Rattle.herm_code_machine.specs.ReadyCode.{ReadyCode}
 use Rattle.herm_code_machine.specs.laws.PieceLaws.{IsAtPiece}

@@ -1,5 +1,5 @@
 -- Behind the answer to an action of good code, and behind the reply to its call, no instruction is stuck.
-use Rattle.std.proofs.Common.{◌≡◌, ◌⊎◌, inl, inr, ℕ, suc, List, [], ◌∷◌, Bool, true, false, Option, Some, None, option_and_then, option_map, refl, sym, ap, subst, ◌∙◌, drop}
+use Rattle.std.proofs.Common.{◌≡◌, ◌⊎◌, inl, inr, ℕ, suc, List, true, false, Some, None, option_and_then, option_map, refl, sym, ap, subst, ◌∙◌, drop}
 use Rattle.std.specs.Prelude.{⊤}
 use mathlib.Core.Bool.{false≢true}
 use Rattle.herm_model.specs.Lists.{IsIn}
@@ -8,13 +8,13 @@ use Rattle.herm_model.specs.Paths.{Path}
 use Rattle.herm_model.specs.Types.{Raised}
 use Rattle.herm_model.specs.Values.{Name, Cell, Value}
 use Rattle.herm_model.specs.WellFormedTables.{IsType, IsWellFormedTable}
-use Rattle.herm_model.proofs.Options.{none-not_some, some-injective}
-use Rattle.herm_journal.specs.Actions.{to_put, to_hear, put, hear}
+use Rattle.herm_model.proofs.Options.{some-injective}
+use Rattle.herm_journal.specs.Actions.{to_put, put, hear}
 use Rattle.herm_journal.specs.Messages.{CellWant, CellAction, CellReply}
 use Rattle.herm_forms.specs.Frames.{Frame, Completion, goes, stays, stuck, counted_action}
 use Rattle.herm_forms.specs.OpenCalls.{IsReply}
 use Rattle.herm_system.specs.Suiting.{Answers}
-use Rattle.herm_instructions.specs.Actions.{is_step, is_action}
+use Rattle.herm_instructions.specs.Actions.{is_action}
 use Rattle.herm_instructions.specs.GoodCode.{IsGood}
 use Rattle.herm_instructions.specs.Images.{CodeModule, Image, instruction_at}
 use Rattle.herm_instructions.specs.Instructions.{Argument, Instruction, Step, Call}
@@ -23,11 +23,11 @@ use Rattle.herm_instructions.specs.Places.{label_at}
 use Rattle.herm_code_machine.specs.CodeActions.{code_wants, code_settles, code_hears}
 use Rattle.herm_code_machine.specs.CodeInstance.{own_name}
 use Rattle.herm_code_machine.specs.CodeLocal.{IsLocallySoundCode, IsCall}
-use Rattle.herm_code_machine.specs.CodeStates.{Position, at_index, CodeState, leads, stack_after, state_behind}
-use Rattle.herm_code_machine.specs.CodeSteps.{an_action, counted_if, met_at, wanted_next}
+use Rattle.herm_code_machine.specs.CodeStates.{at_index, CodeState, leads, stack_after, state_behind}
+use Rattle.herm_code_machine.specs.CodeSteps.{an_action, counted_if, wanted_next}
 use Rattle.herm_code_machine.specs.Pieces.{Piece, Met, piece_by, piece_at, action_from, action_of, behind_operands}
 use Rattle.herm_code_machine.specs.ReadyCode.{ReadyCode, ready_code}
-use Rattle.herm_code_machine.specs.Stacks.{Effect, leaving}
+use Rattle.herm_code_machine.specs.Stacks.{Effect}
 use Rattle.herm_code_machine.specs.laws.EndLaws.{IsOnTheWay}
 use Rattle.herm_code_machine.specs.laws.OperandLaws.{IsNowhereStuck, behind_step, IsBefore, at_once, by_its_step}
 use Rattle.herm_code_machine.specs.laws.StandingLaws.{IsAtInstruction}
@@ -38,10 +38,10 @@ use Rattle.herm_code_machine.proofs.sound.AlongRuns.{KeepsAlong, At, led}
 use Rattle.herm_code_machine.proofs.sound.AtLabels.{Finds}
 use Rattle.herm_code_machine.proofs.sound.Between as between
 use Rattle.herm_code_machine.proofs.sound.CallEffects as calls
-use Rattle.herm_code_machine.proofs.sound.CallSteps.{calling_of, found, open-sound, behind-left, call-goes, is-call, is-call-or, met-index}
+use Rattle.herm_code_machine.proofs.sound.CallSteps.{calling_of, found, open-sound, behind-left, call-goes, is-call, is-call-or}
 use Rattle.herm_code_machine.proofs.sound.CopiedStacks.{label-copied}
 use Rattle.herm_code_machine.proofs.sound.OnTheWay.{stuck-nowhere, nowhere-stuck}
-use Rattle.herm_code_machine.proofs.sound.WayToAction.{same-index, IsUnderway, underway, IsThere, there-at}
+use Rattle.herm_code_machine.proofs.sound.WayToAction.{same-index, IsUnderway, underway, there-at}
 
 -- what a completion comes to depends on no more of a state than its module
 pub behind-same : (c : ReadyCode) (s t : CodeState Name) (i : ℕ) (instruction : Instruction) (stack : List Value) (r : Completion Name) → t.module_number ≡ s.module_number → state_behind c t i instruction stack r ≡ state_behind c s i instruction stack r

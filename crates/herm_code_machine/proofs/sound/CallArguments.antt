@@ -8,7 +8,7 @@ use Rattle.herm_model.specs.Types.{TypeTable, Mode, by_in, by_inout, by_out, Par
 use Rattle.herm_model.specs.Calls.{call_parameters, call_raises, kept_for, is_returned, arguments_by, argument_path}
 use Rattle.herm_model.specs.FactsOfStatements.{set_by_call, kept_by_call}
 use Rattle.herm_model.specs.Statements.{Form}
-use Rattle.herm_model.specs.Values.{Parts, Value}
+use Rattle.herm_model.specs.Values.{Value}
 use Rattle.herm_model.specs.Typed.{IsFull}
 use Rattle.herm_model.proofs.Lists.{slice_get-map}
 use Rattle.herm_journal.specs.Messages.{CellAction, AreFull}

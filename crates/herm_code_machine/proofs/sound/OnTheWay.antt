@@ -1,5 +1,5 @@
 -- In the run from a state at a label of good code each instruction finds its operands.
-use Rattle.std.proofs.Common.{◌≡◌, ◌⊎◌, inl, inr, ℕ, Bool, true, false, Option, Some, None, refl, sym, ap, subst, ◌∙◌}
+use Rattle.std.proofs.Common.{◌≡◌, ℕ, true, false, Some, refl, sym, ap, subst, ◌∙◌}
 use mathlib.Core.Bool.{false≢true}
 use Rattle.herm_model.specs.Lists.{IsIn}
 use Rattle.herm_model.specs.Targets

@@ -1,6 +1,5 @@
 -- Local steps and answers are runs: behind a step, and behind what an action or a reply comes to.
-use Rattle.std.proofs.Common.{◌≡◌, ◌⊎◌, inl, inr, ℕ, suc, List, [], ◌∷◌, Bool, true, false, cond, Option, Some, None, option_and_then, refl, sym, ap, subst, ◌∙◌, drop}
-use mathlib.Core.Bool.{false≢true}
+use Rattle.std.proofs.Common.{◌≡◌, ℕ, suc, List, [], Bool, true, false, cond, Option, Some, None, option_and_then, refl, sym, ap, subst, ◌∙◌, drop}
 use Rattle.herm_model.specs.Values.{Name, Value}
 use Rattle.herm_model.proofs.Options.{none-not_some, some-injective, chain-some}
 use Rattle.herm_journal.specs.Messages.{CellAction}
@@ -9,14 +8,14 @@ use Rattle.herm_instructions.specs.Actions.{is_step, is_action}
 use Rattle.herm_instructions.specs.Images.{instruction_at}
 use Rattle.herm_instructions.specs.Instructions.{Instruction, Step}
 use Rattle.herm_code_machine.specs.CodeActions.{code_settles, code_hears}
-use Rattle.herm_code_machine.specs.CodeInstance.{own_name, code_at, code_machine}
+use Rattle.herm_code_machine.specs.CodeInstance.{own_name}
 use Rattle.herm_code_machine.specs.CodeStates.{Position, at_index, at_end, at_end_by, CodeState, state_behind, to_next_piece}
 use Rattle.herm_code_machine.specs.CodeSteps.{CodeNext, an_item, a_reply, an_action, a_local_piece, nothing, code_next, counted_if, met_at, code_local_step, code_answered, step_next, settled_action, settle_next}
 use Rattle.herm_code_machine.specs.Pieces.{Piece, Met, piece_by, piece_at, action_from, action_of, operand, pushed, behind_operands, stack_before_action}
-use Rattle.herm_code_machine.specs.ReadyCode.{ReadyCode, ReadyImage}
+use Rattle.herm_code_machine.specs.ReadyCode.{ReadyCode}
 use Rattle.herm_code_machine.specs.Stacks.{Effect}
 use Rattle.herm_code_machine.specs.laws.EndLaws.{IsOnTheWay, as_it_begins}
-use Rattle.herm_code_machine.specs.laws.OperandLaws.{behind_step, IsBefore, at_once, by_its_step, IsLeftBy, by_action, by_reply, StepsAreRuns}
+use Rattle.herm_code_machine.specs.laws.OperandLaws.{behind_step, at_once, by_its_step, IsLeftBy, by_action, by_reply, StepsAreRuns}
 use Rattle.herm_code_machine.specs.laws.StandingLaws.{IsAtInstruction}
 use Rattle.herm_code_machine.proofs.CodeLimits.{first-dropped, not-operand, action-there}
 use Rattle.herm_code_machine.proofs.CountedSteps.{not-both}

@@ -1,24 +1,21 @@
 -- In processes of good images no run is stuck.
-use Rattle.std.proofs.Common.{◌≡◌, inl, inr, ℕ, suc, List, [], ◌∷◌, Option, Some, None, option_and_then, refl, sym, ap, subst, ◌∙◌}
-use Rattle.std.specs.Prelude.{slice_get}
+use Rattle.std.proofs.Common.{◌≡◌, ℕ, suc, [], Option, Some, None, option_and_then, refl, sym, ap, subst, ◌∙◌}
 use Rattle.herm_model.specs.Lists.{IsIn}
-use Rattle.herm_model.specs.Paths.{Path}
-use Rattle.herm_model.specs.Types.{Raised}
 use Rattle.herm_model.specs.Values.{Name, an_inport, Cell, cell, no_parts}
 use Rattle.herm_model.proofs.Options.{none-not_some, some-injective}
 use Rattle.herm_journal.specs.Actions.{to_hear, hear}
 use Rattle.herm_journal.specs.Messages.{CellWant, CellAction, CellReply, IsReplyTo}
 use Rattle.herm_forms.specs.Frames.{counted_action}
-use Rattle.herm_system.specs.Suiting.{Answers, Suits}
+use Rattle.herm_system.specs.Suiting.{Answers}
 use Rattle.herm_instructions.specs.Images.{CodeModule, Image, instruction_at}
-use Rattle.herm_instructions.specs.Instructions.{Argument, Instruction, Step, Call}
+use Rattle.herm_instructions.specs.Instructions.{Instruction, Step}
 use Rattle.herm_code_machine.specs.CodeActions.{code_settles, code_hears}
-use Rattle.herm_code_machine.specs.CodeInstance.{own_name, code_at, code_machine}
-use Rattle.herm_code_machine.specs.CodeLocal.{IsLocallySoundCode, IsSoundCodeIn, IsCall}
+use Rattle.herm_code_machine.specs.CodeInstance.{own_name, code_at}
+use Rattle.herm_code_machine.specs.CodeLocal.{IsLocallySoundCode, IsCall}
 use Rattle.herm_code_machine.specs.CodeStates.{at_index, CodeState, state_behind, first_frame}
 use Rattle.herm_code_machine.specs.CodeSteps.{CodeNext, an_item, a_reply, an_action, a_local_piece, nothing, code_next, code_wanted, wanted_next, met_at}
 use Rattle.herm_code_machine.specs.Pieces.{Met, action_of}
-use Rattle.herm_code_machine.specs.ReadyCode.{ReadyCode, ReadyImage, labelled_image}
+use Rattle.herm_code_machine.specs.ReadyCode.{ReadyCode, labelled_image}
 use Rattle.herm_code_machine.specs.laws.GoodImageLaws.{IsGoodOver, labelled_code}
 use Rattle.herm_code_machine.specs.laws.OperandLaws.{IsNowhereStuck, behind_step, IsBefore, at_once, by_its_step, IsLeftBy, by_action, by_reply, RunsFindOperands}
 use Rattle.herm_code_machine.specs.laws.StandingLaws.{IsAtInstruction}

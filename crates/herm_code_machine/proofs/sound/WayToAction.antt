@@ -5,14 +5,12 @@ use Rattle.herm_model.specs.Outcomes.{ok}
 use Rattle.herm_model.specs.Values.{Name, Value}
 use Rattle.herm_model.proofs.Options.{none-not_some, some-injective, chain-some}
 use Rattle.herm_forms.specs.Evaluate.{Evaluated, gives, raises, no_value}
-use Rattle.herm_forms.specs.Frames.{goes}
 use Rattle.herm_instructions.specs.Actions.{is_step, is_action}
 use Rattle.herm_instructions.specs.Images.{instruction_at}
 use Rattle.herm_instructions.specs.Instructions.{Instruction, Const, Load}
 use Rattle.herm_instructions.specs.Pieces.{is_operand}
 use Rattle.herm_code_machine.specs.CodeInstance.{own_name}
-use Rattle.herm_code_machine.specs.CodeStates.{Position, at_index, at_end, at_end_by, CodeState, leads, state_behind, done_instruction, begins_piece}
-use Rattle.herm_code_machine.specs.Effects.{effect}
+use Rattle.herm_code_machine.specs.CodeStates.{Position, at_index, CodeState, leads, state_behind, done_instruction, begins_piece}
 use Rattle.herm_code_machine.specs.Pieces.{Met, action_from, operand, pushed, behind_operands}
 use Rattle.herm_code_machine.specs.ReadyCode.{ReadyCode}
 use Rattle.herm_code_machine.specs.Stacks.{Effect, pushing}

@@ -1,5 +1,5 @@
 -- What is claimed of runs of instructions and of ends: each run is instructions one after the other, and an end is that of its instruction.
-use Rattle.std.specs.Prelude.{ℕ, Option, Some, None, false, ◌≡◌, ◌↔◌}
+use Rattle.std.specs.Prelude.{ℕ, Some, None, false, ◌≡◌, ◌↔◌}
 use Rattle.herm_forms.specs.Frames.{Name}
 use Rattle.herm_instructions.specs.Images.{instruction_at}
 use Rattle.herm_instructions.specs.Instructions.{Instruction, End, EndBy}

@@ -1,5 +1,5 @@
 -- What is claimed of the instructions that processes do: each run is on its way instruction by instruction, and in good images each finds its operands.
-use Rattle.std.specs.Prelude.{ℕ, suc, List, [], false, Some, slice_get, IsTrue, ◌≡◌}
+use Rattle.std.specs.Prelude.{ℕ, suc, [], false, Some, slice_get, IsTrue, ◌≡◌}
 use Rattle.herm_model.specs.Values.{Name, an_inport, cell, no_parts}
 use Rattle.herm_journal.specs.Messages.{CellWant, CellAction}
 use Rattle.herm_forms.specs.Frames.{counted_step, counted_action}
