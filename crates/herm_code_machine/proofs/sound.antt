@@ -20,7 +20,6 @@ pub mod AlongRuns
 pub mod AlongSteps
 pub mod AlongAnswers
 pub mod SoundProcesses
-pub mod WantsHeld
 pub mod CodeWants
 pub mod CodeBegins
 pub mod WayToAction

@@ -1,5 +1,4 @@
 -- What cells a process holds at places with types.
-pub mod TypedPlaces
 pub mod PlacedSteps
 pub mod AnsweredPlaces
 pub mod KeptStanding

@@ -2,7 +2,6 @@
 pub mod LoopLists
 pub mod Shapes
 pub mod OneForm
-pub mod WantsHeld
 pub mod OneModule
 pub mod SoundProcesses
 pub mod Standings

@@ -1,12 +1,10 @@
 -- The processes of a good image keep counts of inports and callmessages.
-use Rattle.std.proofs.Common.{◌≡◌, ◌⊎◌, inl, inr, ℕ, suc, ◌+◌, List, [], ◌∷◌, map, Bool, Option, Some, None, option_and_then, option_map, refl, sym, ap, subst, ◌∙◌, arith}
+use Rattle.std.proofs.Common.{◌≡◌, ◌⊎◌, inl, inr, ℕ, suc, ◌+◌, List, [], ◌∷◌, map, Bool, Some, None, option_and_then, option_map, refl, sym, ap, subst, ◌∙◌, arith}
 use Rattle.std.specs.Prelude.{pred, length, flat_map}
 use Rattle.herm_model.specs.Lists.{IsIn}
-use Rattle.herm_model.specs.Outcomes.{Outcome, ok}
 use Rattle.herm_model.specs.Paths.{Path}
-use Rattle.herm_model.specs.Types.{Raised, type_at}
+use Rattle.herm_model.specs.Types.{Raised}
 use Rattle.herm_model.specs.Values.{Name, Kind, kind_of, an_inport, Cell, cell, no_parts, Value}
-use Rattle.herm_model.specs.WellFormedTables.{IsWellFormedTable}
 use Rattle.herm_model.proofs.Loads.{load, load_all}
 use Rattle.herm_model.proofs.Options.{none-not_some, some-injective, chain-some}
 use Rattle.herm_journal.specs.Actions.{to_hear, put, hear}
@@ -18,7 +16,6 @@ use Rattle.herm_system.specs.Summary.{how_many}
 use Rattle.herm_forms.specs.Callmessages as callmessages
 use Rattle.herm_forms.specs.Callmessages.{Composed}
 use Rattle.herm_forms.specs.ClosesAndAnswers
-use Rattle.herm_forms.specs.EdgeFinalising.{arrive}
 use Rattle.herm_forms.specs.Excess.{excess_over_full}
 use Rattle.herm_forms.specs.Frames.{Frame, Completion, goes, stays, stuck, counted_action}
 use Rattle.herm_forms.specs.Weights.{weight_made}
@@ -31,35 +28,34 @@ use Rattle.herm_forms.proofs.PlainCopies.{IsPlainKind}
 use Rattle.herm_forms.proofs.Weights.{Spares, weigh-gaps}
 use Rattle.herm_runs.specs.Counting.{IsOfWaiting, kinds_coming, kinds_going, kinds_made, kinds_ended}
 use Rattle.herm_sound.specs.SoundMachines.{KeepsWaiting}
-use Rattle.herm_instructions.specs.GoodCode.{IsGood}
 use Rattle.herm_instructions.specs.Images.{CodeModule, Image}
 use Rattle.herm_instructions.specs.Instructions.{Argument, Instruction, Call}
 use Rattle.herm_instructions.specs.Labels.{Label}
 use Rattle.herm_instructions.specs.Operands.{count_inputs}
-use Rattle.herm_instructions.specs.Places.{label_at, label_at_start}
-use Rattle.herm_code_machine.specs.CodeActions.{mode_of, inouts, outs, composed_of, called, code_wants, code_settles, code_hears}
+use Rattle.herm_code_machine.specs.CodeActions.{mode_of, inouts, outs, composed_of, called, code_wants, code_settles}
 use Rattle.herm_code_machine.specs.CodeInstance.{own_name, code_at, code_machine}
 use Rattle.herm_code_machine.specs.CodeLocal.{IsCall, IsLocallySoundCode, IsSoundCodeIn}
 use Rattle.herm_code_machine.specs.CodeSeen.{type_of_call, code_open_call}
 use Rattle.herm_code_machine.specs.CodeStates.{at_index, CodeState, code_begin, on_by, run_on}
 use Rattle.herm_code_machine.specs.CodeSteps.{CodeNext, an_item, a_reply, an_action, a_local_piece, nothing, code_next, met_at, counted_if, worked, wanted_next, settled, settle_next, code_wanted, code_local_step, code_answered}
-use Rattle.herm_code_machine.specs.Effects.{effect}
 use Rattle.herm_code_machine.specs.Pieces.{Piece, Met, piece_at, action_of}
 use Rattle.herm_code_machine.specs.ReadyCode.{ReadyCode, ReadyImage, labelled_image}
 use Rattle.herm_code_machine.specs.Stacks.{Effect, leaving, Popped, pop, parts_from, with_popped}
 use Rattle.herm_code_machine.specs.laws.GoodImageLaws.{IsGoodOver, labelled_code}
 use Rattle.herm_code_machine.proofs.RunsKeep.{AllOf}
 use Rattle.herm_code_machine.proofs.balanced.EffectsBalance.{CodeCopies, code_begun, code_over, kept-effect, kept-hears, kept-counted}
-use Rattle.herm_code_machine.proofs.counted.CodeAgrees.{Agrees, Opens, OpensBy, agrees-hear, agrees-item, agrees-instruction}
+use Rattle.herm_code_machine.proofs.counted.CodeAgrees.{Agrees, Opens, OpensBy, agrees-instruction}
+use Rattle.herm_held.proofs.KindAgrees.{agrees-hear, agrees-item}
 use Rattle.herm_code_machine.proofs.counted.CopiedKinds.{copies-plain, more-copied}
-use Rattle.herm_code_machine.proofs.counted.KindTotals.{nameless, one_of, spares, of-cell, of-coming, of-going, of-held, nothing-made}
+use Rattle.herm_held.proofs.KindTotals.{nameless, one_of, spares, of-cell, of-coming, nothing-made}
+use Rattle.herm_code_machine.proofs.counted.KindTotals.{of-going, of-held}
 use Rattle.herm_code_machine.proofs.instance.CodeLaws.{begun-code, begun-at, local-code, code-stays}
 use Rattle.herm_code_machine.proofs.kept.CodeNumbers.{code-begins, code-local-stays, code-answer-stays}
 use Rattle.herm_code_machine.proofs.sound.ActionEffects.{TakesMessage}
 use Rattle.herm_code_machine.proofs.sound.ActionSteps.{Acting, acting-at, action-goes, counted-is}
 use Rattle.herm_code_machine.proofs.sound.AlongAnswers.{completed, settles, Stayed, answered-along, reply-along}
 use Rattle.herm_code_machine.proofs.sound.AlongRuns.{FoundAt, KeepsAlong}
-use Rattle.herm_code_machine.proofs.sound.AlongSteps.{ComesSo, begins-along, local-along, acting-along}
+use Rattle.herm_code_machine.proofs.sound.AlongSteps.{ComesSo, begins-along, local-along}
 use Rattle.herm_code_machine.proofs.sound.AtLabels.{Holds}
 use Rattle.herm_code_machine.proofs.sound.Between as between
 use Rattle.herm_code_machine.proofs.sound.CallSteps.{is-call}
@@ -67,7 +63,6 @@ use Rattle.herm_code_machine.proofs.sound.CopiedStacks.{AreCopied}
 use Rattle.herm_code_machine.proofs.sound.ItemSteps.{SuitsCode, call_there, call-at, suits-in, takes-message}
 use Rattle.herm_code_machine.proofs.sound.LocalSteps.{ComesNext, by_work, by_call, by_act, comes-next}
 use Rattle.herm_code_machine.proofs.sound.Processes.{module-of}
-use Rattle.herm_code_machine.proofs.sound.RunsThere.{first_state}
 use Rattle.herm_code_machine.proofs.sound.SoundProcesses.{stays-sound}
 
 module _ (exceptions' : ℕ) (image : Image) (main : ℕ) (good : IsGoodOver exceptions' image) (m : CodeModule) (in-image : IsIn m image.modules) (test : Kind → Bool) (of : IsOfWaiting test) where
@@ -244,7 +239,7 @@ module _ (exceptions' : ℕ) (image : Image) (main : ℕ) (good : IsGoodOver exc
             over = 0;
             balanced = subst (λ k'. SuitsCode c s at (hear k' r) → settle_next own_name c s at (hear k' r) (a_reply k met.index met.instruction) ≡ Some t → BalancedBehind s t to_hear (hear k' r) 0 0) (sym heard-number)
                 (λ suits is. reply-balanced s t k met sound opened piece r suits at is) suits is;
-            agrees = agrees-hear test (labelled_image image main) t (hear k' r) tt;
+            agrees = agrees-hear (code_machine (labelled_image image main)) test t (hear k' r) tt;
           }
       heard k met opened piece a h suits is = absurd h
 
@@ -276,7 +271,7 @@ module _ (exceptions' : ℕ) (image : Image) (main : ℕ) (good : IsGoodOver exc
         begun = 0;
         over = one_of test (kind_of item);
         balanced = item-balanced s t want a item work front wanted is;
-        agrees = agrees-item test (labelled_image image main) t item want a wanted h;
+        agrees = agrees-item (code_machine (labelled_image image main)) test t item want a wanted h;
       }
       by (an_action p met) (by_act p' met' idle closed piece act) wanted is = acted p met idle closed piece act wanted is
       by (a_reply k i instruction) (by_call k' met idle opened piece) wanted is =

@@ -41,7 +41,7 @@ use Rattle.herm_code_machine.specs.CodeTypes.{type_made}
 use Rattle.herm_code_machine.specs.ReadyCode.{ReadyCode, ready_code}
 use Rattle.herm_code_machine.proofs.placed.RowsOfSlots.{row_in}
 use Rattle.herm_code_machine.proofs.placed.StandEffects.{Stands, stands-agrees, stands-allowed, BodyStands, ValuesStand, StandAt, stand-leaving}
-use Rattle.herm_code_machine.proofs.placed.TypedPlaces.{AllAre, typed-placed, placed-typed, list-typed}
+use Rattle.herm_held.proofs.TypedPlaces.{AllAre, typed-placed, placed-typed, list-typed}
 use Rattle.herm_code_machine.proofs.sound.ActionEffects.{Acts, looked_by, made_by, TakesMessage}
 use Rattle.herm_code_machine.proofs.sound.AlongRuns.{behind}
 use Rattle.herm_code_machine.proofs.sound.AtLabels.{Holds}

@@ -7,7 +7,7 @@ use Rattle.herm_model.specs.Calls.{led_to, message_type}
 use Rattle.herm_model.specs.CellNames.{count_in, copy_in}
 use Rattle.herm_model.specs.Expressions.{Atom}
 use Rattle.herm_model.specs.Lists.{IsIn}
-use Rattle.herm_model.specs.Outcomes.{Outcome, raised}
+use Rattle.herm_model.specs.Outcomes.{Outcome}
 use Rattle.herm_model.specs.Paths.{Path}
 use Rattle.herm_model.specs.Statements.{Form}
 use Rattle.herm_model.specs.Types.{TypeTable, Mode, Parameter, Raised}
@@ -56,7 +56,7 @@ use Rattle.herm_code_machine.specs.Stacks.{leaving, Popped, pop_onto, pop, parts
 use Rattle.herm_code_machine.proofs.placed.ActionsStand.{StandsBehind, message-stands}
 use Rattle.herm_code_machine.proofs.placed.RowsOfSlots.{row_in}
 use Rattle.herm_code_machine.proofs.placed.StandEffects.{Stands, stands-agrees, stands-allowed, BodyStands, ValuesStand, stand-leaving, listed-popped}
-use Rattle.herm_code_machine.proofs.placed.TypedPlaces.{AllAre, list-placed}
+use Rattle.herm_held.proofs.TypedPlaces.{AllAre, list-placed}
 use Rattle.herm_code_machine.proofs.sound.AtLabels.{has_of, Finds}
 use Rattle.herm_code_machine.proofs.sound.Between as between
 use Rattle.herm_code_machine.proofs.sound.CallArguments.{inputs-many, AllAt, values-are, hears-same}

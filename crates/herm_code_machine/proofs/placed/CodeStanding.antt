@@ -50,7 +50,7 @@ use Rattle.herm_code_machine.proofs.placed.ActionsStand.{in-some, at-type, Stand
 use Rattle.herm_code_machine.proofs.placed.CallsStand.{same-number, is_called, Calls, calls-there, call-stands, call-going, reply-stands}
 use Rattle.herm_code_machine.proofs.placed.RowsOfSlots.{row_in}
 use Rattle.herm_code_machine.proofs.placed.StandEffects.{Stands, stands-agrees, BodyStands, ValuesStand, StandAt, keeps-standing}
-use Rattle.herm_code_machine.proofs.placed.TypedPlaces.{AllAre}
+use Rattle.herm_held.proofs.TypedPlaces.{AllAre}
 use Rattle.herm_code_machine.proofs.sound.ActionEffects.{TakesMessage, each-action}
 use Rattle.herm_code_machine.proofs.sound.ActionSteps.{Acting, acting-at}
 use Rattle.herm_code_machine.proofs.sound.AlongAnswers.{settles, Stayed, plain-along, answered-along, reply-along}

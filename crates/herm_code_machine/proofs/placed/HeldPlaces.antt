@@ -29,7 +29,7 @@ use Rattle.herm_code_machine.specs.ReadyCode.{ReadyCode, ready_code, labelled_im
 use Rattle.herm_code_machine.proofs.counted.CopiedKinds.{stack-plain}
 use Rattle.herm_code_machine.proofs.placed.RowsOfSlots.{row_in, row-found}
 use Rattle.herm_code_machine.proofs.placed.StandEffects.{Stands, stands-agrees, BodyStands, ValuesStand}
-use Rattle.herm_code_machine.proofs.placed.TypedPlaces.{AllAre, variables-placed, rows-placed, are-typed, list-placed, list-typed}
+use Rattle.herm_held.proofs.TypedPlaces.{AllAre, variables-placed, rows-placed, are-typed, list-placed, list-typed}
 use Rattle.herm_code_machine.proofs.sound.CopiedStacks.{AreCopied}
 use Rattle.herm_code_machine.proofs.sound.LoopEffects.{slots-numbers}
 

@@ -1,9 +1,9 @@
 -- Where inports, outports and callmessages at a label stand at places of their types, they do behind each instruction of good code that
 -- is no action.
-use Rattle.std.proofs.Common.{◌≡◌, inl, inr, ℕ, zero, suc, ◌+◌, List, [], ◌∷◌, ◌++◌, map, filter, drop, Bool, true, false, not, nat_eq, Option, Some, None, option_and_then, refl, sym, ap, subst, ◌∙◌}
+use Rattle.std.proofs.Common.{◌≡◌, ℕ, zero, suc, List, [], ◌∷◌, ◌++◌, map, filter, drop, Bool, true, false, not, nat_eq, Option, Some, None, option_and_then, refl, sym, ap, subst, ◌∙◌}
 use Rattle.std.specs.Prelude.{length, slice_get, IsTrue}
 use Rattle.herm_model.specs.Calls.{led_to}
-use Rattle.herm_model.specs.CellNames.{count_in, copy_in}
+use Rattle.herm_model.specs.CellNames.{copy_in}
 use Rattle.herm_model.specs.Expressions.{Expression, Atom, Literal, Operator}
 use Rattle.herm_model.specs.Lists.{IsIn, list_of, range}
 use Rattle.herm_model.specs.Outcomes.{Outcome, ok, is_true, is_false, turn, done, component, arm, raised}
@@ -11,7 +11,7 @@ use Rattle.herm_model.specs.Paths.{Path}
 use Rattle.herm_model.specs.Statements.{Form, Differ}
 use Rattle.herm_model.specs.TypedExpressions.{is_scalar_shape, shape_given}
 use Rattle.herm_model.specs.TypedStatements.{IsTypedForm}
-use Rattle.herm_model.specs.Types.{TypeTable, Shape, boolean, integer, text, outport}
+use Rattle.herm_model.specs.Types.{TypeTable, Shape, boolean, integer, text}
 use Rattle.herm_model.specs.Values.{Name, Kind, a_scalar, a_callmessage, an_inport, an_outport, Scalar, Cell, cell, no_parts, parts_of, read_at, Value}
 use Rattle.herm_model.specs.WellFormedTables.{IsWellFormedTable, IsType}
 use Rattle.herm_model.specs.tests.TypingTests.{number_of_shape}
@@ -21,10 +21,10 @@ use Rattle.herm_model.proofs.Options.{none-not_some, some-injective}
 use Rattle.herm_journal.specs.PartTypes.{each, all_of, is_kind_at, has_no_number, IsPlaced, ArePlaced}
 use Rattle.herm_forms.specs.Acts.{act}
 use Rattle.herm_forms.specs.EdgeFinalising.{arrive}
-use Rattle.herm_forms.specs.Evaluate.{Evaluated, gives, raises, no_value, evaluate, scalar_then, two_then, operate, value_there, rows_there, scalar_value, scalar_of}
+use Rattle.herm_forms.specs.Evaluate.{Evaluated, gives, raises, no_value, scalar_then, two_then, operate, value_there, rows_there, scalar_value, scalar_of}
 use Rattle.herm_forms.specs.Forms.{tested}
 use Rattle.herm_forms.specs.Forms
-use Rattle.herm_forms.specs.Frames.{Loop, Frame, Completion, goes, stuck, if_there, drop_at, copying_parts}
+use Rattle.herm_forms.specs.Frames.{Loop, Frame, Completion, goes, stuck, if_there, copying_parts}
 use Rattle.herm_forms.specs.LoopForms.{next_row, rows_for}
 use Rattle.herm_forms.proofs.KeptBodies.{IsVisit}
 use Rattle.herm_forms.proofs.known.KindsKept.{Gives, value-given, two-then, operated, evaluate-from}
@@ -49,11 +49,11 @@ use Rattle.herm_code_machine.specs.Stacks.{Effect, leaving, pushing, Popped, pop
 use Rattle.herm_code_machine.specs.laws.InstructionLaws.{DoForms}
 use Rattle.herm_code_machine.proofs.DoneForms.{instructions-do-forms}
 use Rattle.herm_code_machine.proofs.placed.RowsOfSlots.{row_in, row-found, begun-stand, less-stand, none-stand}
-use Rattle.herm_code_machine.proofs.placed.TypedPlaces.{With}
+use Rattle.herm_held.proofs.TypedPlaces.{With}
 use Rattle.herm_code_machine.proofs.sound.AlongRuns.{FoundAt, KeepsAlong, behind}
-use Rattle.herm_code_machine.proofs.sound.AtLabels.{Holds, behind_stack, numbers}
+use Rattle.herm_code_machine.proofs.sound.AtLabels.{Holds, behind_stack}
 use Rattle.herm_code_machine.proofs.sound.Between as between
-use Rattle.herm_code_machine.proofs.sound.EachEffect.{unary, literal-of, has-boolean, has-integer, has-text}
+use Rattle.herm_code_machine.proofs.sound.EachEffect.{unary, literal-of}
 use Rattle.herm_code_machine.proofs.sound.KeyEffects.{key-there}
 use Rattle.herm_code_machine.proofs.sound.LoopEffects.{left-alone, slots-numbers}
 

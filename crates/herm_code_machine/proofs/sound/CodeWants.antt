@@ -1,5 +1,5 @@
 -- What a process of a good image wants a place for is what it has.
-use Rattle.std.proofs.Common.{◌≡◌, ◌⊎◌, inl, inr, ℕ, List, [], ◌∷◌, ◌++◌, flat_map, map, find, Bool, true, false, cond, Option, Some, None, option_map, option_and_then, refl, sym, ap, subst, ◌∙◌}
+use Rattle.std.proofs.Common.{◌≡◌, ◌⊎◌, inl, inr, ℕ, List, [], ◌∷◌, ◌++◌, flat_map, map, find, Bool, true, false, cond, Some, None, option_map, option_and_then, refl, sym, ap, subst, ◌∙◌}
 use Rattle.std.proofs.Math.Bool.{or-false}
 use Rattle.std.specs.Prelude.{nat_eq, slice_get}
 use Rattle.herm_model.specs.Lists.{IsIn, any_pass, list_of}
@@ -32,7 +32,7 @@ use Rattle.herm_sound.specs.SoundMachines.{HasFor}
 use Rattle.herm_sound.specs.Standing.{typed_places}
 use Rattle.herm_system.specs.HeldParts.{in_variables, in_rows, untyped}
 use Rattle.herm_system.specs.Kinds.{typed_in, typed_held, kinds_of, kinds_by}
-use Rattle.herm_system.specs.Machines.{Held, OpenCall}
+use Rattle.herm_system.specs.Machines.{Held}
 use Rattle.herm_instructions.specs.Actions as actions
 use Rattle.herm_instructions.specs.GoodCode.{processes_of}
 use Rattle.herm_instructions.specs.Images.{CodeModule, Image}
@@ -44,12 +44,12 @@ use Rattle.herm_code_machine.specs.CodeInstance.{own_name, code_at, code_machine
 use Rattle.herm_code_machine.specs.CodeLocal.{WaitsAlone, IsCall, IsLocallySoundCode, IsSoundCodeIn}
 use Rattle.herm_code_machine.specs.CodeSeen.{slot_row, code_held, ports_of, action_at, code_port_type, type_of_call, code_open_call}
 use Rattle.herm_code_machine.specs.CodeStates.{CodeState}
-use Rattle.herm_code_machine.specs.CodeSteps.{CodeNext, an_item, a_reply, an_action, a_local_piece, nothing, code_next, met_at, wanted_next, code_wanted}
+use Rattle.herm_code_machine.specs.CodeSteps.{CodeNext, an_item, a_reply, an_action, a_local_piece, nothing, code_next, wanted_next, code_wanted}
 use Rattle.herm_code_machine.specs.CodeTypes.{first_type, type_made, new_type}
 use Rattle.herm_code_machine.specs.Pieces.{Piece, Met, piece_at, action_of}
 use Rattle.herm_code_machine.specs.ReadyCode.{ReadyCode, ReadyImage, ready_code, labelled_image}
 use Rattle.herm_code_machine.specs.laws.GoodImageLaws.{IsGoodOver, labelled_code}
-use Rattle.herm_code_machine.proofs.placed.ReadPlaces.{type-read}
+use Rattle.herm_held.proofs.TypedReads.{type-read}
 use Rattle.herm_code_machine.proofs.sound.ActionEffects.{Acts, each-action}
 use Rattle.herm_code_machine.proofs.sound.ActionSteps.{Acting, acting-at}
 use Rattle.herm_code_machine.proofs.sound.AtLabels.{has_of, Holds, Finds}
@@ -59,7 +59,7 @@ use Rattle.herm_code_machine.proofs.sound.EachEffect.{inport-same}
 use Rattle.herm_code_machine.proofs.sound.ItemSteps.{call_there}
 use Rattle.herm_code_machine.proofs.sound.LocalSteps.{ComesNext, by_work, by_call, by_act, comes-next}
 use Rattle.herm_code_machine.proofs.sound.Processes.{module-of, steps-sound}
-use Rattle.herm_code_machine.proofs.sound.WantsHeld.{SendsBy, RepliesFrom, by-outport, sends-by, replies-from}
+use Rattle.herm_held.proofs.WantsHeld.{SendsBy, RepliesFrom, by-outport, sends-by, replies-from}
 
 -- what is found of a list that has such an element
 find-some : {X : Type 0} (test : X → Bool) (x : X) (xs : List X) → IsIn x xs → test x ≡ true → (y : X) × (find test xs ≡ Some y)
@@ -202,7 +202,7 @@ module _ (exceptions' : ℕ) (image : Image) (main : ℕ) (good : IsGoodOver exc
       instruction-has j (Send p o trim) at other acts finds a w e =
           let r = chain-some (λ port. option_map (to_put port) (cell_at p (drop trim s.frame).variables)) (Exchanges.outport_at o s.frame) w e in
           let q = map-some (to_put r.0) (cell_at p (drop trim s.frame).variables) w r.2 in
-          subst Has q.2 (sends-has r.0 q.0 (sends-by exceptions' (processes_of image.modules) (c).scope a.form a.is (has_of l) s.frame (holds.sound) a.needed r.0 q.0 (sym a.as_form ∙ e ∙ ap (λ w. Some w) (sym q.2))))
+          subst Has q.2 (sends-has r.0 q.0 (sends-by exceptions' (processes_of image.modules) (c).scope own_name a.form a.is (has_of l) s.frame (holds.sound) a.needed r.0 q.0 (sym a.as_form ∙ e ∙ ap (λ w. Some w) (sym q.2))))
       instruction-has j (Receive p i) at other acts finds a w e =
           let r = map-some (λ port. to_take (port ∷ [])) (inport_at i s.frame) w e in
           subst Has r.2 (takes-has j (Receive p i) at (r.0 ∷ []) (ap (option_and_then (λ (port : ℕ). Some (port ∷ []))) r.1))
@@ -212,10 +212,10 @@ module _ (exceptions' : ℕ) (image : Image) (main : ℕ) (good : IsGoodOver exc
       instruction-has j (Call o arguments keep) at other acts finds a w e = absurd (other tt)
       instruction-has j (Return p) at other acts finds a w e =
           let k = return-want own_name (c).scope s.frame w values (given_back (c).scope (given_at (c).scope p) s.frame) p e in
-          subst Has k.3 (replies-has k.0 k.1 k.2 (replies-from exceptions' (processes_of image.modules) (c).scope a.form a.is (has_of l) s.frame (holds.sound) a.needed k.0 k.1 k.2 (sym a.as_form ∙ e ∙ ap (λ w. Some w) (sym k.3))))
+          subst Has k.3 (replies-has k.0 k.1 k.2 (replies-from exceptions' (processes_of image.modules) (c).scope own_name a.form a.is (has_of l) s.frame (holds.sound) a.needed k.0 k.1 k.2 (sym a.as_form ∙ e ∙ ap (λ w. Some w) (sym k.3))))
       instruction-has j (ReturnBy p x kept) at other acts finds a w e =
           let k = return-want own_name (c).scope s.frame w (Actions.raised x) (given_back (c).scope (kept_parameters c p kept) s.frame) p e in
-          subst Has k.3 (replies-has k.0 k.1 k.2 (replies-from exceptions' (processes_of image.modules) (c).scope a.form a.is (has_of l) s.frame (holds.sound) a.needed k.0 k.1 k.2 (sym a.as_form ∙ e ∙ ap (λ w. Some w) (sym k.3))))
+          subst Has k.3 (replies-has k.0 k.1 k.2 (replies-from exceptions' (processes_of image.modules) (c).scope own_name a.form a.is (has_of l) s.frame (holds.sound) a.needed k.0 k.1 k.2 (sym a.as_form ∙ e ∙ ap (λ w. Some w) (sym k.3))))
       instruction-has j i at other acts finds a w e = none-not_some e
 
     action-has : (p : Piece) (met : Met) → s.frame.work ≡ [] → s.frame.call ≡ None → piece_at c s.position ≡ Some p → action_of c p ≡ Some met → (w : CellWant Name) → wanted_next own_name c s (an_action p met) ≡ Some w → Has w
@@ -229,7 +229,7 @@ module _ (exceptions' : ℕ) (image : Image) (main : ℕ) (good : IsGoodOver exc
             let x = acting.there in
             let g = call-goes exceptions' image good.good good.table m in-image own_name s p met acting call in
             subst Has (some-injective (sym g.wanted ∙ wanted))
-            (sends-has g.port g.message (by-outport exceptions' (processes_of image.modules) (c).scope g.to (has_of x.label) s.frame (x.holds).sound g.port g.message g.outport (g.type, g.leads, g.is_message)))
+            (sends-has g.port g.message (by-outport exceptions' (processes_of image.modules) (c).scope own_name g.to (has_of x.label) s.frame (x.holds).sound g.port g.message g.outport (g.type, g.leads, g.is_message)))
         by (inr other) =
             let x = acting.there in
             let W = between.HasWay exceptions' image good.good good.table m in-image met.index met.instruction x.label in

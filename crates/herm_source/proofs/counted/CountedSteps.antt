@@ -9,13 +9,13 @@ use Rattle.herm_model.specs.Calls.{parameters_of, raises_of, shape_at, returned_
 use Rattle.herm_model.specs.Statements.{Process, Arm, Form, New, Send, Receive, Select, Call, Return, ReturnBy, Create}
 use Rattle.herm_model.specs.Nodes.{Node, process_nodes}
 use Rattle.herm_model.specs.Targets.{Target, node, end, end_by}
-use Rattle.herm_model.specs.Values.{Name, Kind, kind_of, a_callmessage, an_inport, Cell, cell, cell_at}
+use Rattle.herm_model.specs.Values.{Name, Kind, kind_of, a_callmessage, Cell, cell_at}
 use Rattle.herm_model.specs.TypedStatements.{IsTypedForm}
 use Rattle.herm_model.specs.TypedPrograms.{IsTypedProgram}
 use Rattle.herm_model.proofs.FactTests.{got-IsIn}
 use Rattle.herm_model.proofs.Options.{some-injective, none-not_some, chain-some, map-some}
-use Rattle.herm_journal.specs.Actions.{values, raised, gone, new_port, new_process, to_put, to_take, to_close, to_answer, to_hear, make_port, make_process, put, take, close, answer, hear}
-use Rattle.herm_journal.specs.Messages.{CellReply, CellWant, CellAction}
+use Rattle.herm_journal.specs.Actions.{values, raised, to_put, to_take, put}
+use Rattle.herm_journal.specs.Messages.{CellWant, CellAction}
 use Rattle.herm_forms.specs.Frames.{counted_step, counted_action, Frame, goes, stays, cleared, drop, if_there}
 use Rattle.herm_forms.specs.Exchanges
 use Rattle.herm_forms.specs.Callmessages as callmessages
@@ -50,7 +50,9 @@ use Rattle.herm_source.specs.Instance.{source, code_at}
 use Rattle.herm_source.specs.laws.CountLaws.{HasTypesIn, TypedProgramsKeepCounts}
 use Rattle.herm_source.proofs.KeptSteps.{CopiesNext, begun_next, over_next, balanced-step_next, balanced-settle_next, balanced-begin}
 use Rattle.herm_source.proofs.Numbers.{local-stays, answer-stays}
-use Rattle.herm_source.proofs.counted.KindTotals.{nameless, one_of, spares, many, of-cell, of-coming, of-going, of-held, nothing-made}
+use Rattle.herm_held.proofs.KindAgrees as held
+use Rattle.herm_held.proofs.KindTotals.{nameless, one_of, spares, of-cell, of-coming, nothing-made}
+use Rattle.herm_source.proofs.counted.KindTotals.{of-going, of-held}
 use Rattle.herm_source.proofs.instance.SourceLaws.{local-code, answer-code, code-stays}
 
 -- the nodes of the modules of a typed program are typed
@@ -89,61 +91,11 @@ stands c s n is = by s.frame.work s.frame.call (node_at c s.point) refl refl (ap
     by [] (Some k) (Some m) closed at is = none-not_some is
 
 module _ (test : Kind → Bool) (of : IsOfWaiting test) (modules : Modules) (c : Module) where
-  one-kind : (k : Kind) → how_many test (k ∷ []) ≡ one_of test k
-  one-kind k = omega (arith, many test (k ∷ []))
-
-  -- what was made and what was ended, by the two ways to count them
   abbrev Agrees : State Name → CellWant Name → CellAction Name → (begun over : ℕ) → Type 0
-  Agrees y want a begun over = how_many test (kinds_ended want) + begun ≡ over + how_many test (kinds_made (source modules) y a)
+  Agrees y want a begun over = held.Agrees (source modules) test y want a begun over
 
-  agrees-new : (y : State Name) (a : CellAction Name) → Answers {M = Cell Name} {R = CellReply Name} new_port a → Agrees y new_port a (port_load (one_of test) a) 0
-  agrees-new y (make_port (Some n)) h = omega (arith, one-kind (an_inport n))
-  agrees-new y (make_port None) h = refl
-  agrees-new y a h = absurd h
-
-  agrees-create : (y : State Name) (code : ℕ) (a : CellAction Name) → Answers {M = Cell Name} {R = CellReply Name} (new_process code) a → Agrees y (new_process code) a (port_load (one_of test) a) 0
-  agrees-create y code (make_process code' (Some weight_made)) h = omega (arith, one-kind (an_inport weight_made.1))
-  agrees-create y code (make_process code' None) h = refl
-  agrees-create y code a h = absurd h
-
-  agrees-take : (y : State Name) (ports : List ℕ) (a : CellAction Name) → Answers {M = Cell Name} {R = CellReply Name} (to_take ports) a → Agrees y (to_take ports) a 0 0
-  agrees-take y ports (take number m) h = refl
-  agrees-take y ports a h = absurd h
-
-  agrees-hear : (y : State Name) (a : CellAction Name) → Answers {M = Cell Name} {R = CellReply Name} to_hear a → Agrees y to_hear a 0 0
-  agrees-hear y (hear call r) h = refl
-  agrees-hear y a h = absurd h
-
-  agrees-close : (y : State Name) (n : ℕ) (a : CellAction Name) → Answers {M = Cell Name} {R = CellReply Name} (to_close n) a → Agrees y (to_close n) a 0 (one_of test (an_inport n))
-  agrees-close y n (close count left) h = omega (arith, one-kind (an_inport n))
-  agrees-close y n a h = absurd h
-
-  agrees-answer : (y : State Name) (caller call : ℕ) (reply : CellReply Name) (a : CellAction Name) → Answers (to_answer caller call reply) a → Agrees y (to_answer caller call reply) a 0 (one_of test (a_callmessage caller call))
-  agrees-answer y caller call reply (answer k r) h = omega (arith, one-kind (a_callmessage caller call))
-  agrees-answer y caller call reply a h = absurd h
-
-  -- the call that a process has open then
   abbrev Opens : State Name → Option ℕ → Type 0
-  Opens y k = option_map (λ (call : OpenCall). call.number) ((source modules).open_call y) ≡ k
-
-  made-none : (y : State Name) (o : Option OpenCall) (n : ℕ) → option_map (λ (call : OpenCall). call.number) o ≡ None → how_many test (list_of (λ (call : OpenCall). a_callmessage n call.number ∷ []) o) ≡ 0
-  made-none y None n is = refl
-  made-none y (Some call) n is = none-not_some (sym is)
-
-  made-one : (y : State Name) (o : Option OpenCall) (n k : ℕ) → option_map (λ (call : OpenCall). call.number) o ≡ Some k → how_many test (list_of (λ (call : OpenCall). a_callmessage n call.number ∷ []) o) ≡ one_of test (a_callmessage n k)
-  made-one y None n k is = none-not_some is
-  made-one y (Some call) n k is = one-kind (a_callmessage n call.number) ∙ ap (λ k. one_of test (a_callmessage n k)) (some-injective is)
-
-  agrees-send : (y : State Name) (port : ℕ) (m : Cell Name) (a : CellAction Name) → Answers {R = CellReply Name} (to_put port m) a → ((i : ℕ) (d : Cell Name) → a ≡ put (Some i) d → Opens y None) → Agrees y (to_put port m) a 0 0
-  agrees-send y port m (put (Some i) d) h opens = omega (arith, made-none y ((source modules).open_call y) ((source modules).number y) (opens i d refl))
-  agrees-send y port m (put None d) h opens = refl
-  agrees-send y port m a h opens = absurd h
-
-  agrees-call : (y : State Name) (port k : ℕ) (m : Cell Name) (a : CellAction Name) → Answers {R = CellReply Name} (to_put port m) a → kind_of m ≡ a_callmessage y.frame.number k → ((i : ℕ) (d : Cell Name) → a ≡ put (Some i) d → Opens y (Some k))
-      → Agrees y (to_put port m) a (one_of test (kind_of m)) (back_load (one_of test) a)
-  agrees-call y port k m (put (Some i) d) h kind opens = omega (arith, ap (one_of test) kind, made-one y ((source modules).open_call y) y.frame.number k (opens i d refl))
-  agrees-call y port k m (put None d) h kind opens = omega (arith, ap (λ (m : Cell Name). one_of test (kind_of m)) h)
-  agrees-call y port k m a h kind opens = absurd h
+  Opens y k = held.Opens (source modules) test y k
 
   -- a message that was sent leaves no call open
   sent-call : (s t : State Name) (n : Node) (lost : List Path) (x : Path) (b : Frame Name) (o : Option (Cell Name)) → b.call ≡ None
@@ -196,33 +148,33 @@ module _ (test : Kind → Bool) (of : IsOfWaiting test) (modules : Modules) (c :
     agrees-statement : (form : Form) (want : CellWant Name) (at : ℕ) (a : CellAction Name) → n.form ≡ form → wants own_name c form x.frame ≡ Some want → Answers want a
         → state_after c x (Some n) (settle own_name c form at a counted) ≡ Some y → Agrees y want a (begun (one_of test) own_name c form x.frame a) (over (one_of test) c form x.frame a)
     agrees-statement (New p) want at a form is answers does =
-        subst (λ w. Answers w a → Agrees y w a (port_load (one_of test) a) 0) (some-injective is) (agrees-new y a) answers
+        subst (λ w. Answers w a → Agrees y w a (port_load (one_of test) a) 0) (some-injective is) (held.agrees-new (source modules) test y a) answers
     agrees-statement (Create o process) want at a form is answers does =
-        subst (λ w. Answers w a → Agrees y w a (port_load (one_of test) a) 0) (some-injective is) (agrees-create y process a) answers
+        subst (λ w. Answers w a → Agrees y w a (port_load (one_of test) a) 0) (some-injective is) (held.agrees-create (source modules) test y process a) answers
     agrees-statement (Receive p i) want at a form is answers does =
         let r = map-some (λ port. to_take (port ∷ [])) (Exchanges.inport_at i x.frame) want is in
-        subst (λ w. Answers w a → Agrees y w a 0 0) r.2 (agrees-take y (r.0 ∷ []) a) answers
+        subst (λ w. Answers w a → Agrees y w a 0 0) r.2 (held.agrees-take (source modules) test y (r.0 ∷ []) a) answers
     agrees-statement (Select arms) want at a form is answers does =
         let r = map-some to_take (Exchanges.ports_at (map (λ (a : Arm). a.port) arms) x.frame) want is in
-        subst (λ w. Answers w a → Agrees y w a 0 0) r.2 (agrees-take y r.0 a) answers
+        subst (λ w. Answers w a → Agrees y w a 0 0) r.2 (held.agrees-take (source modules) test y r.0 a) answers
     agrees-statement (Send p o) want at a form is answers does =
         let lost = excess_over_declared c o p x.frame in
         let r = chain-some (λ port. option_map (to_put port) (cell_at p (drop lost x.frame).variables)) (Exchanges.outport_at o x.frame) want is in
         let q = map-some (to_put r.0) (cell_at p (drop lost x.frame).variables) want r.2 in
-        subst (λ w. Answers w a → Agrees y w a 0 0) q.2 (λ h. agrees-send y r.0 q.0 a h (opens-none (excess_over_declared c o p counted) p a does)) answers
+        subst (λ w. Answers w a → Agrees y w a 0 0) q.2 (λ h. held.agrees-send (source modules) test y r.0 q.0 a h (opens-none (excess_over_declared c o p counted) p a does)) answers
     agrees-statement (Call o arguments) want at a form is answers does =
         let r = chain-some (λ port. option_map (λ (z : Composed Name). to_put port z.message) (composed own_name c o arguments x.frame)) (Exchanges.outport_at o x.frame) want is in
         let q = map-some (λ (z : Composed Name). to_put r.0 z.message) (composed own_name c o arguments x.frame) want r.2 in
         let kind = call-kind own_name c o arguments x.frame q.0 q.1 ∙ ap (λ k. a_callmessage k q.0.call) (sym number) in
         subst (λ (z : Option (Composed Name)). Agrees y want a (call_load (one_of test) z) (back_load (one_of test) a)) (sym q.1)
         (subst (λ w. Answers w a → Agrees y w a (one_of test (kind_of q.0.message)) (back_load (one_of test) a)) q.2
-        (λ h. agrees-call y r.0 q.0.call q.0.message a h kind (opens-one o arguments q.0 a form q.1 does)) answers)
+        (λ h. held.agrees-call (source modules) test y r.0 q.0.call q.0.message a h kind (opens-one o arguments q.0 a form q.1 does)) answers)
     agrees-statement (Return m) want at a form is answers does =
         let r = return-ends (one_of test) c m (returned_places 0 (list_of parameters_of (shape_at c.types c.variables m))) values x.frame want is in
-        subst (λ n. Agrees y want a 0 n) (sym r.ends) (subst (λ w. Answers w a → Agrees y w a 0 (one_of test (a_callmessage r.caller r.call))) (sym r.is) (agrees-answer y r.caller r.call r.reply a) answers)
+        subst (λ n. Agrees y want a 0 n) (sym r.ends) (subst (λ w. Answers w a → Agrees y w a 0 (one_of test (a_callmessage r.caller r.call))) (sym r.is) (held.agrees-answer (source modules) test y r.caller r.call r.reply a) answers)
     agrees-statement (ReturnBy m e) want at a form is answers does =
         let r = return-ends (one_of test) c m (kept_for (list_of raises_of (shape_at c.types c.variables m)) e) (raised e) x.frame want is in
-        subst (λ n. Agrees y want a 0 n) (sym r.ends) (subst (λ w. Answers w a → Agrees y w a 0 (one_of test (a_callmessage r.caller r.call))) (sym r.is) (agrees-answer y r.caller r.call r.reply a) answers)
+        subst (λ n. Agrees y want a 0 n) (sym r.ends) (subst (λ w. Answers w a → Agrees y w a 0 (one_of test (a_callmessage r.caller r.call))) (sym r.is) (held.agrees-answer (source modules) test y r.caller r.call r.reply a) answers)
     agrees-statement form want at a same is answers does = none-not_some is
 
 -- So the source machine keeps counts.
@@ -258,11 +210,7 @@ module _ (exceptions : ℕ) (program : Program) (modules : Modules) (accepted : 
         omega (arith, b, nothing-made test (λ s. own_name (y.frame.number, s)) 0 y.frame.serial, of-held test modules x c.0 c.1, of-held test modules y c.0 there)
 
     agrees-item : (c : Module) (y : State Name) (item : Cell Name) (want : CellWant Name) (a : CellAction Name) → work_wants item ≡ Some want → Answers want a → Agrees test of modules c y want a 0 (one_of test (kind_of item))
-    agrees-item c y (cell n (an_inport port) ps) want a is answers =
-        subst (λ w. Answers w a → Agrees test of modules c y w a 0 (one_of test (an_inport port))) (some-injective is) (agrees-close test of modules c y port a) answers
-    agrees-item c y (cell n (a_callmessage caller call) ps) want a is answers =
-        subst (λ w. Answers w a → Agrees test of modules c y w a 0 (one_of test (a_callmessage caller call))) (some-injective is) (agrees-answer test of modules c y caller call gone a) answers
-    agrees-item c y (cell n k ps) want a is answers = none-not_some is
+    agrees-item c y item want a is answers = held.agrees-item (source modules) test y item want a is answers
 
     statement-wants : (c : Module) (n : Node) (b : Frame Name) (want : CellWant Name) (t : Bool) → cond t (wants own_name c n.form b) None ≡ Some want → wants own_name c n.form b ≡ Some want
     statement-wants c n b want true is = is
@@ -272,7 +220,7 @@ module _ (exceptions : ℕ) (program : Program) (modules : Modules) (accepted : 
         → wanted_next own_name c x.frame next ≡ Some want → Answers want a → settle_next own_name c x at a next ≡ Some y
         → Agrees test of modules c y want a (begun_next (one_of test) own_name c x.frame a next) (over_next (one_of test) c x.frame a next)
     agrees-next c x y there number want at a (an_item item work) is wants' answers does = agrees-item c y item want a wants' answers
-    agrees-next c x y there number want at a (a_reply call n) is wants' answers does = subst (λ w. Answers w a → Agrees test of modules c y w a 0 0) (some-injective wants') (agrees-hear test of modules c y a) answers
+    agrees-next c x y there number want at a (a_reply call n) is wants' answers does = subst (λ w. Answers w a → Agrees test of modules c y w a 0 0) (some-injective wants') (held.agrees-hear (source modules) test y a) answers
     agrees-next c x y there number want at a (a_statement n) is wants' answers does =
         agrees-statement test of modules c x y there number n (stands c x n is) n.form want at a refl (statement-wants c n x.frame want (is_action c n.form) wants') answers does
     agrees-next c x y there number want at a nothing is wants' answers does = none-not_some wants'

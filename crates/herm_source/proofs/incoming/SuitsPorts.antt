@@ -28,7 +28,7 @@ use Rattle.herm_forms.specs.Acts.{is_action, wants}
 use Rattle.herm_source.specs.SeenBySystem.{ports_of, looks_at, port_type}
 use Rattle.herm_system.specs.Kinds.{each, typed_in}
 use Rattle.herm_runs.proofs.ActionParts.{cond-both}
-use Rattle.herm_source.proofs.incoming.SuitsReading.{type-read}
+use Rattle.herm_held.proofs.TypedReads.{type-read}
 use Rattle.herm_runs.proofs.SuitsStates.{is-some_of}
 
 -- what is found of a list that has such an element

@@ -41,7 +41,7 @@ use Rattle.herm_source.specs.SeenBySystem.{port_type, open_call}
 use Rattle.herm_source.specs.laws.Standing.{type_made, at_type}
 use Rattle.herm_source.proofs.counted.CountedSteps.{node-there, stands}
 use Rattle.herm_source.proofs.sound.SoundProcesses.{SuitsCode, put-wanted}
-use Rattle.herm_source.proofs.placed.TypedPlaces.{typed-placed, list-placed}
+use Rattle.herm_held.proofs.TypedPlaces.{typed-placed, list-placed}
 use Rattle.herm_source.proofs.placed.PlacedSteps.{Own, own-agrees, Body', All, behind-is}
 use Rattle.herm_source.proofs.OpeningFrame.{opening_frame}
 

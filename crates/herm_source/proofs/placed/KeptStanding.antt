@@ -51,7 +51,7 @@ use Rattle.herm_source.proofs.instance.HeldValues.{typed-values}
 use Rattle.herm_source.proofs.reached.FoundNeeds.{module-of}
 use Rattle.herm_source.proofs.counted.CountedSteps.{node-there, stands, typed-at}
 use Rattle.herm_source.proofs.sound.SoundProcesses.{SuitsCode, suits-code}
-use Rattle.herm_source.proofs.placed.TypedPlaces.{placed-typed, list-typed}
+use Rattle.herm_held.proofs.TypedPlaces.{placed-typed, list-typed}
 use Rattle.herm_source.proofs.placed.PlacedSteps.{Own, own-agrees, Body', All, listed, to-body, from-body, standing, local-steps-keep-standing}
 use Rattle.herm_source.proofs.placed.AnsweredPlaces.{in-some, at-type, coming, made, ArePorts, answer-is, begin-is}
 

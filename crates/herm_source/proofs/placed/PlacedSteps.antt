@@ -36,7 +36,7 @@ use Rattle.herm_source.proofs.instance.SourceLaws.{local-code, code-stays}
 use Rattle.herm_source.proofs.instance.SourceLooks.{accepted-share-types}
 use Rattle.herm_source.proofs.instance.HeldValues.{typed-values}
 use Rattle.herm_source.proofs.counted.CountedSteps.{typed-at, node-there, stands}
-use Rattle.herm_source.proofs.placed.TypedPlaces.{With, are-typed, variables-placed, rows-placed}
+use Rattle.herm_held.proofs.TypedPlaces.{With, are-typed, variables-placed, rows-placed}
 
 -- a node is found by its number
 pub find-own : (n : Node) (ns : List Node) → Rise (map (λ (m : Node). m.number) ns) → IsIn n ns → find (λ (m : Node). nat_eq m.number n.number) ns ≡ Some n

@@ -42,7 +42,7 @@ use Rattle.herm_forms.proofs.forms.PlainForms.{same_facts}
 use Rattle.herm_forms.proofs.typed.WantsThere.{want-there}
 use Rattle.herm_forms.proofs.typed.AnswersTaken.{answer-taken, reply-taken}
 use Rattle.herm_forms.specs.laws.FormsTakeAnswers.{IsTaken, IsTakenAt, Meets}
-use Rattle.herm_source.proofs.sound.WantsHeld.{SendsBy, sends-by, RepliesFrom, replies-from}
+use Rattle.herm_held.proofs.WantsHeld.{SendsBy, sends-by, RepliesFrom, replies-from}
 use Rattle.herm_model.specs.Calls.{message_type}
 use Rattle.herm_model.proofs.TypedCalls.{inport-is}
 use Rattle.herm_source.specs.States.{State, own_name, begin, node_at, state_after}
@@ -228,11 +228,11 @@ module _ (exceptions : ℕ) (types : TypeTable) (processes : List Process) (p : 
         pub want-here : IsTrue (is_action c n.form) → (w : CellWant Name) × (wants own_name c n.form s.frame ≡ Some w)
         want-here acts = want-there exceptions processes c own_name (labels here.place) s.frame idle-values n.form (typed-at here.place n here.there) acts found-here
 
-        pub sent-here : (to : ℕ) (m : Cell Name) → wants own_name c n.form s.frame ≡ Some (to_put to m) → SendsBy c n.form s.frame.variables to m
-        sent-here to m want = sends-by exceptions processes c n.form (typed-at here.place n here.there) (labels here.place) s.frame idle-values found-here to m want
+        pub sent-here : (to : ℕ) (m : Cell Name) → wants own_name c n.form s.frame ≡ Some (to_put to m) → SendsBy c s.frame.variables to m
+        sent-here to m want = sends-by exceptions processes c own_name n.form (typed-at here.place n here.there) (labels here.place) s.frame idle-values found-here to m want
 
         pub replied-here : (caller call : ℕ) (r : CellReply Name) → wants own_name c n.form s.frame ≡ Some (to_answer caller call r) → RepliesFrom c s.frame.variables caller call r
-        replied-here caller call r want = replies-from exceptions processes c n.form (typed-at here.place n here.there) (labels here.place) s.frame idle-values found-here caller call r want
+        replied-here caller call r want = replies-from exceptions processes c own_name n.form (typed-at here.place n here.there) (labels here.place) s.frame idle-values found-here caller call r want
 
         -- an answer to it is taken
         pub answer-here : IsTrue (is_action c n.form) → (from : ℕ) (a : CellAction Name) → Meets a n.form → ((k : ℕ) (m : Cell Name) → a ≡ take k m → (t : ℕ) × (looked_at c n.form s.frame from ≡ Some t))

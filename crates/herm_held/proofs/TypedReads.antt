@@ -10,7 +10,7 @@ use Rattle.herm_journal.specs.PartTypes.{IsPlaced}
 use Rattle.herm_system.specs.Kinds.{each, typed_in}
 use Rattle.herm_forms.proofs.forms.ReadTypes
 use Rattle.herm_forms.proofs.placed.PlacedParts.{read-placed}
-use Rattle.herm_source.proofs.placed.TypedPlaces.{With, variables-placed}
+use Rattle.herm_held.proofs.TypedPlaces.{With, variables-placed}
 
 module _ (N : Type 0) (table : TypeTable) where
   pub record TypeRead (ts : List ℕ) (p : Path) (ps : Parts N) (c : Cell N) : Type 0 where

@@ -1,0 +1,2 @@
+-- What is claimed of what processes hold.
+pub mod HeldLaws
