@@ -1,13 +1,14 @@
 // Runs of code by hand, computed from the definitions. The comments on the code have the programs as they are written.
 
 ghost use Rattle.herm_code_machine.specs.examples.BranchingCode.{by_component, by_port, caught_row, compares, taken_by_key};
-ghost use Rattle.herm_code_machine.specs.examples.CallingCode.{answering_code, asks, calling_code, keeps_second, kept_parameter, losing_code};
+ghost use Rattle.herm_code_machine.specs.examples.CallingCode.{answering_code, arguments_of_call, asks, atoms_of_call, keeps_of_call, kept_parameter, losing_code};
 ghost use Rattle.herm_code_machine.specs.examples.CodeByHand.{greeting_image, left_loop, variable, whole_loop};
-ghost use Rattle.herm_code_machine.specs.examples.EndingCode.{arguments_of_call, atoms_of_call, greeting_in_one_step, raising};
+ghost use Rattle.herm_code_machine.specs.examples.EndingCode.{greeting_in_one_step, raising};
 ghost use Rattle.herm_code_machine.specs.laws.InstructionLaws.{CallsAs};
 ghost use Rattle.herm_code_machine.specs.examples.CodeRuns.{code_ending, in_lines, limited};
 ghost use Rattle.herm_system.specs.RunTexts.{plainly, the_journal, with_summary};
 ghost use Rattle.herm_instructions.specs.tests.GoodTests.{is_good};
+ghost use Rattle.herm_instructions.specs.examples.ExampleImages as good;
 ghost use Rattle.herm_model.specs.TypedPrograms.{main_start};
 ghost use Rattle.herm_code_machine.specs.CodeTypes.{first_type};
 ghost use Rattle.herm_code_machine.specs.ReadyCode.{labelled_image};
@@ -214,7 +215,7 @@ pub fn calling_code_meets_the_laws()
     ensures answered { IsGoodOver 8 (asks answering_code) }
     ensures kept_main { first_type (labelled_image kept_parameter 1) 1 ≡ Some main_start }
     ensures answered_main { first_type (labelled_image (asks answering_code) 1) 1 ≡ Some main_start }
-    ensures calls { CallsAs (labelled_code kept_parameter calling_code) (variable 2) arguments_of_call keeps_second atoms_of_call }
+    ensures calls { CallsAs (labelled_code kept_parameter good.asks) (variable 2) arguments_of_call keeps_of_call atoms_of_call }
 {}
 
 /// The code of the greeting, of both loops, of an end by an exception and of an action without a step meets what the laws of good images ask.

@@ -1,45 +1,35 @@
 -- Code by hand that calls.
-use Rattle.std.specs.Prelude.{ℕ, List, [], ◌∷◌, ◌++◌, codes}
-use Rattle.herm_model.specs.Types.{callmessage, inport, outport, by_in, by_inout, by_out, Raised}
-use Rattle.herm_model.specs.Expressions.{Literal}
+use Rattle.std.specs.Prelude.{List, [], ◌∷◌, ◌++◌, codes}
+use Rattle.herm_model.specs.Types.{callmessage, inport, outport, by_out, Raised}
+use Rattle.herm_model.specs.Expressions.{Atom, Literal}
 use Rattle.herm_model.specs.Outcomes.{depletion, disconnected}
-use Rattle.herm_instructions.specs.Instructions.{of_in, of_inout, of_out, Step, Load, Call, Return, ReturnBy, Create, End, EndBy}
+use Rattle.herm_instructions.specs.Instructions.{Argument, of_in, of_inout, of_out, Step, Call, Return, Create, End, EndBy}
 use Rattle.herm_instructions.specs.Images.{CodeModule, Image}
+use Rattle.herm_instructions.specs.examples.ExampleImages.{busy, denies, image_of}
+use Rattle.herm_instructions.specs.examples.ExampleImages as good
 use Rattle.herm_code_machine.specs.examples.CodeByHand.{line, landing, to, module_by, image_by, variable, part_in, listed, start_paths, receives_start, places, says}
 
 -- exception Busy;
-abbrev pub busy : ℕ
-busy = 7
-
-abbrev pub keeps_second : List Raised
-keeps_second = record { exception = busy; kept = 1 ∷ [] } ∷ []
-
+-- type ask = callmessage (in q: string, inout w: string) raises (Busy {full(w)});  type ask_in = inport of ask;
+-- type ask_out = outport of ask_in;
 -- process deny(start: ask_in) { var c: ask; receive c from start; return c exception Busy; }
-abbrev pub denying_code : CodeModule
-denying_code = module_by (9 ∷ 8 ∷ []) (receives_start ++ line Step ∷ line (ReturnBy (variable 1) busy (1 ∷ [])) ∷ line End ∷ []) []
-
 -- process main(start: main_start) {
 --   var m: main_message, o: ask_out, q: string, w: string;
 --   receive m from start; create o of deny; q := "q"; w := "w";
 --   try { call o(q, w); } on Busy { send w to m.out; } on Disconnected { send q to m.out; }
 -- }
-abbrev pub calling_code : CodeModule
-calling_code = module_by (7 ∷ 6 ∷ 10 ∷ 2 ∷ 2 ∷ []) (
-    receives_start ++ line Step ∷ landing (Create (variable 2) 0) (to depletion 22 ∷ []) ∷ (places 0 (variable 3) ++ places 1 (variable 4)
-    ++ line Step ∷ line (Load (variable 3)) ∷ landing (Call (variable 2) (of_in ∷ of_inout (variable 4) ∷ []) keeps_second) (to disconnected 17 ∷ to busy 14 ∷ []) ∷ line End
-    ∷ (says 4 20 ++ line End ∷ (says 3 21 ++ line End ∷ line (EndBy disconnected) ∷ line (EndBy disconnected) ∷ line (EndBy depletion) ∷ []))))
-    (listed 14 (start_paths ++ variable 2 ∷ variable 3 ∷ variable 4 ∷ []) []
-    ∷ listed 17 (start_paths ++ variable 2 ∷ variable 3 ∷ []) []
-    ∷ listed 20 (start_paths ++ variable 2 ∷ variable 3 ∷ variable 4 ∷ []) []
-    ∷ listed 21 (start_paths ++ variable 2 ∷ variable 3 ∷ []) []
-    ∷ listed 22 start_paths [] ∷ [])
-
--- type ask = callmessage (in q: string, inout w: string) raises (Busy {full(w)});  type ask_in = inport of ask;
--- type ask_out = outport of ask_in;  and both processes
 abbrev pub kept_parameter : Image
-kept_parameter =
-    image_by (callmessage (record { mode = by_in; content = 2 } ∷ record { mode = by_inout; content = 2 } ∷ []) keeps_second ∷ inport 8 [] ∷ outport 9 ∷ [])
-    (Literal.text (codes "q") ∷ Literal.text (codes "w") ∷ []) (denying_code ∷ calling_code ∷ [])
+kept_parameter = image_of (denies ∷ good.asks ∷ [])
+
+-- the arguments of its call, as they stand in the instruction and in the statement, and what it keeps for an exception
+abbrev pub arguments_of_call : List Argument
+arguments_of_call = of_in ∷ of_inout (variable 4) ∷ []
+
+abbrev pub atoms_of_call : List Atom
+atoms_of_call = Atom.path (variable 3) ∷ Atom.path (variable 4) ∷ []
+
+abbrev pub keeps_of_call : List Raised
+keeps_of_call = record { exception = busy; kept = 1 ∷ [] } ∷ []
 
 -- process say(start: word_in) { var c: word; receive c from start; c.w := "w"; return c; }
 abbrev pub answering_code : CodeModule

@@ -1,5 +1,5 @@
--- Code by hand: the lines of a module, the greeting, and loops over two rows.
-use Rattle.std.specs.Prelude.{ℕ, ◌+◌, List, [], ◌∷◌, ◌++◌, map, pos, codes}
+-- Code by hand: the lines of a module; the greeting and a loop over two rows, which are good code of herm_instructions; and a loop that is left.
+use Rattle.std.specs.Prelude.{ℕ, ◌+◌, List, [], ◌∷◌, ◌++◌, map, pos}
 use Rattle.herm_model.specs.Paths.{Path, Fact, init}
 use Rattle.herm_model.specs.Types.{TypeTable, predefined, fields, rows}
 use Rattle.herm_model.specs.Expressions.{Literal}
@@ -7,6 +7,8 @@ use Rattle.herm_model.specs.Outcomes.{depletion, duplicate_key, disconnected}
 use Rattle.herm_instructions.specs.Instructions.{Instruction, Step, Const, Load, Apply, as_text, Store, Jump, New, Insert, LoopStart, LoopNext, LoopDrop, Send, Receive, Drop, End, EndBy}
 use Rattle.herm_instructions.specs.Labels.{Slot, ListedLabel}
 use Rattle.herm_instructions.specs.Images.{Landing, CodeModule, Image}
+use Rattle.herm_instructions.specs.examples.ExampleImages.{image_of, greeting}
+use Rattle.herm_instructions.specs.examples.ExampleImages as good
 
 -- an instruction with its landings
 pub record Line : Type 0 where
@@ -62,14 +64,8 @@ says s i = line Step ∷ landing (Send (variable s) (part_in 1 1) []) (to discon
 --   var m: main_message, s: string;
 --   receive m from start; s := "hi"; send s to m.out;
 -- }
-abbrev pub greeting_code : CodeModule
-greeting_code =
-    module_by (7 ∷ 6 ∷ 2 ∷ []) (
-    receives_start ++ places 0 (variable 2) ++ says 2 8 ++ line End ∷ line (EndBy disconnected) ∷ [])
-    (listed 8 (start_paths ++ variable 2 ∷ []) [] ∷ [])
-
 abbrev pub greeting_image : Image
-greeting_image = image_by [] (Literal.text (codes "hi") ∷ []) (greeting_code ∷ [])
+greeting_image = image_of (greeting ∷ [])
 
 -- type row = record { k: integer };  type rows = table of row key (k);
 abbrev pub row_types : TypeTable
@@ -110,10 +106,7 @@ rows_ends =
 
 -- the two rows, and  for r in t { s := text(r.k); send s to m.out; }
 abbrev pub whole_loop : Image
-whole_loop = rows_image (module_by (7 ∷ 6 ∷ 8 ∷ 9 ∷ 2 ∷ []) (
-    two_rows 33 ++ line Step ∷ line (LoopStart (variable 3) 0) ∷ line (Jump 22) ∷ line Step ∷ line (LoopNext (variable 2) 0 31)
-    ∷ (says_key 35 ++ line (Drop (variable 2)) ∷ line (Jump 21) ∷ line (LoopDrop 0) ∷ line End ∷ line (EndBy duplicate_key) ∷ line (EndBy depletion) ∷ line (EndBy disconnected) ∷ []))
-    (listed 21 around_rows slot_of_rows ∷ listed 22 around_rows slot_of_rows ∷ listed 31 around_rows slot_of_rows ∷ rows_ends))
+whole_loop = image_of (good.two_rows ∷ [])
 
 -- the two rows, and  for r in t { s := text(r.k); send s to m.out; leave; }
 abbrev pub left_loop : Image

@@ -1,8 +1,8 @@
 -- Code by hand that ends by an exception, and code whose action has no step of its own.
-use Rattle.std.specs.Prelude.{List, [], ◌∷◌, ◌++◌, codes}
-use Rattle.herm_model.specs.Expressions.{Atom, Literal}
+use Rattle.std.specs.Prelude.{[], ◌∷◌, ◌++◌, codes}
+use Rattle.herm_model.specs.Expressions.{Literal}
 use Rattle.herm_model.specs.Outcomes.{overflow, disconnected}
-use Rattle.herm_instructions.specs.Instructions.{Argument, of_in, of_inout, Step, Const, Store, Send, Raise, End, EndBy}
+use Rattle.herm_instructions.specs.Instructions.{Step, Const, Store, Send, Raise, End, EndBy}
 use Rattle.herm_instructions.specs.Images.{Image}
 use Rattle.herm_code_machine.specs.examples.CodeByHand.{line, landing, to, module_by, image_by, variable, part_in, listed, start_paths, receives_start}
 
@@ -20,10 +20,3 @@ greeting_in_one_step = image_by [] (Literal.text (codes "hi") ∷ [])
     receives_start ++ line (Const 0) ∷ line (Store (variable 2)) ∷ landing (Send (variable 2) (part_in 1 1) []) (to disconnected 6 ∷ []) ∷ line End ∷ line (EndBy disconnected) ∷ [])
     (listed 6 (start_paths ++ variable 2 ∷ []) [] ∷ [])
     ∷ [])
-
--- the arguments of the call of the code that calls, as they stand in its instruction and in its statement
-abbrev pub arguments_of_call : List Argument
-arguments_of_call = of_in ∷ of_inout (variable 4) ∷ []
-
-abbrev pub atoms_of_call : List Atom
-atoms_of_call = Atom.path (variable 3) ∷ Atom.path (variable 4) ∷ []
