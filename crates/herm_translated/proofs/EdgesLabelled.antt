@@ -118,7 +118,7 @@ own-none : (types : TypeTable) (variables : List ℕ) (number : ℕ) (form : For
 own-none types variables number (Form.For r t) plain = absurd plain
 own-none types variables number form plain = refl
 
-within-none : (types : TypeTable) (variables : List ℕ) (at : ℕ) (again : Bool) (b : CodeBlock) (form : Form) → IsNoFor form → labels_within types variables at again b form ≡ []
+pub within-none : (types : TypeTable) (variables : List ℕ) (at : ℕ) (again : Bool) (b : CodeBlock) (form : Form) → IsNoFor form → labels_within types variables at again b form ≡ []
 within-none types variables at again b (Form.For r t) plain = absurd plain
 within-none types variables at again b form plain = refl
 

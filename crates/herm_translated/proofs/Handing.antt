@@ -118,7 +118,7 @@ module _ (types : TypeTable) (variables : List ℕ) (constants : List Literal) w
         ∙ ap (on (Combine o ∷ [])) (expression-on right h.1 h.6 (λ l m. known l (in-append_right l (literals_of left) _ m)) (stacked b (h.1 ∷ b.stack)))
         ∙ ap Some (same-label b _ (t ∷ b.stack) _ (ap (λ u. u ∷ b.stack) (sym (given-number o t h.0))) (filter-all b.facts))
 
-    atom-on : (a : Atom) (t : ℕ) → IsTypedAtom types variables a t → ((l : Literal) → IsIn l (literals_among (a ∷ [])) → IsIn l constants) → (b : Label) → on (atom_code constants a) (Some b) ≡ Some (stacked b (t ∷ b.stack))
+    pub atom-on : (a : Atom) (t : ℕ) → IsTypedAtom types variables a t → ((l : Literal) → IsIn l (literals_among (a ∷ [])) → IsIn l constants) → (b : Label) → on (atom_code constants a) (Some b) ≡ Some (stacked b (t ∷ b.stack))
     atom-on (Atom.literal l) t h known b = const-on l t h (known l (inl refl)) b
     atom-on (Atom.path p) t h known b = load-on p t ((h.0).0) b
 

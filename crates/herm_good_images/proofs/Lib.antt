@@ -1,0 +1,15 @@
+pub mod LeadingWithin
+pub mod LoopHeads
+pub mod OwnLoops
+pub mod SelectedSlots
+pub mod EnteredSlots
+pub mod BlockOfNode
+pub mod BlocksReached
+pub mod GoodInstructions
+pub mod GoodOperands
+pub mod GoodFronts
+pub mod DroppedFacts
+pub mod GoodEdges
+pub mod LocatedInstructions
+pub mod SoundBlocks
+pub mod BehindEdges

@@ -1,0 +1,2 @@
+pub mod CheckedModules
+pub mod laws

@@ -1,0 +1,23 @@
+-- What is claimed of the images of checked programs.
+use Rattle.std.specs.Prelude.{ℕ, List}
+use Rattle.herm_model.specs.Paths.{Path, Fact}
+use Rattle.herm_model.specs.Types.{TypeTable}
+use Rattle.herm_model.specs.Statements.{Process}
+use Rattle.herm_model.specs.Labels.{Labels}
+use Rattle.herm_model.specs.TypedPrograms.{IsTypedProcess}
+use Rattle.herm_source.specs.Modules.{Program}
+use Rattle.herm_instructions.specs.GoodCode.{IsGood}
+use Rattle.herm_translated.specs.CodeBlocks.{CheckedModule, blocks_of, entry_edge}
+use Rattle.herm_translated.specs.Translated.{image_for}
+use Rattle.herm_translated.specs.laws.CheckedBlocks.{checked}
+use Rattle.herm_translated.specs.laws.GoodStructure.{AreComplete}
+use Rattle.herm_good_images.specs.CheckedModules.{AreCheckedModules}
+
+-- Each block of a typed process is led to by an edge to its first step, and has an edge for each outcome. Code reference, "Blocks".
+abbrev pub TypedBlocksAreComplete : Type 0
+TypedBlocksAreComplete = (exceptions : ℕ) (table : TypeTable) (processes : List Process) (p : Process) (labels : Labels) (facts : List (List Fact)) (entry_drops : List Path) (drops : List (List (List Path)))
+    → IsTypedProcess exceptions table processes p → AreComplete table p.variables (entry_edge (checked table p labels facts entry_drops drops)) (blocks_of (checked table p labels facts entry_drops drops))
+
+-- The image of each checked program is good. Code reference, "Good code".
+abbrev pub ImagesAreGood : Type 0
+ImagesAreGood = (exceptions : ℕ) (program : Program) (modules : List CheckedModule) → AreCheckedModules exceptions program modules → IsGood exceptions (image_for program.types modules)
