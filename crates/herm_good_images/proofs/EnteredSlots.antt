@@ -12,7 +12,7 @@ use Rattle.herm_model.specs.Labels.{Labels}
 use Rattle.herm_model.specs.TypedStatements.{IsTypedForm}
 use Rattle.herm_model.specs.TypedPrograms.{IsTypedProcess}
 use Rattle.herm_model.specs.laws.FlowLaws.{Rise}
-use Rattle.herm_model.proofs.Lists.{in-map, and-both}
+use Rattle.herm_model.proofs.Lists.{in-map, in-map_from, and-both}
 use Rattle.herm_model.proofs.FactTests.{got-IsIn}
 use Rattle.herm_model.proofs.NodeNumbers.{process_numbers-Rise}
 use Rattle.herm_model.proofs.TypedCalls.{shape-is}
@@ -102,7 +102,7 @@ module _ (count : ℕ) (table : TypeTable) (processes : List Process) (p : Proce
       by true e = inr (span-inside i n l at-i (span.0, span.1, span.2, e))
       by false e =
           let h = loop-entered p span.0 span.1 n (got-IsIn ns i n at-i) (λ q. absurd (true≢false (sym q ∙ e))) in
-          inl (exits-lead (IsHead ns span.0) table p.variables n (λ z a b q. cc) h x in-x k y leads at-k span.3 ∙ span.2)
+          inl (exits-lead (IsHead ns span.0) table p.variables n (λ z i a b q. cc) h x in-x k y leads at-k span.3 ∙ span.2)
 
   among-chosen : (i : ℕ) (ls : List Node) → slots_among c ls i ≡ chosen table p.variables (λ (l : Node). is_around c l i) ls
   among-chosen i [] = refl
@@ -208,6 +208,20 @@ module _ (count : ℕ) (table : TypeTable) (processes : List Process) (p : Proce
             let r = any-from (λ (s : Slot). nat_eq s.number (number_at c k)) before q in
             let m = in-chosen table p.variables (λ (l : Node). is_inside c i l.number) ns r.0 (subst (λ xs. IsIn r.0 xs) (within-chosen i n at-i) r.1) in
             absurd (true≢false (sym (ap (is_inside c i) (sym (number-of k y at-k) ∙ sym (eqb-true r.0.number (number_at c k) r.2) ∙ own-number table p.variables m.0.number m.0.form r.0 m.3) ∙ m.2) ∙ none))
+
+  -- the slot of a node is not among those of the loops around it
+  pub own-absent : (i : ℕ) (n : Node) → slice_get ns i ≡ Some n → IsIn n.number (map (λ (s : Slot). s.number) (slots_around c i)) → ⊥
+  own-absent i n e h =
+      let s = in-map_from (λ (s : Slot). s.number) n.number (slots_around c i) h in
+      let m = in-chosen table p.variables (λ (l : Node). is_around c l i) ns s.0 (subst (λ xs. IsIn s.0 xs) (among-chosen i ns) s.1) in
+      by m.0 m.2 (sym (own-number table p.variables m.0.number m.0.form s.0 m.3) ∙ sym s.2)
+    where
+      by : (l : Node) → is_around c l i ≡ true → l.number ≡ n.number → ⊥
+      by l around same = true≢false (sym around ∙ ap (λ b. is_inside c i l.number && not b) (eq-eqb l.number (number_at c i) (same ∙ sym (number-of i n e))) ∙ never (is_inside c i l.number))
+        where
+          never : (b : Bool) → (b && false) ≡ false
+          never true = refl
+          never false = refl
 
   -- no loop is around the first node
   pub first-bare : (n : Node) (more : List Node) → ns ≡ n ∷ more → slots_around c 0 ≡ []

@@ -110,8 +110,8 @@ module _ (Q : Target → Type 0) where
         (in-leads b number from u (fewer from (nodes_of_handlers (handler e b rest)) from (nodes_of_block b) (omega arith) (omega arith) h) around)
         (handlers-lead rest (number + numbers_of_block b) (from + nodes_of_block b) u (fewer from (nodes_of_handlers (handler e b rest)) (from + nodes_of_block b) (nodes_of_handlers rest) (omega arith) (omega arith) h) around)
 
-  caught-leads : (cs : List Catch) (e : ℕ) → ((x : ℕ) → Q (end_by x)) → ((c : Catch) → IsIn c cs → Q c.target) → Q (caught cs e)
-  caught-leads [] e ends h = ends e
+  caught-leads : (cs : List Catch) (e : ℕ) → Q (end_by e) → ((c : Catch) → IsIn c cs → Q c.target) → Q (caught cs e)
+  caught-leads [] e ends h = ends
   caught-leads (c ∷ cs) e ends h = by (nat_eq c.exception e) (caught-leads cs e ends (λ d member. h d (inr member)))
     where
       by : (b : Bool) → Q (caught cs e) → Q (cond b c.target (caught cs e))
@@ -124,14 +124,14 @@ module _ (Q : Target → Type 0) where
   paired-leads (o ∷ os) (t ∷ ts) h e (inl same) = subst (λ (d : Exit). Q d.target) (sym same) (h t (inl refl))
   paired-leads (o ∷ os) (t ∷ ts) h e (inr member) = paired-leads os ts (λ s k. h s (inr k)) e member
 
-  pub exits-lead : (types : TypeTable) (variables : List ℕ) (n : Node) → ((x : ℕ) → Q (end_by x)) → Leads n → (e : Exit) → IsIn e (exits types variables n) → Q e.target
+  pub exits-lead : (types : TypeTable) (variables : List ℕ) (n : Node) → ((x : ℕ) → IsIn x (exceptions types variables n.form) → Q (end_by x)) → Leads n → (e : Exit) → IsIn e (exits types variables n) → Q e.target
   exits-lead types variables n ends h e member = by (in-append_cases e (paired (normal_outcomes n.form) n.leads) _ member)
     where
       exit_by : ℕ → Exit
       exit_by x = record { outcome = raised x; target = caught n.catches x }
 
       from_map : (x : ℕ) × IsIn x (exceptions types variables n.form) × (e ≡ exit_by x) → Q e.target
-      from_map found = subst (λ (d : Exit). Q d.target) (sym found.2) (caught-leads n.catches found.0 ends h.catches)
+      from_map found = subst (λ (d : Exit). Q d.target) (sym found.2) (caught-leads n.catches found.0 (ends found.0 found.1) h.catches)
 
       by : IsIn e (paired (normal_outcomes n.form) n.leads) ⊎ IsIn e (map exit_by (exceptions types variables n.form)) → Q e.target
       by (inl a) = paired-leads (normal_outcomes n.form) n.leads h.leads e a

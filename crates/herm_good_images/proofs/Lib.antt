@@ -13,3 +13,9 @@ pub mod GoodEdges
 pub mod LocatedInstructions
 pub mod SoundBlocks
 pub mod BehindEdges
+pub mod ActingFronts
+pub mod KnownForms
+pub mod ProcessBlocks
+pub mod GoodModules
+pub mod GoodConstants
+pub mod ImagesGood

@@ -224,6 +224,12 @@ module _ (count : ℕ) (image : Image) (variables : List ℕ) (entry : Departure
           by true = listed-on second (test ∷ []) (st i + 4) (λ e. absurd (omega (arith, e))) ∙ listed-here test [] (st i + 4) (omega arith)
           by false = listed-here test [] (st i + 4) (omega arith)
 
+      -- the second step, where control comes there
+      pub turn-listed : comes_again blocks i ≡ true → listed_at m.labels (st i + second_step) ≡ Some (in_loop b r t)
+      turn-listed q =
+          loop-listed 3 (omega arith) (omega arith) ∙ ap (λ again. listed_at (labels_within image.types variables (st i) again (as_loop b r t) (Form.For r t)) (st i + 3)) q
+          ∙ listed-here (listed_with (st i + second_step) b.facts (edge_slots image.types variables (as_loop b r t))) (listed_with (st i + (second_step + 1)) b.facts (edge_slots image.types variables (as_loop b r t)) ∷ []) (st i + 3) (omega arith)
+
       loop-row : IsRow (st i) (first_row i b r t) (Some (label_with b.facts b.slots))
       loop-row = record {
         there = λ k x e.

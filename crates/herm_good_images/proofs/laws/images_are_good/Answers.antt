@@ -1,0 +1,5 @@
+use Rattle.herm_good_images.proofs.ImagesGood.{images-good}
+use Rattle.herm_good_images.proofs.laws.images_are_good.Goals as goal
+
+pub returns : goal.returns
+returns c = images-good
