@@ -147,6 +147,9 @@ module _ (count : ℕ) (program : Program) (ms : List CheckedModule) (are : AreC
 
 pub images-good : ImagesAreGood
 images-good count program ms are = record {
-  constants = constant-typed count program ms are;
-  modules = λ m i. (let r = in-map_from (code_of (constants_of (forms_in ms))) m ms i in subst (IsGoodModule count (image_for program.types ms)) (sym r.2) (module-good count program ms are r.0 r.1));
+  good = record {
+    constants = constant-typed count program ms are;
+    modules = λ m i. (let r = in-map_from (code_of (constants_of (forms_in ms))) m ms i in subst (IsGoodModule count (image_for program.types ms)) (sym r.2) (module-good count program ms are r.0 r.1));
+  };
+  table = are.checked.typed.types;
 }

@@ -19,3 +19,4 @@ pub mod ProcessBlocks
 pub mod GoodModules
 pub mod GoodConstants
 pub mod ImagesGood
+pub mod ModulesExist

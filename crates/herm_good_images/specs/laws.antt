@@ -1,1 +1,2 @@
 pub mod GoodImages
+pub mod CheckedModulesExist

@@ -1,6 +1,7 @@
 // Laws of the images of checked programs.
 
 ghost use Rattle.herm_good_images.specs.laws.GoodImages.{TypedBlocksAreComplete, ImagesAreGood};
+ghost use Rattle.herm_good_images.specs.laws.CheckedModulesExist.{CheckedProgramsHaveModules};
 
 /// Each block of a typed process is led to by an edge to its first step, and has an edge for each outcome of its form; so labels are listed for exactly the
 /// indices that jumps and landings name.
@@ -8,7 +9,12 @@ pub fn typed_blocks_are_complete()
     ensures { TypedBlocksAreComplete }
 {}
 
-/// The image of each checked program is good.
+/// The image of each checked program is good over its types.
 pub fn images_are_good()
     ensures { ImagesAreGood }
+{}
+
+/// Each checked program has the facts of its labels as lists, and what is dropped along its edges: so it has an image.
+pub fn checked_programs_have_modules()
+    ensures { CheckedProgramsHaveModules }
 {}

@@ -6,7 +6,7 @@ use Rattle.herm_model.specs.Statements.{Process}
 use Rattle.herm_model.specs.Labels.{Labels}
 use Rattle.herm_model.specs.TypedPrograms.{IsTypedProcess}
 use Rattle.herm_source.specs.Modules.{Program}
-use Rattle.herm_instructions.specs.GoodCode.{IsGood}
+use Rattle.herm_code_machine.specs.laws.GoodImageLaws.{IsGoodOver}
 use Rattle.herm_translated.specs.CodeBlocks.{CheckedModule, blocks_of, entry_edge}
 use Rattle.herm_translated.specs.Translated.{image_for}
 use Rattle.herm_translated.specs.laws.CheckedBlocks.{checked}
@@ -18,6 +18,6 @@ abbrev pub TypedBlocksAreComplete : Type 0
 TypedBlocksAreComplete = (exceptions : ℕ) (table : TypeTable) (processes : List Process) (p : Process) (labels : Labels) (facts : List (List Fact)) (entry_drops : List Path) (drops : List (List (List Path)))
     → IsTypedProcess exceptions table processes p → AreComplete table p.variables (entry_edge (checked table p labels facts entry_drops drops)) (blocks_of (checked table p labels facts entry_drops drops))
 
--- The image of each checked program is good. Code reference, "Good code".
+-- The image of each checked program is good over its types. Code reference, "Good code".
 abbrev pub ImagesAreGood : Type 0
-ImagesAreGood = (exceptions : ℕ) (program : Program) (modules : List CheckedModule) → AreCheckedModules exceptions program modules → IsGood exceptions (image_for program.types modules)
+ImagesAreGood = (exceptions : ℕ) (program : Program) (modules : List CheckedModule) → AreCheckedModules exceptions program modules → IsGoodOver exceptions (image_for program.types modules)
