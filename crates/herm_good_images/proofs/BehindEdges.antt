@@ -28,6 +28,7 @@ use Rattle.herm_model.proofs.DeterminedRefusals.{accepted-held}
 use Rattle.herm_model.proofs.DifferentOutcomes.{process-EdgesDiffer}
 use Rattle.herm_model.proofs.ThereFacts.{held-facts}
 use Rattle.herm_translated.specs.BlockLabels.{facts_after}
+use Rattle.herm_translated.proofs.Joined.{got-within}
 
 -- what is held behind an edge, by a test for what is held before it, is listed behind it by a list of the latter
 pub listed-behind : (types : TypeTable) (variables : List ℕ) (n : Node) (x : Exit) (facts : List Fact) (before : Fact → Bool) → ((f : Fact) → IsIn f facts ↔ (before f ≡ true)) → (f : Fact)
@@ -66,13 +67,8 @@ module _ (count : ℕ) (table : TypeTable) (processes : List Process) (p : Proce
   abbrev ns : List Node
   ns = process_nodes p
 
-  below : (xs : List Node) (i : ℕ) (n : Node) → slice_get xs i ≡ Some n → i < length xs
-  below [] i n e = none-not_some e
-  below (x ∷ xs) zero n e = omega arith
-  below (x ∷ xs) (suc i) n e = let h = below xs i n e in omega (arith, h)
-
   reached : (i : ℕ) (n : Node) → slice_get ns i ≡ Some n → IsReached (flow_of table p) (node i)
-  reached i n e = typed.reached i (below ns i n e)
+  reached i n e = typed.reached i (got-within ns i n e)
 
   -- the label of a node has what holds there
   pub label-holds : (i : ℕ) (n : Node) (f : Fact) → slice_get ns i ≡ Some n → (labels i f ≡ true) ↔ Holds (flow_of table p) f i

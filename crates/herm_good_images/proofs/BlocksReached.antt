@@ -25,6 +25,7 @@ use Rattle.herm_translated.specs.Departures.{to_block, Departure}
 use Rattle.herm_translated.specs.CodeBlocks.{CheckedModule, CodeBlock, slots_within, slots_around, arrival_at, departure, departures_of, block_of, blocks_of, entry_edge}
 use Rattle.herm_translated.specs.laws.CheckedBlocks.{checked}
 use Rattle.herm_translated.specs.laws.GoodStructure.{AreComplete}
+use Rattle.herm_translated.proofs.Joined.{got-within}
 use Rattle.herm_translated.proofs.LinkedProcess.{linked-blocks}
 use Rattle.herm_translated.proofs.EdgesLabelled.{got-some}
 use Rattle.herm_good_images.proofs.BlockOfNode.{in-got, list_in, one-place, node-block, block-node, exit-departure, arrives-first}
@@ -141,10 +142,5 @@ module _ (count : ℕ) (table : TypeTable) (processes : List Process) (p : Proce
     outcomes_differ = (linked-blocks count table processes p labels facts entry_drops drops typed).outcomes_differ;
     reached = λ n b at.
         (let r = block-node c ns facts drops n b at in
-        led n r.0 r.1 (node n) (reached-IsLedTo (flow_of table p) (node n) (typed.reached n (below ns n r.0 r.1))) n r.0 refl r.1 (inl refl));
+        led n r.0 r.1 (node n) (reached-IsLedTo (flow_of table p) (node n) (typed.reached n (got-within ns n r.0 r.1))) n r.0 refl r.1 (inl refl));
   }
-    where
-      below : (xs : List Node) (i : ℕ) (n : Node) → slice_get xs i ≡ Some n → i < length xs
-      below [] i n e = none-not_some e
-      below (x ∷ xs) zero n e = omega arith
-      below (x ∷ xs) (suc i) n e = let h = below xs i n e in omega (arith, h)

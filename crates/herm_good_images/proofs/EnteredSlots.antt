@@ -30,14 +30,6 @@ use Rattle.herm_good_images.proofs.LoopHeads.{IsHead, both-inside, loop-entered}
 use Rattle.herm_good_images.proofs.OwnLoops.{process-has_loop}
 use Rattle.herm_good_images.proofs.SelectedSlots.{own, chosen, chosen-same, filter-chosen, own-number, in-chosen, chosen-in, own-first, chosen-Differ, without-kept, any-is}
 
--- of numbers that rise, equal ones stand at one place
-one-number : (xs : List Node) → Rise (map (λ (n : Node). n.number) xs) → (a b : Node) → IsIn a xs → IsIn b xs → a.number ≡ b.number → a ≡ b
-one-number [] r a b i j e = absurd i
-one-number (x ∷ xs) r a b (inl p) (inl q) e = p ∙ sym q
-one-number (x ∷ xs) r a b (inl p) (inr j) e = let low = r.0 b.number (in-map (λ (n : Node). n.number) b xs j) in let same : x.number ≡ b.number = ap (λ (n : Node). n.number) (sym p) ∙ e in absurd (omega (arith, low, same))
-one-number (x ∷ xs) r a b (inr i) (inl q) e = let low = r.0 a.number (in-map (λ (n : Node). n.number) a xs i) in let same : a.number ≡ x.number = e ∙ ap (λ (n : Node). n.number) q in absurd (omega (arith, low, same))
-one-number (x ∷ xs) r a b (inr i) (inr j) e = one-number xs r.1 a b i j e
-
 module _ (count : ℕ) (table : TypeTable) (processes : List Process) (p : Process) (labels : Labels) (typed : IsTypedProcess count table processes p) where
   abbrev c : Module
   c = module_of table p labels

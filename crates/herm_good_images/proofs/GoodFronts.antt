@@ -31,18 +31,14 @@ use Rattle.herm_translated.specs.BlockLabels.{label_with, is_named, facts_after}
 use Rattle.herm_translated.specs.laws.LabelsAlong.{handed_on}
 use Rattle.herm_translated.specs.laws.NamedComponents.{NamesAll}
 use Rattle.herm_translated.proofs.FrontWays.{IsNoFor, OnlyRaises, expression-raises}
+use Rattle.herm_translated.proofs.LinkedProcess.{in-below}
 use Rattle.herm_translated.proofs.Handing.{pushed_types, expression-on, keys-on, inputs-on, arguments-same}
 use Rattle.herm_good_images.proofs.GoodInstructions.{closed-more, AreGood, good-joined, good-one, IsGoodAt}
 use Rattle.herm_good_images.proofs.GoodOperands.{pushed-reverse, at, LandsAtExit, IsGoodIn, raising, HasRead, expression-good, keys-good, HasReadInputs, inputs-good}
 
-in-range : (k n i : ℕ) → IsIn i (range k n) → (k ≤ i) × (i < k + n)
-in-range k zero i h = absurd h
-in-range k (suc n) i (inl e) = (omega (arith, e), omega (arith, e))
-in-range k (suc n) i (inr h) = let r = in-range (suc k) n i h in let a = r.0 in let b = r.1 in (omega (arith, a), omega (arith, b))
-
 range-Differ : (k n : ℕ) → Differ (range k n)
 range-Differ k zero = tt
-range-Differ k (suc n) = ((λ m. (let r = in-range (suc k) n k m in let a = r.0 in omega (arith, a))), range-Differ (suc k) n)
+range-Differ k (suc n) = ((λ m. (let r = in-below (suc k) n k m in let a = r.0 in omega (arith, a))), range-Differ (suc k) n)
 
 range-long : (k n : ℕ) → length (range k n) ≡ n
 range-long k zero = refl
@@ -306,7 +302,7 @@ module _ (types : TypeTable) (variables : List ℕ) (constants : List Literal) (
   components-named : (v : Path) (cs : List ℕ) → IsTypedForm types variables count processes (Form.Case v cs) → NamesAll types variables (Form.Case v cs) → Needs (Form.Case v cs)
       → Good (Form.Case v cs) (CaseOf v (map (λ c. exit_at (component c)) (range 0 (map_or 0 component_count (shape_at types variables v))))) (before [])
   components-named v cs h names needed = record {
-    typed = (h.0, h.1, h.2, h.3, range-Differ 0 (length indices), λ c. ((λ m. (let r = in-range 0 (length indices) c m in let low = r.1 in let a = many in let b = long in omega (arith, low, a, b))), λ low. below-in 0 (length indices) c (omega arith) (let a = many in let b = long in omega (arith, low, a, b))));
+    typed = (h.0, h.1, h.2, h.3, range-Differ 0 (length indices), λ c. ((λ m. (let r = in-below 0 (length indices) c m in let low = r.1 in let a = many in let b = long in omega (arith, low, a, b))), λ low. below-in 0 (length indices) c (omega arith) (let a = many in let b = long in omega (arith, low, a, b))));
     stack = ([], refl);
     facts = needed;
     slots = tt;

@@ -1,5 +1,5 @@
 -- The image of a checked program is good.
-use Rattle.std.proofs.Common.{◌≡◌, ◌↔◌, ℕ, zero, suc, List, [], ◌∷◌, map, true, Some, slice_get, inl, inr, refl, sym, ap, subst, ◌∙◌}
+use Rattle.std.proofs.Common.{◌≡◌, ◌↔◌, ℕ, zero, suc, List, [], ◌∷◌, map, true, Some, slice_get, option_and_then, inl, inr, refl, sym, ap, subst, ◌∙◌}
 use Rattle.herm_model.specs.Lists.{IsIn}
 use Rattle.herm_model.specs.Paths.{Path, Fact}
 use Rattle.herm_model.specs.Types.{TypeTable}
@@ -25,6 +25,8 @@ use Rattle.herm_source.specs.AcceptedRuns.{IsCodeOf, AreCodesOf}
 use Rattle.herm_instructions.specs.Images.{CodeModule, Image}
 use Rattle.herm_instructions.specs.Operands.{type_of_literal}
 use Rattle.herm_instructions.specs.GoodCode.{IsGoodModule, processes_of}
+use Rattle.herm_instructions.specs.Places.{label_at}
+use Rattle.herm_code_machine.specs.ReadyCode.{ReadyCode, ready_code}
 use Rattle.herm_translated.specs.Constants.{literals_in, constants_of}
 use Rattle.herm_translated.specs.Departures.{Departure}
 use Rattle.herm_translated.specs.CodeBlocks.{CheckedModule, CodeBlock, slots_within, slots_around, departure, block_of}
@@ -32,7 +34,7 @@ use Rattle.herm_translated.specs.BlockLabels.{facts_after}
 use Rattle.herm_translated.specs.Translated.{code_of, forms_in, image_for}
 use Rattle.herm_translated.specs.laws.CheckedBlocks.{checked}
 use Rattle.herm_good_images.specs.CheckedModules.{ListsFacts, DropsExcess, AreCheckedModules}
-use Rattle.herm_good_images.specs.laws.GoodImages.{ImagesAreGood}
+use Rattle.herm_good_images.specs.laws.GoodImages.{ImagesAreGood, MainsBegin}
 use Rattle.herm_good_images.proofs.BlockOfNode.{list_in, block-node, departure-exit}
 use Rattle.herm_good_images.proofs.BlocksReached.{blocks-complete}
 use Rattle.herm_good_images.proofs.BehindEdges.{listed-behind, label-closed, behind, behind-closed}
@@ -153,3 +155,14 @@ images-good count program ms are = record {
   };
   table = are.checked.typed.types;
 }
+
+-- the port of a module of an image
+first-port : (image : Image) (main : ℕ) (ms : List CodeModule) (n : ℕ) → option_and_then (λ (c : ReadyCode). slice_get c.scope.variables 0) (slice_get (map (ready_code image (label_at image.types image.constants)) ms) n) ≡ port_type (processes_of ms) n
+first-port image main [] n = refl
+first-port image main (m ∷ ms) zero = refl
+first-port image main (m ∷ ms) (suc n) = first-port image main ms n
+
+pub mains-begin : MainsBegin
+mains-begin count program ms are =
+    first-port (image_for program.types ms) program.main (map (code_of (constants_of (forms_in ms))) ms) program.main
+    ∙ sym (ports-same program (constants_of (forms_in ms)) program.processes ms are.checked.accepted.codes program.main) ∙ are.checked.typed.begins

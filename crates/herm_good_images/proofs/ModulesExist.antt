@@ -22,6 +22,7 @@ use Rattle.herm_forms.specs.Modules.{Module, module_of}
 use Rattle.herm_source.specs.Modules.{Program, Modules}
 use Rattle.herm_source.specs.AcceptedRuns.{IsCodeOf, AreCodesOf}
 use Rattle.herm_translated.specs.CodeBlocks.{CheckedModule}
+use Rattle.herm_translated.proofs.Joined.{got-within}
 use Rattle.herm_good_images.specs.CheckedModules.{ListsFacts, dropped_along, DropsExcess, AreCheckedModules}
 use Rattle.herm_good_images.specs.laws.CheckedModulesExist.{CheckedProgramsHaveModules}
 use Rattle.herm_good_images.proofs.BehindEdges.{label-holds, behind-there, start-there}
@@ -87,15 +88,10 @@ module _ (count : ℕ) (table : TypeTable) (processes : List Process) (p : Proce
 
   label-possible : (i : ℕ) (n : Node) (f : Fact) → slice_get ns i ≡ Some n → labels i f ≡ true → IsIn f (possible (flow_of table p))
   label-possible i n f e h =
-      let r = typed.reached i (below ns i n e) in
+      let r = typed.reached i (got-within ns i n e) in
       let w = walk-common (flow_of table p) (init (0 ∷ [])) f r.0 (entry_of p) (node i) (held_at_start (init (0 ∷ []))) r.1 (held_at_start f) r.2 in
       let held : w.0 ≡ true = (label-holds count table processes p labels typed formed exact i n f e).0 h r.0 w.0 w.1 in
       walk-among (flow_of table p) f r.0 (entry_of p) (node i) (held_at_start f) (λ q. inl (same_fact-is f (init (0 ∷ [])) q)) (subst (λ b. IsControlPath (flow_of table p) f r.0 (node i) b) held w.1)
-    where
-      below : (xs : List Node) (i : ℕ) (n : Node) → slice_get xs i ≡ Some n → i < length xs
-      below [] i n e = none-not_some e
-      below (x ∷ xs) zero n e = omega arith
-      below (x ∷ xs) (suc i) n e = let h = below xs i n e in omega (arith, h)
 
   pub made-lists : ListsFacts made
   made-lists = record {

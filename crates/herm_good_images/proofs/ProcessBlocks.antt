@@ -40,6 +40,7 @@ use Rattle.herm_translated.specs.laws.LabelsAlong.{without_slots}
 use Rattle.herm_translated.specs.laws.LabelsAtEdges.{IsTypedBlock}
 use Rattle.herm_translated.specs.laws.GoodStructure.{code_module}
 use Rattle.herm_translated.specs.laws.CheckedBlocks.{checked, HasLinkedBlocks}
+use Rattle.herm_translated.proofs.Joined.{got-within}
 use Rattle.herm_translated.proofs.LabelsStand.{blocks-labelled}
 use Rattle.herm_translated.proofs.StructureKept.{comes}
 use Rattle.herm_translated.proofs.LinkedProcess.{linked-blocks}
@@ -105,15 +106,10 @@ module _ (count : ℕ) (table : TypeTable) (processes : List Process) (p : Proce
   of-block : (i : ℕ) (b : CodeBlock) → slice_get blocks i ≡ Some b → (n : Node) × (slice_get ns i ≡ Some n) × (b ≡ the_block i n)
   of-block i b e = block-node c ns facts drops i b e
 
-  below : (xs : List Node) (i : ℕ) (n : Node) → slice_get xs i ≡ Some n → i < length xs
-  below [] i n e = none-not_some e
-  below (x ∷ xs) zero n e = omega arith
-  below (x ∷ xs) (suc i) n e = let h = below xs i n e in omega (arith, h)
-
   -- the facts of a block are those of its node's label
   pub facts-listed : (i : ℕ) (n : Node) (f : Fact) → slice_get ns i ≡ Some n → IsIn f (list_in facts i) ↔ (labels i f ≡ true)
   facts-listed i n f e =
-      let low = below ns i n e in
+      let low = got-within ns i n e in
       let fs = got-lists facts i (let many = lists.many in omega (arith, low, many)) in
       subst (λ xs. IsIn f xs ↔ (labels i f ≡ true)) (sym (ap (list_of (λ xs. xs)) fs.1)) (lists.listed i fs.0 f fs.1)
     where

@@ -35,7 +35,7 @@ use Rattle.herm_translated.proofs.Addresses.{outcome_of, first-here, edges-there
 use Rattle.herm_translated.proofs.LabelsStand.{blocks-labelled}
 use Rattle.herm_translated.proofs.FrontWays.{IsNoFor}
 use Rattle.herm_translated.proofs.Handing.{filter-all}
-use Rattle.herm_translated.proofs.EdgesLabelled.{got-some}
+use Rattle.herm_translated.proofs.EdgesLabelled.{got-some, own-none}
 use Rattle.herm_good_images.proofs.BlockOfNode.{in-got}
 use Rattle.herm_good_images.proofs.GoodInstructions.{closed-more, AreGood, good-at, good-one, good-more, lands-more, handed_to, IsGoodAt}
 use Rattle.herm_good_images.proofs.GoodOperands.{LandsAtExit}
@@ -203,10 +203,6 @@ module _ (count : ℕ) (image : Image) (variables : List ℕ) (entry : Departure
     goes-first b at exit_at (Form.While x) plain k i long e o q = (is_true, is_false ∷ map raised (exceptions image.types variables (Form.While x)), refl, refl)
     goes-first b at exit_at form plain k i long e o q = (ok, map raised (exceptions image.types variables form), refl, refl)
 
-    own-none : (form : Form) (number : ℕ) → IsNoFor form → own_slot image.types variables number form ≡ []
-    own-none (Form.For r t) number plain = absurd plain
-    own-none form number plain = refl
-
     step-good : (exit_at : Outcome → ℕ) (l : Label) → IsGoodHere exit_at Step l
     step-good exit_at l = record { typed = tt; stack = (l.stack, refl); facts = λ f k. absurd k; slots = tt; trims = tt; leads = λ w k. absurd k }
 
@@ -227,7 +223,7 @@ module _ (count : ℕ) (image : Image) (variables : List ℕ) (entry : Departure
         lands w after h = (
           label_with (facts_after image.types variables b.form w.outcome b.facts) (edge_slots image.types variables b),
           ap (listed_at m.labels) h.2 ∙ outcome-listed i b w.outcome at-i h.0 h.1,
-          subst (λ x. Arrives x (label_with (facts_after image.types variables b.form w.outcome b.facts) (edge_slots image.types variables b))) (ap (λ own. label_with (facts_after image.types variables b.form w.outcome b.facts) (own ++ b.slots)) (own-none b.form b.statement plain) ∙ sym h.3) (arrives-itself _),
+          subst (λ x. Arrives x (label_with (facts_after image.types variables b.form w.outcome b.facts) (edge_slots image.types variables b))) (ap (λ own. label_with (facts_after image.types variables b.form w.outcome b.facts) (own ++ b.slots)) (own-none image.types variables b.statement b.form plain) ∙ sym h.3) (arrives-itself _),
         )
 
     module _ (i : ℕ) (b : CodeBlock) (r t : Path) (at-i : slice_get blocks i ≡ Some (as_loop b r t)) where

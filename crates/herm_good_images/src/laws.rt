@@ -1,6 +1,6 @@
 // Laws of the images of checked programs.
 
-ghost use Rattle.herm_good_images.specs.laws.GoodImages.{TypedBlocksAreComplete, ImagesAreGood};
+ghost use Rattle.herm_good_images.specs.laws.GoodImages.{TypedBlocksAreComplete, ImagesAreGood, MainsBegin};
 ghost use Rattle.herm_good_images.specs.laws.CheckedModulesExist.{CheckedProgramsHaveModules};
 
 /// Each block of a typed process is led to by an edge to its first step, and has an edge for each outcome of its form; so labels are listed for exactly the
@@ -9,9 +9,10 @@ pub fn typed_blocks_are_complete()
     ensures { TypedBlocksAreComplete }
 {}
 
-/// The image of each checked program is good over its types.
+/// The image of each checked program is good over its types, and its main has a port of the type main_start.
 pub fn images_are_good()
-    ensures { ImagesAreGood }
+    ensures good { ImagesAreGood }
+    ensures begins { MainsBegin }
 {}
 
 /// Each checked program has the facts of its labels as lists, and what is dropped along its edges: so it has an image.

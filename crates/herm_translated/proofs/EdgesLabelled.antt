@@ -114,7 +114,7 @@ module _ (types : TypeTable) (variables : List ℕ) where
   first-unnamed (Form.Raise e) o (inr m) q = absurd m
   first-unnamed form o m q = first-ok form (exceptions types variables form) o refl m q
 
-own-none : (types : TypeTable) (variables : List ℕ) (number : ℕ) (form : Form) → IsNoFor form → own_slot types variables number form ≡ []
+pub own-none : (types : TypeTable) (variables : List ℕ) (number : ℕ) (form : Form) → IsNoFor form → own_slot types variables number form ≡ []
 own-none types variables number (Form.For r t) plain = absurd plain
 own-none types variables number form plain = refl
 

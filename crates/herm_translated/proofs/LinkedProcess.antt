@@ -38,7 +38,7 @@ use Rattle.herm_translated.proofs.Addresses.{outcome_of}
 use Rattle.herm_translated.proofs.EdgesLabelled.{got-some}
 use Rattle.herm_translated.proofs.NamedIndices.{any-from}
 
-in-below : (k n i : ℕ) → IsIn i (range k n) → (k ≤ i) × (i < k + n)
+pub in-below : (k n i : ℕ) → IsIn i (range k n) → (k ≤ i) × (i < k + n)
 in-below k zero i h = absurd h
 in-below k (suc n) i (inl e) = (omega (arith, e), omega (arith, e))
 in-below k (suc n) i (inr h) = let r = in-below (suc k) n i h in let a = r.0 in let b = r.1 in (omega (arith, a), omega (arith, b))

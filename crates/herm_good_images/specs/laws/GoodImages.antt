@@ -1,11 +1,13 @@
 -- What is claimed of the images of checked programs.
-use Rattle.std.specs.Prelude.{ℕ, List}
+use Rattle.std.specs.Prelude.{ℕ, List, Some, ◌≡◌}
 use Rattle.herm_model.specs.Paths.{Path, Fact}
 use Rattle.herm_model.specs.Types.{TypeTable}
 use Rattle.herm_model.specs.Statements.{Process}
 use Rattle.herm_model.specs.Labels.{Labels}
-use Rattle.herm_model.specs.TypedPrograms.{IsTypedProcess}
+use Rattle.herm_model.specs.TypedPrograms.{main_start, IsTypedProcess}
 use Rattle.herm_source.specs.Modules.{Program}
+use Rattle.herm_code_machine.specs.CodeTypes.{first_type}
+use Rattle.herm_code_machine.specs.ReadyCode.{labelled_image}
 use Rattle.herm_code_machine.specs.laws.GoodImageLaws.{IsGoodOver}
 use Rattle.herm_translated.specs.CodeBlocks.{CheckedModule, blocks_of, entry_edge}
 use Rattle.herm_translated.specs.Translated.{image_for}
@@ -21,3 +23,7 @@ TypedBlocksAreComplete = (exceptions : ℕ) (table : TypeTable) (processes : Lis
 -- The image of each checked program is good over its types. Code reference, "Good code".
 abbrev pub ImagesAreGood : Type 0
 ImagesAreGood = (exceptions : ℕ) (program : Program) (modules : List CheckedModule) → AreCheckedModules exceptions program modules → IsGoodOver exceptions (image_for program.types modules)
+
+-- Its main has a port of the type main_start; so what is said of the runs of good images is so of the runs of each checked program's image. Language reference, "Typed programs".
+abbrev pub MainsBegin : Type 0
+MainsBegin = (exceptions : ℕ) (program : Program) (modules : List CheckedModule) → AreCheckedModules exceptions program modules → first_type (labelled_image (image_for program.types modules) program.main) program.main ≡ Some main_start

@@ -1,5 +1,5 @@
-use Rattle.herm_good_images.proofs.ImagesGood.{images-good}
+use Rattle.herm_good_images.proofs.ImagesGood.{images-good, mains-begin}
 use Rattle.herm_good_images.proofs.laws.images_are_good.Goals as goal
 
 pub returns : goal.returns
-returns c = images-good
+returns c = record { good = images-good; begins = mains-begin }
