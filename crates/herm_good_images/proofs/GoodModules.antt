@@ -1,16 +1,15 @@
 -- The code of sound blocks is a good module.
 use Rattle.std.proofs.Common.{◌≡◌, ℕ, zero, suc, ◌+◌, ◌<◌, ◌≤◌, length, List, [], ◌∷◌, ◌++◌, map, Bool, true, false, cond, nat_le, Option, Some, None, slice_get, ◌⊎◌, inl, inr, refl, sym, ap, subst, ◌∙◌, true≢false, arith}
 use Rattle.herm_model.specs.Lists.{IsIn, list_of, total}
-use Rattle.herm_model.specs.Paths.{Path, Fact}
+use Rattle.herm_model.specs.Paths.{Fact}
 use Rattle.herm_model.specs.Types.{inport}
 use Rattle.herm_model.specs.Facts.{IsClosed}
-use Rattle.herm_model.specs.Statements.{Form, Process}
+use Rattle.herm_model.specs.Statements.{Form}
 use Rattle.herm_model.specs.Outcomes.{Outcome}
 use Rattle.herm_model.specs.TypedExpressions.{HasShape}
 use Rattle.herm_model.specs.WellFormedTables.{IsType, IsWellFormedTable}
 use Rattle.herm_model.proofs.Options.{some-injective, none-not_some}
 use Rattle.herm_model.proofs.Lists.{in-append_cases}
-use Rattle.herm_model.proofs.FactTests.{got-IsIn}
 use Rattle.herm_model.proofs.Deciding.{at_most-decides}
 use Rattle.herm_instructions.specs.Labels.{Label, ListedLabel, listed_at}
 use Rattle.herm_instructions.specs.Images.{CodeModule, Image}
@@ -26,10 +25,10 @@ use Rattle.herm_translated.proofs.LabelsStand.{blocks-labelled}
 use Rattle.herm_translated.proofs.ListedLabels.{labels-rise, none-above}
 use Rattle.herm_translated.proofs.StructureKept.{structured}
 use Rattle.herm_translated.proofs.NamedIndices.{complete-listed}
-use Rattle.herm_good_images.proofs.BlockOfNode.{in-got}
-use Rattle.herm_good_images.proofs.ActingFronts.{acts-at_once}
-use Rattle.herm_good_images.proofs.SoundBlocks.{AreGoodHere, IsSoundBlock, IsSoundPlace, place-sound}
-use Rattle.herm_good_images.proofs.LocatedInstructions as places
+use Rattle.herm_good_images.proofs.blocks.BlockOfNode.{in-got}
+use Rattle.herm_good_images.proofs.blocks.ActingFronts.{acts-at_once}
+use Rattle.herm_good_images.proofs.blocks.SoundBlocks.{AreGoodHere, IsSoundBlock, IsSoundPlace, place-sound}
+use Rattle.herm_good_images.proofs.blocks.LocatedInstructions as places
 
 module _ (count : ℕ) (image : Image) (variables : List ℕ) (entry : Departure) (blocks : List CodeBlock) where
   abbrev m : CodeModule

@@ -14,7 +14,7 @@ use Rattle.herm_model.specs.MissingFacts.{IsAccepted}
 use Rattle.herm_model.specs.ControlPaths.{flow_of}
 use Rattle.herm_model.specs.TypedExpressions.{IsLiteralOf}
 use Rattle.herm_model.specs.TypedStatements.{port_type}
-use Rattle.herm_model.specs.TypedPrograms.{IsTypedProcess, IsTypedProgram}
+use Rattle.herm_model.specs.TypedPrograms.{IsTypedProcess}
 use Rattle.herm_model.specs.WellFormedTables.{IsWellFormedTable}
 use Rattle.herm_model.proofs.Lists.{in-map, in-map_from, in-flat_map, in-flat_map_from}
 use Rattle.herm_model.proofs.FactTests.{got-IsIn}
@@ -35,12 +35,12 @@ use Rattle.herm_translated.specs.Translated.{code_of, forms_in, image_for}
 use Rattle.herm_translated.specs.laws.CheckedBlocks.{checked}
 use Rattle.herm_good_images.specs.CheckedModules.{ListsFacts, DropsExcess, AreCheckedModules}
 use Rattle.herm_good_images.specs.laws.GoodImages.{ImagesAreGood, MainsBegin}
-use Rattle.herm_good_images.proofs.BlockOfNode.{list_in, block-node, departure-exit}
-use Rattle.herm_good_images.proofs.BlocksReached.{blocks-complete}
-use Rattle.herm_good_images.proofs.BehindEdges.{listed-behind, label-closed, behind, behind-closed}
-use Rattle.herm_good_images.proofs.ProcessBlocks.{image, entry, blocks, facts-listed, blocks-sound, entry-sound}
+use Rattle.herm_good_images.proofs.blocks.BlockOfNode.{list_in, block-node, departure-exit}
+use Rattle.herm_good_images.proofs.blocks.BlocksReached.{blocks-complete}
+use Rattle.herm_good_images.proofs.facts.BehindEdges.{listed-behind, label-closed, behind, behind-closed}
+use Rattle.herm_good_images.proofs.blocks.ProcessBlocks.{image, entry, blocks, facts-listed, blocks-sound, entry-sound}
 use Rattle.herm_good_images.proofs.GoodModules.{good-module}
-use Rattle.herm_good_images.proofs.GoodConstants.{constant-known, constant-of, literal-typed}
+use Rattle.herm_good_images.proofs.fronts.GoodConstants.{constant-known, constant-of, literal-typed}
 
 listed-closed : (table : TypeTable) (variables : List ℕ) (fs : List Fact) (test : Fact → Type 0) → ((f : Fact) → IsIn f fs ↔ test f) → ((f g : Fact) → test f → IsIn g (prefixes table variables f) → test g) → IsClosed table variables (λ f. IsIn f fs)
 listed-closed table variables fs test listed closed f g h m = (listed g).1 (closed f g ((listed f).0 h) m)

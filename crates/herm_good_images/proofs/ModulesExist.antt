@@ -1,5 +1,5 @@
 -- Each checked program has lists of its labels' facts, and of what its edges drop.
-use Rattle.std.proofs.Common.{◌≡◌, ◌↔◌, ℕ, zero, suc, ◌+◌, ◌<◌, length, List, [], ◌∷◌, ◌++◌, map, filter, flat_map, Bool, true, false, cond, IsTrue, Option, Some, None, option_map, option_and_then, slice_get, ◌⊎◌, inl, inr, refl, sym, ap, ap₂, subst, ◌∙◌, true≢false, arith}
+use Rattle.std.proofs.Common.{◌≡◌, ◌↔◌, ℕ, zero, suc, ◌+◌, length, List, [], ◌∷◌, map, filter, flat_map, Bool, true, false, cond, IsTrue, Some, option_map, option_and_then, slice_get, inl, inr, refl, sym, ap, ap₂, subst, ◌∙◌, true≢false, arith}
 use Rattle.herm_model.specs.Lists.{IsIn, any_pass, numbered}
 use Rattle.herm_model.specs.Paths.{Path, Fact, init, path_of, same_fact, is_at_or_below}
 use Rattle.herm_model.specs.Types.{TypeTable, is_within_depth, greatest_depth}
@@ -9,7 +9,7 @@ use Rattle.herm_model.specs.Exits.{Exit, exits}
 use Rattle.herm_model.specs.Targets.{Target, node}
 use Rattle.herm_model.specs.Labels.{Labels, label_at, AreExact}
 use Rattle.herm_model.specs.Finalising.{excess}
-use Rattle.herm_model.specs.ControlPaths.{Edge, Point, Flow, edge, point, flow_of, Hop, held_after_edge, held_at_start, walk, edge_from, IsControlPath, IsReached}
+use Rattle.herm_model.specs.ControlPaths.{Edge, Point, Flow, edge, flow_of, Hop, held_after_edge, held_at_start, walk, edge_from, IsControlPath}
 use Rattle.herm_model.specs.TypedPrograms.{IsTypedProcess, IsTypedProgram}
 use Rattle.herm_model.specs.WellFormedTables.{IsWellFormedTable}
 use Rattle.herm_model.proofs.Options.{some-injective, none-not_some, chain-some, map-some}
@@ -19,13 +19,13 @@ use Rattle.herm_model.proofs.Equality.{same_fact-is}
 use Rattle.herm_model.proofs.Walks.{edge_from-IsEdgeOf, same_held, walk-common}
 use Rattle.herm_model.proofs.ExcessOrder.{facts-excess}
 use Rattle.herm_forms.specs.Modules.{Module, module_of}
-use Rattle.herm_source.specs.Modules.{Program, Modules}
+use Rattle.herm_source.specs.Modules.{Program}
 use Rattle.herm_source.specs.AcceptedRuns.{IsCodeOf, AreCodesOf}
 use Rattle.herm_translated.specs.CodeBlocks.{CheckedModule}
 use Rattle.herm_translated.proofs.Joined.{got-within}
-use Rattle.herm_good_images.specs.CheckedModules.{ListsFacts, dropped_along, DropsExcess, AreCheckedModules}
+use Rattle.herm_good_images.specs.CheckedModules.{ListsFacts, DropsExcess}
 use Rattle.herm_good_images.specs.laws.CheckedModulesExist.{CheckedProgramsHaveModules}
-use Rattle.herm_good_images.proofs.BehindEdges.{label-holds, behind-there, start-there}
+use Rattle.herm_good_images.proofs.facts.BehindEdges.{label-holds, behind-there, start-there}
 
 -- the facts that a flow can hold
 abbrev possible : Flow → List Fact

@@ -7,8 +7,7 @@ use Rattle.herm_model.specs.Exits.{Exit, exits}
 use Rattle.herm_model.specs.Labels.{label_at}
 use Rattle.herm_model.specs.ControlPaths.{edge, held_after_edge, held_at_start}
 use Rattle.herm_model.specs.laws.ExcessLaws.{IsExcess}
-use Rattle.herm_forms.specs.Modules.{Module}
-use Rattle.herm_source.specs.Modules.{Program, Modules}
+use Rattle.herm_source.specs.Modules.{Program}
 use Rattle.herm_source.specs.Checked.{IsChecked}
 use Rattle.herm_translated.specs.CodeBlocks.{CheckedModule}
 

@@ -1,9 +1,9 @@
 -- Operands keep the rules of good code, from left to right.
-use Rattle.std.proofs.Common.{◌≡◌, ℕ, zero, suc, ◌+◌, length, List, [], ◌∷◌, ◌++◌, map, flat_map, filter, drop, reverse, true, false, Option, Some, None, slice_get, ◌⊎◌, inl, inr, refl, sym, ap, subst, ◌∙◌, append_assoc}
+use Rattle.std.proofs.Common.{◌≡◌, ℕ, List, [], ◌∷◌, ◌++◌, flat_map, filter, reverse, true, Some, inl, inr, refl, sym, ap, subst, ◌∙◌, append_assoc}
 use Rattle.std.proofs.lemmas.Grind.{reverse_onto}
 use Rattle.herm_model.specs.Lists.{IsIn}
 use Rattle.herm_model.specs.Paths.{Path, Fact}
-use Rattle.herm_model.specs.Types.{TypeTable, type_at, Mode, by_in, by_inout, by_out, Parameter, fields}
+use Rattle.herm_model.specs.Types.{TypeTable, Mode, by_in, by_inout, by_out, Parameter}
 use Rattle.herm_model.specs.Expressions.{Literal, Expression, literal, copy, negation, logical_not, operation, size_of, decimal, length_of, Atom, paths_read, paths_among}
 use Rattle.herm_model.specs.Statements.{Form, Process}
 use Rattle.herm_model.specs.Outcomes.{Outcome, raised, exceptions, normal_outcomes, outcomes}
@@ -14,7 +14,7 @@ use Rattle.herm_model.proofs.Lists.{in-append_left, in-append_right, in-map}
 use Rattle.herm_model.proofs.DecidedForms.{IsRegular}
 use Rattle.herm_instructions.specs.Instructions.{negative, complement, as_text, text_length, Instruction, Const, Load, Size, Apply, Combine}
 use Rattle.herm_instructions.specs.Labels.{Slot, Label}
-use Rattle.herm_instructions.specs.Operands.{FindsOnStack, if_in, input_types, types_of_key}
+use Rattle.herm_instructions.specs.Operands.{FindsOnStack}
 use Rattle.herm_instructions.specs.Effects.{facts_needed, facts_behind, exceptions_of, label_behind}
 use Rattle.herm_instructions.specs.Places.{Way, jumps}
 use Rattle.herm_instructions.specs.TypedInstructions.{IsTypedInstruction}
@@ -26,7 +26,7 @@ use Rattle.herm_translated.specs.laws.LabelsAlong.{handed_on}
 use Rattle.herm_translated.proofs.FoundConstants.{constant-found}
 use Rattle.herm_translated.proofs.FrontWays.{OnlyRaises}
 use Rattle.herm_translated.proofs.Handing.{pushed_types, expression-on, atom-on}
-use Rattle.herm_good_images.proofs.GoodInstructions.{AreGood, good-joined, good-one, IsGoodAt, landing-way}
+use Rattle.herm_good_images.proofs.fronts.GoodInstructions.{AreGood, good-joined, good-one, IsGoodAt, landing-way}
 
 -- types that are pushed one by one stand in the other order
 pub pushed-reverse : (ts stack : List ℕ) → pushed_types ts stack ≡ reverse ts ++ stack

@@ -1,47 +1,42 @@
 -- Blocks that are sound make code that keeps the rules of good code which look at labels.
-use Rattle.std.proofs.Common.{◌≡◌, ◌↔◌, ℕ, zero, suc, ◌+◌, ◌<◌, length, List, [], ◌∷◌, ◌++◌, map, filter, Bool, true, false, cond, Option, Some, None, slice_get, ◌⊎◌, inl, inr, refl, sym, ap, subst, ◌∙◌, append_assoc, arith}
+use Rattle.std.proofs.Common.{◌≡◌, ℕ, zero, suc, ◌+◌, ◌<◌, length, List, [], ◌∷◌, ◌++◌, map, true, false, cond, Option, Some, None, slice_get, ◌⊎◌, inl, inr, refl, sym, ap, subst, ◌∙◌, append_assoc, arith}
 use Rattle.herm_model.specs.Lists.{IsIn, list_of}
-use Rattle.herm_model.specs.Paths.{Path, Fact, init, case}
+use Rattle.herm_model.specs.Paths.{Path, Fact}
 use Rattle.herm_model.specs.Types.{rows}
 use Rattle.herm_model.specs.Statements.{Form, Process}
-use Rattle.herm_model.specs.Calls.{shape_at}
 use Rattle.herm_model.specs.Outcomes.{Outcome, ok, is_true, is_false, turn, done, raised, exceptions, outcomes}
 use Rattle.herm_model.specs.FactsOfStatements.{present, room_for, needs}
 use Rattle.herm_model.specs.TypedStatements.{IsTypedForm}
 use Rattle.herm_model.specs.WellFormedTables.{IsWellFormedTable}
 use Rattle.herm_model.proofs.Options.{some-injective, none-not_some}
 use Rattle.herm_model.proofs.Lists.{cons-head, in-append_left, in-append_right, in-map_from}
-use Rattle.herm_model.proofs.FactTests.{got-IsIn}
 use Rattle.herm_model.proofs.TypedCalls.{shape-is}
 use Rattle.herm_instructions.specs.Instructions.{Instruction, Step, LoopStart, LoopNext, LoopDrop, Drop, Jump}
 use Rattle.herm_instructions.specs.Labels.{Slot, Label, listed_at}
 use Rattle.herm_instructions.specs.Images.{CodeModule, Image}
-use Rattle.herm_instructions.specs.Operands.{FindsOnStack}
-use Rattle.herm_instructions.specs.Effects.{row_type, facts_needed, label_behind}
-use Rattle.herm_instructions.specs.Places.{Way, Place, goes_on, jumps, landing_ways, named_ways, ways, label_at_start}
-use Rattle.herm_instructions.specs.TypedInstructions.{IsTypedInstruction}
-use Rattle.herm_instructions.specs.GoodCode.{Arrives, FindsSlots, TrimsExcess, module_places, processes_of}
-use Rattle.herm_translated.specs.Fronts.{front, front_length}
-use Rattle.herm_translated.specs.Departures.{Arrival, to_block, to_second_step, to_end, to_end_by, Departure, edge_code, edge_length, arrive_by}
+use Rattle.herm_instructions.specs.Effects.{row_type, label_behind}
+use Rattle.herm_instructions.specs.Places.{Way, Place, goes_on, label_at_start}
+use Rattle.herm_instructions.specs.GoodCode.{Arrives, module_places, processes_of}
+use Rattle.herm_translated.specs.Fronts.{front}
+use Rattle.herm_translated.specs.Departures.{Arrival, to_block, to_second_step, to_end, to_end_by, Departure, edge_code, arrive_by}
 use Rattle.herm_translated.specs.CodeBlocks.{CodeBlock, own_slot}
 use Rattle.herm_translated.specs.Layout.{landings_by, edges_at, edge_at}
 use Rattle.herm_translated.specs.BlockLabels.{label_with, is_named, facts_after, edge_slots}
-use Rattle.herm_translated.specs.laws.LabelsAlong.{handed_by}
 use Rattle.herm_translated.specs.laws.LabelsAtEdges.{IsTypedBlock}
 use Rattle.herm_translated.specs.laws.NamedComponents.{NamesAll}
-use Rattle.herm_translated.proofs.Joined.{get-left, get-right, got-within, length-joined}
+use Rattle.herm_translated.proofs.Joined.{get-right, got-within, length-joined}
 use Rattle.herm_translated.proofs.Lengths.{front-long, edge-long}
 use Rattle.herm_translated.proofs.Addresses.{outcome_of, first-here, edges-there}
 use Rattle.herm_translated.proofs.LabelsStand.{blocks-labelled}
 use Rattle.herm_translated.proofs.FrontWays.{IsNoFor}
 use Rattle.herm_translated.proofs.Handing.{filter-all}
 use Rattle.herm_translated.proofs.EdgesLabelled.{got-some, own-none}
-use Rattle.herm_good_images.proofs.BlockOfNode.{in-got}
-use Rattle.herm_good_images.proofs.GoodInstructions.{closed-more, AreGood, good-at, good-one, good-more, lands-more, handed_to, IsGoodAt}
-use Rattle.herm_good_images.proofs.GoodOperands.{LandsAtExit}
-use Rattle.herm_good_images.proofs.GoodFronts.{HasArm, front-good}
-use Rattle.herm_good_images.proofs.LocatedInstructions.{IsOn, Located, on_entry, on_front, on_loop, on_turn, on_test, on_edge, located, test-listed, test-within}
-use Rattle.herm_good_images.proofs.LocatedInstructions as places
+use Rattle.herm_good_images.proofs.blocks.BlockOfNode.{in-got}
+use Rattle.herm_good_images.proofs.fronts.GoodInstructions.{closed-more, AreGood, good-at, good-one, good-more, lands-more, handed_to, IsGoodAt}
+use Rattle.herm_good_images.proofs.fronts.GoodOperands.{LandsAtExit}
+use Rattle.herm_good_images.proofs.fronts.GoodFronts.{HasArm, front-good}
+use Rattle.herm_good_images.proofs.blocks.LocatedInstructions.{IsOn, Located, on_entry, on_front, on_loop, on_turn, on_test, on_edge, located, test-listed, test-within}
+use Rattle.herm_good_images.proofs.blocks.LocatedInstructions as places
 
 -- a label arrives at itself
 pub arrives-itself : (l : Label) → Arrives l l

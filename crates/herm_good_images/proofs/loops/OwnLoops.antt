@@ -1,8 +1,8 @@
 -- Each statement that repeats has a loop of its own number.
-use Rattle.std.proofs.Common.{◌≡◌, ℕ, suc, ◌+◌, ◌≤◌, List, [], ◌∷◌, ◌++◌, refl, sym, ◌∙◌, arith, inl, inr}
+use Rattle.std.proofs.Common.{◌≡◌, ℕ, suc, ◌+◌, ◌≤◌, List, [], ◌++◌, refl, sym, ◌∙◌, arith, inl, inr}
 use Rattle.herm_model.proofs.Lists.{in-append_left, in-append_right, each-joined, each-first, each-none}
 use Rattle.herm_model.specs.Lists.{IsIn}
-use Rattle.herm_model.specs.Statements.{Form, Branching, goes_on, repeats, leaves, chooses, branching_of, Leave, Statement, simple, choosing, repeating, leaving, trying, Block, no_statements, statement, Blocks, no_blocks, block, Handlers, no_handlers, handler, count_blocks, numbers_of, numbers_of_block, nodes_of, nodes_of_block, IsWellFormed, IsWellFormedBlock, AreWellFormed, AreWellFormedHandlers, Process}
+use Rattle.herm_model.specs.Statements.{goes_on, repeats, leaves, chooses, branching_of, Statement, simple, choosing, repeating, leaving, trying, Block, no_statements, statement, Blocks, no_blocks, block, Handlers, no_handlers, handler, numbers_of, numbers_of_block, nodes_of, nodes_of_block, IsWellFormed, IsWellFormedBlock, AreWellFormed, AreWellFormedHandlers, Process}
 use Rattle.herm_model.specs.Targets.{node}
 use Rattle.herm_model.specs.Nodes.{Surroundings, Node, start_of_block, catches_of, nodes, nodes_in, nodes_of_choices, nodes_of_catches, process_nodes}
 use Rattle.herm_forms.specs.Modules.{Span, loops_of, loops_in, loops_in_blocks, loops_in_handlers}

@@ -1,5 +1,5 @@
 -- The blocks of a checked process are sound.
-use Rattle.std.proofs.Common.{◌≡◌, ◌↔◌, ℕ, zero, suc, ◌+◌, ◌<◌, length, List, [], ◌∷◌, ◌++◌, map, filter, Bool, true, false, cond, not, nat_eq, Option, Some, None, option_and_then, slice_get, ◌⊎◌, inl, inr, refl, sym, ap, subst, ◌∙◌, arith}
+use Rattle.std.proofs.Common.{◌≡◌, ◌↔◌, ℕ, ◌+◌, ◌<◌, length, List, [], ◌∷◌, ◌++◌, map, filter, Bool, true, false, cond, not, nat_eq, Option, Some, None, option_and_then, slice_get, refl, sym, ap, subst, ◌∙◌, arith}
 use Rattle.herm_model.specs.Lists.{IsIn, any_pass, list_of}
 use Rattle.herm_model.specs.Paths.{Path, Fact, init, case}
 use Rattle.herm_model.specs.Types.{TypeTable}
@@ -10,10 +10,9 @@ use Rattle.herm_model.specs.Outcomes.{Outcome, ok, exceptions}
 use Rattle.herm_model.specs.Nodes.{Node, process_nodes, entry_of}
 use Rattle.herm_model.specs.Exits.{Exit, exits}
 use Rattle.herm_model.specs.Targets.{Target, node, end, end_by}
-use Rattle.herm_model.specs.FactsOfStatements.{needs}
 use Rattle.herm_model.specs.Labels.{Labels, label_at, AreExact}
 use Rattle.herm_model.specs.MissingFacts.{IsAccepted}
-use Rattle.herm_model.specs.ControlPaths.{Edge, edge, point, flow_of, held_after_edge, held_at_start}
+use Rattle.herm_model.specs.ControlPaths.{edge, point, flow_of, held_after_edge, held_at_start}
 use Rattle.herm_model.specs.TypedStatements.{IsTypedForm, port_type}
 use Rattle.herm_model.specs.TypedPrograms.{IsTypedProcess}
 use Rattle.herm_model.specs.WellFormedTables.{IsWellFormedTable}
@@ -34,7 +33,7 @@ use Rattle.herm_translated.specs.Constants.{literals_in}
 use Rattle.herm_translated.specs.Departures.{Arrival, to_block, to_second_step, Departure, second_step, arrive_by, edge_code}
 use Rattle.herm_translated.specs.CodeBlocks.{CheckedModule, CodeBlock, slots_within, slots_around, slots_left, number_at, arrival_at, departure, block_of, blocks_of, entry_edge}
 use Rattle.herm_translated.specs.Layout.{exit_of}
-use Rattle.herm_translated.specs.BlockLabels.{label_with, comes_again, facts_after, edge_slots}
+use Rattle.herm_translated.specs.BlockLabels.{label_with, facts_after}
 use Rattle.herm_translated.specs.laws.LayoutLaws.{start}
 use Rattle.herm_translated.specs.laws.LabelsAlong.{without_slots}
 use Rattle.herm_translated.specs.laws.LabelsAtEdges.{IsTypedBlock}
@@ -46,16 +45,16 @@ use Rattle.herm_translated.proofs.StructureKept.{comes}
 use Rattle.herm_translated.proofs.LinkedProcess.{linked-blocks}
 use Rattle.herm_translated.proofs.EdgesLabelled.{got-some}
 use Rattle.herm_good_images.specs.CheckedModules.{ListsFacts, DropsExcess}
-use Rattle.herm_good_images.proofs.LeadingWithin.{AreAround, Leads, block-leads, in-leads, exits-lead}
-use Rattle.herm_good_images.proofs.BlockOfNode.{list_in, node-block, block-node, departure-exit, exit-departure, arrives-first, arrives-second}
-use Rattle.herm_good_images.proofs.BlocksReached.{entry-first}
-use Rattle.herm_good_images.proofs.EnteredSlots.{within-Differ, to-first, to-second, own-absent, first-bare}
-use Rattle.herm_good_images.proofs.DroppedFacts.{AreNotAbove, low-kept, kept-low}
-use Rattle.herm_good_images.proofs.GoodEdges.{all-dropped, loops-dropped, jump-good, end-good, end_by-good}
-use Rattle.herm_good_images.proofs.KnownForms.{exceptions-known, typed-beside, node-arm}
-use Rattle.herm_good_images.proofs.LocatedInstructions.{turn-listed}
-use Rattle.herm_good_images.proofs.SoundBlocks.{LandsListed, IsGoodHere, AreGoodHere, IsSoundBlock}
-use Rattle.herm_good_images.proofs.BehindEdges.{listed-behind, label-needed, label-closed, behind, behind-closed, behind-there, low-behind, start-there, start-closed, start-listed, low-start}
+use Rattle.herm_good_images.proofs.loops.LeadingWithin.{Leads, block-leads, in-leads, exits-lead}
+use Rattle.herm_good_images.proofs.blocks.BlockOfNode.{list_in, node-block, block-node, departure-exit, exit-departure, arrives-first, arrives-second}
+use Rattle.herm_good_images.proofs.blocks.BlocksReached.{entry-first}
+use Rattle.herm_good_images.proofs.loops.EnteredSlots.{within-Differ, to-first, to-second, own-absent, first-bare}
+use Rattle.herm_good_images.proofs.facts.DroppedFacts.{AreNotAbove, low-kept, kept-low}
+use Rattle.herm_good_images.proofs.blocks.GoodEdges.{all-dropped, loops-dropped, jump-good, end-good, end_by-good}
+use Rattle.herm_good_images.proofs.fronts.KnownForms.{exceptions-known, typed-beside, node-arm}
+use Rattle.herm_good_images.proofs.blocks.LocatedInstructions.{turn-listed}
+use Rattle.herm_good_images.proofs.blocks.SoundBlocks.{LandsListed, AreGoodHere, IsSoundBlock}
+use Rattle.herm_good_images.proofs.facts.BehindEdges.{listed-behind, label-needed, label-closed, behind-closed, behind-there, low-behind, start-there, start-closed, start-listed, low-start}
 
 filter-Differ : (f : Slot → Bool) (slots : List Slot) → Differ (map (λ (s : Slot). s.number) slots) → Differ (map (λ (s : Slot). s.number) (filter f slots))
 filter-Differ f [] h = tt

@@ -22,14 +22,13 @@ use Rattle.herm_forms.specs.Modules.{Module, module_of}
 use Rattle.herm_forms.specs.LeavingLoops.{is_inside}
 use Rattle.herm_instructions.specs.Labels.{Slot}
 use Rattle.herm_translated.specs.Departures.{to_block, Departure}
-use Rattle.herm_translated.specs.CodeBlocks.{CheckedModule, CodeBlock, slots_within, slots_around, arrival_at, departure, departures_of, block_of, blocks_of, entry_edge}
+use Rattle.herm_translated.specs.CodeBlocks.{CheckedModule, CodeBlock, slots_within, slots_around, departure, block_of, blocks_of, entry_edge}
 use Rattle.herm_translated.specs.laws.CheckedBlocks.{checked}
 use Rattle.herm_translated.specs.laws.GoodStructure.{AreComplete}
 use Rattle.herm_translated.proofs.Joined.{got-within}
 use Rattle.herm_translated.proofs.LinkedProcess.{linked-blocks}
-use Rattle.herm_translated.proofs.EdgesLabelled.{got-some}
-use Rattle.herm_good_images.proofs.BlockOfNode.{in-got, list_in, one-place, node-block, block-node, exit-departure, arrives-first}
-use Rattle.herm_good_images.proofs.EnteredSlots.{from-inside, outside-first, inside-low}
+use Rattle.herm_good_images.proofs.blocks.BlockOfNode.{in-got, list_in, one-place, node-block, block-node, exit-departure, arrives-first}
+use Rattle.herm_good_images.proofs.loops.EnteredSlots.{from-inside, outside-first, inside-low}
 
 module _ (count : ℕ) (table : TypeTable) (processes : List Process) (p : Process) (labels : Labels) (facts : List (List Fact)) (entry_drops : List Path) (drops : List (List (List Path))) (typed : IsTypedProcess count table processes p) where
   abbrev c : Module

@@ -1,16 +1,15 @@
 -- Without the excess of a set of facts beyond another, the values of the other are left.
-use Rattle.std.proofs.Common.{◌≡◌, ◌↔◌, ℕ, zero, suc, List, [], ◌∷◌, ◌++◌, filter, Bool, true, false, cond, not, ◌&&◌, ◌||◌, nat_eq, nat_lt, IsTrue, IsFalse, Option, slice_get, ◌⊎◌, inl, inr, refl, sym, ap, ap₂, subst, ◌∙◌, append_assoc, true≢false}
+use Rattle.std.proofs.Common.{◌≡◌, ◌↔◌, ℕ, List, [], ◌∷◌, ◌++◌, filter, Bool, true, false, cond, not, ◌&&◌, ◌||◌, IsTrue, IsFalse, Option, slice_get, ◌⊎◌, inl, inr, refl, sym, ap, ap₂, subst, ◌∙◌, append_assoc, true≢false}
 use Rattle.std.proofs.lemmas.List.{append-nil}
 use Rattle.herm_model.specs.Lists.{IsIn, any_pass}
 use Rattle.herm_model.specs.Paths.{Path, Fact, init, case, parent, path_of, is_at_or_below}
-use Rattle.herm_model.specs.Types.{TypeTable, type_at, passes_component, part_of, is_variant, enters_component}
+use Rattle.herm_model.specs.Types.{TypeTable, part_of, is_variant, enters_component}
 use Rattle.herm_model.specs.Facts.{facts_from, facts_to, prefixes, IsFactOf}
-use Rattle.herm_model.specs.laws.ExcessLaws.{comes_before, AreInOrder, is_beyond, IsExcess}
-use Rattle.herm_model.proofs.Lists.{cons-head, cons-tail, in-append_left, in-append_right, in-filter, in-filter_from, and-both}
+use Rattle.herm_model.specs.laws.ExcessLaws.{is_beyond, IsExcess}
+use Rattle.herm_model.proofs.Lists.{cons-head, cons-tail, in-filter, in-filter_from, and-both}
 use Rattle.herm_model.proofs.TypedPaths.{or-falses}
-use Rattle.herm_model.proofs.Beginnings.{Begins, begins-with, above-longer, below-trans, below-self}
+use Rattle.herm_model.proofs.Beginnings.{Begins, begins-with, above-longer}
 use Rattle.herm_model.proofs.Prefixes.{to-longer}
-use Rattle.herm_translated.specs.laws.LabelsAlong.{without_paths}
 
 -- the paths are not above the fact
 abbrev pub AreNotAbove : List Path → Fact → Type 0

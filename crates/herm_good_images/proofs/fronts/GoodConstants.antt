@@ -1,11 +1,11 @@
 -- The constants of a program are the literals of its forms, each of the type of what it is.
-use Rattle.std.proofs.Common.{◌≡◌, ℕ, List, [], ◌∷◌, ◌++◌, filter, flat_map, Bool, true, false, cond, not, ◌⊎◌, inl, inr, refl, sym, ap, subst, ◌∙◌}
+use Rattle.std.proofs.Common.{◌≡◌, ℕ, List, [], ◌∷◌, filter, flat_map, Bool, true, false, not, ◌⊎◌, inl, inr, refl, sym, ap, subst}
 use Rattle.herm_model.specs.Lists.{IsIn}
 use Rattle.herm_model.specs.Types.{TypeTable, names, Mode, by_in, by_inout, by_out, Parameter}
 use Rattle.herm_model.specs.Expressions.{Literal, boolean, integer, text, tag, Expression, literal, copy, negation, logical_not, operation, size_of, decimal, length_of, Atom}
 use Rattle.herm_model.specs.Statements.{Form, Process}
 use Rattle.herm_model.specs.TypedExpressions.{HasShape, IsLiteralOf, IsTyped}
-use Rattle.herm_model.specs.TypedStatements.{IsTypedAtom, AreArguments, AreKeysOf, IsArgument, IsTypedForm}
+use Rattle.herm_model.specs.TypedStatements.{AreArguments, AreKeysOf, IsArgument, IsTypedForm}
 use Rattle.herm_model.proofs.Lists.{in-append_cases, in-filter, in-filter_from, in-flat_map, in-flat_map_from}
 use Rattle.herm_model.proofs.DecidedForms.{IsRegular}
 use Rattle.herm_instructions.specs.Operands.{type_of_literal}

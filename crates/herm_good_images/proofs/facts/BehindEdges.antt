@@ -1,22 +1,19 @@
 -- What is held behind an edge of a typed process with exact labels.
-use Rattle.std.proofs.Common.{◌≡◌, ◌↔◌, ℕ, zero, suc, ◌<◌, length, List, [], ◌∷◌, ◌++◌, map, filter, Bool, true, false, cond, not, Some, option_map, slice_get, ◌⊎◌, inl, inr, refl, sym, ap, subst, ◌∙◌, true≢false, arith}
+use Rattle.std.proofs.Common.{◌≡◌, ◌↔◌, ℕ, List, [], ◌∷◌, ◌++◌, filter, Bool, true, false, cond, not, Some, option_map, slice_get, ◌⊎◌, inl, inr, refl, sym, ap, subst, ◌∙◌, true≢false}
 use Rattle.herm_model.specs.Lists.{IsIn, any_pass, numbered}
-use Rattle.herm_model.specs.Paths.{Path, Fact, init, path_of, same_fact, is_at_or_below}
-use Rattle.herm_model.specs.Types.{TypeTable, inport}
+use Rattle.herm_model.specs.Paths.{Fact, init, path_of, same_fact, is_at_or_below}
+use Rattle.herm_model.specs.Types.{TypeTable}
 use Rattle.herm_model.specs.Facts.{prefixes, IsFactOf}
 use Rattle.herm_model.specs.Statements.{Process}
 use Rattle.herm_model.specs.Nodes.{Node, process_nodes, entry_of}
 use Rattle.herm_model.specs.Exits.{Exit, exits}
-use Rattle.herm_model.specs.Outcomes.{Outcome}
-use Rattle.herm_model.specs.Targets.{Target, node, end, end_by}
+use Rattle.herm_model.specs.Targets.{node}
 use Rattle.herm_model.specs.FactsOfStatements.{needs, makes, kills}
-use Rattle.herm_model.specs.Labels.{Labels, label_at, AreExact}
-use Rattle.herm_model.specs.MissingFacts.{Demand, demands, demands_at, IsAccepted}
-use Rattle.herm_model.specs.ControlPaths.{Edge, edge, Point, point, Flow, flow_of, Hop, held_after_edge, held_at_start, walk, IsControlPath, IsReached, Holds, Lacks}
+use Rattle.herm_model.specs.Labels.{Labels, AreExact}
+use Rattle.herm_model.specs.MissingFacts.{demands_at, IsAccepted}
+use Rattle.herm_model.specs.ControlPaths.{Edge, edge, point, Flow, flow_of, Hop, held_after_edge, held_at_start, IsControlPath, IsReached, Holds, Lacks}
 use Rattle.herm_model.specs.WellFormedTables.{IsWellFormedTable}
 use Rattle.herm_model.specs.TypedPrograms.{IsTypedProcess}
-use Rattle.herm_model.specs.laws.FlowLaws.{EdgesDiffer}
-use Rattle.herm_model.proofs.Options.{some-injective, none-not_some}
 use Rattle.herm_model.proofs.Lists.{in-append_left, in-append_right, in-append_cases, in-map, in-flat_map, in-filter, in-filter_from, slice_get-map}
 use Rattle.herm_model.proofs.FactTests.{listed-IsIn, IsIn-listed, got-IsIn, at-numbered}
 use Rattle.herm_model.proofs.Equality.{same_fact-is, same_fact_self}

@@ -1,17 +1,17 @@
 -- The block of each node, by places.
-use Rattle.std.proofs.Common.{◌≡◌, ℕ, zero, suc, ◌+◌, ◌<◌, length, List, [], ◌∷◌, map, Bool, true, false, cond, nat_eq, Option, Some, None, option_map, slice_get, inl, inr, ◌⊎◌, refl, sym, ap, subst, ◌∙◌, arith}
+use Rattle.std.proofs.Common.{◌≡◌, ℕ, zero, suc, ◌+◌, List, [], ◌∷◌, map, true, false, cond, nat_eq, Some, option_map, slice_get, inl, inr, refl, sym, ap, ◌∙◌, arith}
 use Rattle.herm_model.specs.Lists.{IsIn, any_pass, list_of}
 use Rattle.herm_model.specs.Paths.{Path, Fact}
 use Rattle.herm_model.specs.Nodes.{Node}
 use Rattle.herm_model.specs.Exits.{Exit}
-use Rattle.herm_model.specs.Targets.{Target, node}
+use Rattle.herm_model.specs.Targets.{node}
 use Rattle.herm_model.specs.laws.FlowLaws.{Rise}
 use Rattle.herm_model.proofs.Options.{some-injective, none-not_some, map-some}
 use Rattle.herm_model.proofs.Lists.{in-map}
 use Rattle.herm_model.proofs.FactTests.{got-IsIn}
 use Rattle.herm_forms.specs.Modules.{Module}
 use Rattle.herm_instructions.specs.Labels.{Slot}
-use Rattle.herm_translated.specs.Departures.{Arrival, to_block, to_second_step, Departure}
+use Rattle.herm_translated.specs.Departures.{to_block, to_second_step, Departure}
 use Rattle.herm_translated.specs.CodeBlocks.{CodeBlock, first_list, further_lists, number_at, arrival_at, departure, departures_of, block_of, blocks_from}
 
 -- an element has a place

@@ -1,7 +1,7 @@
 -- A loop is entered at its head: an edge that leads to a statement inside it comes from inside it, or leads to its own statement.
-use Rattle.std.proofs.Common.{◌≡◌, ℕ, zero, suc, ◌+◌, ◌<◌, ◌≤◌, Bool, true, false, List, [], ◌∷◌, ◌++◌, length, Some, None, slice_get, IsTrue, refl, sym, ap, subst, ◌∙◌, arith, inl, inr, ◌⊎◌}
-use Rattle.herm_model.proofs.Options.{some-injective, none-not_some}
-use Rattle.herm_model.proofs.Lists.{in-append_cases, each-joined, each-first, each-none, and-both, both-and}
+use Rattle.std.proofs.Common.{◌≡◌, ℕ, zero, suc, ◌+◌, ◌<◌, ◌≤◌, List, [], ◌∷◌, ◌++◌, length, Some, slice_get, IsTrue, refl, sym, ap, subst, ◌∙◌, arith, inl, inr, ◌⊎◌}
+use Rattle.herm_model.proofs.Options.{some-injective}
+use Rattle.herm_model.proofs.Lists.{in-append_cases, each-joined, each-first, and-both, both-and}
 use Rattle.herm_model.proofs.FactTests.{got-IsIn}
 use Rattle.herm_model.proofs.Deciding.{at_most-decides, below-decides}
 use Rattle.herm_model.proofs.NodePlaces.{count, count_in, count_catches}
@@ -13,7 +13,7 @@ use Rattle.herm_model.specs.Targets.{Target, node}
 use Rattle.herm_forms.specs.Modules.{Span, loops_of, loops_in, loops_in_blocks, loops_in_handlers}
 use Rattle.herm_forms.specs.LeavingLoops.{is_in_loop}
 use Rattle.herm_translated.proofs.Joined.{get-left, get-right, length-joined}
-use Rattle.herm_good_images.proofs.LeadingWithin.{OfPlaces, AreAround, Leads, start-leads, block-leads, starts-lead, catches-lead, one-leads, pair-leads, constant-leads, more-catches, part-leads, in-leads, choices-lead, handlers-lead}
+use Rattle.herm_good_images.proofs.loops.LeadingWithin.{OfPlaces, AreAround, Leads, start-leads, block-leads, starts-lead, catches-lead, pair-leads, more-catches, part-leads, in-leads, choices-lead, handlers-lead}
 
 -- the numbers of nodes lie among so many from a first one on
 abbrev pub AreNumbered : (number many : ℕ) → List Node → Type 0

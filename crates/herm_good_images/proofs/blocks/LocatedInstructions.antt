@@ -1,5 +1,5 @@
 -- Where each instruction of laid out code stands, and the label there.
-use Rattle.std.proofs.Common.{◌≡◌, ℕ, zero, suc, ◌+◌, ◌<◌, length, List, [], ◌∷◌, ◌++◌, map, flat_map, Bool, true, false, cond, Option, Some, None, option_and_then, option_map, slice_get, ◌⊎◌, inl, inr, refl, sym, ap, subst, ◌∙◌, arith}
+use Rattle.std.proofs.Common.{◌≡◌, ℕ, zero, suc, ◌+◌, ◌<◌, length, List, [], ◌∷◌, ◌++◌, map, flat_map, Bool, true, false, Option, Some, None, option_and_then, option_map, slice_get, ◌⊎◌, inl, inr, refl, sym, ap, subst, ◌∙◌, arith}
 use Rattle.herm_model.specs.Lists.{IsIn, list_of, total}
 use Rattle.herm_model.specs.Paths.{Path}
 use Rattle.herm_model.specs.Statements.{Form, Process, Differ}
@@ -10,7 +10,7 @@ use Rattle.herm_model.proofs.Lists.{in-map}
 use Rattle.herm_model.proofs.FactTests.{got-IsIn}
 use Rattle.herm_instructions.specs.Instructions.{Instruction, Step, LoopStart, LoopNext, Jump}
 use Rattle.herm_instructions.specs.Labels.{Label, ListedLabel, listed_at}
-use Rattle.herm_instructions.specs.Images.{Landing, CodeModule, Image}
+use Rattle.herm_instructions.specs.Images.{CodeModule, Image}
 use Rattle.herm_instructions.specs.Places.{Place, listed_or, label_at_start, label_at}
 use Rattle.herm_instructions.specs.GoodCode.{module_places}
 use Rattle.herm_instructions.specs.laws.LabelLaws.{IsPlaceAt}
@@ -25,14 +25,14 @@ use Rattle.herm_translated.specs.laws.LayoutLaws.{start, IsInBlock}
 use Rattle.herm_translated.specs.laws.GoodStructure.{code_module}
 use Rattle.herm_translated.specs.laws.LabelsAlong.{handed_by}
 use Rattle.herm_translated.specs.laws.LabelsAtEdges.{IsTypedBlock}
-use Rattle.herm_translated.proofs.Joined.{get-left, get-right, place-in, got-within}
+use Rattle.herm_translated.proofs.Joined.{get-left, place-in, got-within}
 use Rattle.herm_translated.proofs.Lengths.{front-long, edge-long}
 use Rattle.herm_translated.proofs.Addresses.{outcome_of, first-here, further, code-block, edges-there, laid-out}
 use Rattle.herm_translated.proofs.LabelsStand.{label-where_listed, blocks-labelled}
 use Rattle.herm_translated.proofs.ListedLabels.{listed-here, listed-on}
 use Rattle.herm_translated.proofs.FrontWays.{IsNoFor}
 use Rattle.herm_translated.proofs.EdgesLabelled.{label-stretch, within-none, got-some, edges-are_labelled}
-use Rattle.herm_good_images.proofs.GoodInstructions.{handed_to}
+use Rattle.herm_good_images.proofs.fronts.GoodInstructions.{handed_to}
 
 -- the edge at a place among edges
 edge-found : (at : ℕ) (ds : List Departure) (z : ℕ) → z < total edge_length ds → Differ (map outcome_of ds) → (j k : ℕ) × (d : Departure) × (slice_get ds j ≡ Some d) × (k < edge_length d) × (at + z ≡ edge_at at ds d.outcome + k)

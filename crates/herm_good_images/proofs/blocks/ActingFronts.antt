@@ -4,7 +4,7 @@ use Rattle.std.proofs.lemmas.Bool.{eq-eqb}
 use Rattle.herm_model.specs.Lists.{IsIn, list_of}
 use Rattle.herm_model.specs.Paths.{Path, Fact}
 use Rattle.herm_model.specs.Types.{TypeTable}
-use Rattle.herm_model.specs.Expressions.{Literal, Expression, Atom}
+use Rattle.herm_model.specs.Expressions.{Literal, Expression}
 use Rattle.herm_model.specs.Statements.{Form, Process}
 use Rattle.herm_model.specs.Calls.{call_parameters, call_raises}
 use Rattle.herm_model.specs.Outcomes.{Outcome}
@@ -13,13 +13,12 @@ use Rattle.herm_model.proofs.Options.{some-injective, none-not_some}
 use Rattle.herm_model.proofs.Lists.{in-append_cases, in-flat_map, in-map, in-map_from}
 use Rattle.herm_model.proofs.FactTests.{got-IsIn}
 use Rattle.herm_instructions.specs.Instructions.{Instruction, Step, Drop, LoopDrop}
-use Rattle.herm_instructions.specs.Labels.{Label, ListedLabel, listed_at}
+use Rattle.herm_instructions.specs.Labels.{ListedLabel, listed_at}
 use Rattle.herm_instructions.specs.Images.{CodeModule, Image}
 use Rattle.herm_instructions.specs.Actions.{is_step, is_action}
 use Rattle.herm_instructions.specs.Pieces.{is_operand, is_other, ComesFromStep, from_step, past_operand, past_other, ActsAtOnce}
-use Rattle.herm_instructions.specs.Places.{Way, Place, goes_on, named_ways, ways, targets}
-use Rattle.herm_instructions.specs.GoodCode.{module_places, listed_indices}
-use Rattle.herm_instructions.specs.laws.LabelLaws.{IsPlaceAt}
+use Rattle.herm_instructions.specs.Places.{Way, Place, goes_on, named_ways, targets}
+use Rattle.herm_instructions.specs.GoodCode.{module_places}
 use Rattle.herm_instructions.proofs.LabelsOfCode.{places-are_instructions}
 use Rattle.herm_translated.specs.Fronts.{arguments_of, front, front_length, expression_code, atom_code, inputs_code}
 use Rattle.herm_translated.specs.Departures.{Arrival, to_block, to_second_step, to_end, to_end_by, Departure, edge_code, arrive_by}
@@ -35,8 +34,8 @@ use Rattle.herm_translated.proofs.FrontWays.{IsNoFor}
 use Rattle.herm_translated.proofs.EdgesLabelled.{within-none}
 use Rattle.herm_translated.proofs.EachInstruction.{atoms-each, inputs-each, expression-each}
 use Rattle.herm_translated.proofs.NamedIndices.{complete-listed}
-use Rattle.herm_good_images.proofs.LocatedInstructions.{IsOn, Located, on_entry, on_front, on_loop, on_turn, on_test, on_edge, located}
-use Rattle.herm_good_images.proofs.LocatedInstructions as places
+use Rattle.herm_good_images.proofs.blocks.LocatedInstructions.{IsOn, Located, on_entry, on_front, on_loop, on_turn, on_test, on_edge, located}
+use Rattle.herm_good_images.proofs.blocks.LocatedInstructions as places
 
 -- forms whose instruction is an action, or may be one
 abbrev IsActing : Form → Type 0

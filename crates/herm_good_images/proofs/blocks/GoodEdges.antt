@@ -1,34 +1,33 @@
 -- The code of an edge keeps the rules of good code: it drops what is there, and arrives where a label is listed.
-use Rattle.std.proofs.Common.{◌≡◌, ◌↔◌, ℕ, suc, ◌<◌, List, [], ◌∷◌, ◌++◌, map, filter, Bool, true, false, cond, not, ◌&&◌, ◌||◌, nat_eq, nat_lt, IsTrue, IsFalse, is_some, Option, Some, None, slice_get, ◌⊎◌, inl, inr, refl, sym, ap, ap₂, subst, ◌∙◌, true≢false, arith}
+use Rattle.std.proofs.Common.{◌≡◌, ◌↔◌, ℕ, ◌<◌, List, [], ◌∷◌, ◌++◌, map, filter, Bool, true, false, cond, not, ◌&&◌, ◌||◌, nat_eq, nat_lt, IsTrue, is_some, Option, Some, slice_get, ◌⊎◌, inl, inr, refl, sym, ap, subst, ◌∙◌, true≢false, arith}
 use Rattle.herm_model.specs.Lists.{IsIn, any_pass}
 use Rattle.herm_model.specs.Paths.{Path, Fact, init, path_of, is_at_or_below}
-use Rattle.herm_model.specs.Types.{TypeTable, type_at, passes_component, part_of, is_variant, enters_component}
+use Rattle.herm_model.specs.Types.{TypeTable, type_at, part_of, is_variant, enters_component}
 use Rattle.herm_model.specs.Facts.{facts_to, prefixes, with_prefixes, IsFactOf}
 use Rattle.herm_model.specs.Expressions.{Literal}
 use Rattle.herm_model.specs.Statements.{Process, Differ}
 use Rattle.herm_model.specs.Outcomes.{Outcome, ok}
 use Rattle.herm_model.specs.FactsOfStatements.{closed}
-use Rattle.herm_model.specs.TypedExpressions.{enters_out, is_out_part, passes_out}
+use Rattle.herm_model.specs.TypedExpressions.{enters_out}
 use Rattle.herm_model.specs.TypedStatements.{IsSource}
 use Rattle.herm_model.specs.laws.ExcessLaws.{comes_before, AreInOrder, IsExcess}
 use Rattle.herm_model.proofs.Options.{some-injective}
-use Rattle.herm_model.proofs.Lists.{in-append_cases, in-map, in-flat_map_from}
+use Rattle.herm_model.proofs.Lists.{in-append_cases, in-flat_map_from}
 use Rattle.herm_model.proofs.TypedPaths.{or-falses, some-of, begins-typed}
 use Rattle.herm_model.proofs.Prefixes.{to-closed}
 use Rattle.herm_model.proofs.ClosedFacts.{once-IsIn}
-use Rattle.herm_model.proofs.Beginnings.{begins-with, above-longer, below-trans}
+use Rattle.herm_model.proofs.Beginnings.{above-longer, below-trans}
 use Rattle.herm_model.proofs.Deciding.{below-decides}
 use Rattle.std.proofs.lemmas.Bool.{eqb-true}
 use Rattle.herm_instructions.specs.Instructions.{Instruction, Jump, LoopDrop, Drop, End, EndBy}
 use Rattle.herm_instructions.specs.Labels.{Slot, Label}
 use Rattle.herm_instructions.specs.Effects.{label_behind, without_slot}
 use Rattle.herm_instructions.specs.Places.{Way}
-use Rattle.herm_translated.specs.Departures.{Arrival, to_block, to_second_step, to_end, to_end_by, Departure, second_step, arrive_by, edge_code}
 use Rattle.herm_translated.specs.BlockLabels.{label_with}
 use Rattle.herm_translated.specs.laws.LabelsAlong.{without_slots}
 use Rattle.herm_translated.proofs.Handing.{filter-all}
-use Rattle.herm_good_images.proofs.GoodInstructions.{AreGood, good-one, IsGoodAt, landing-way}
-use Rattle.herm_good_images.proofs.DroppedFacts.{AreNotAbove, left-one, closed-above, plain-from, dropped-here, dropped-apart}
+use Rattle.herm_good_images.proofs.fronts.GoodInstructions.{AreGood, good-one, IsGoodAt}
+use Rattle.herm_good_images.proofs.facts.DroppedFacts.{AreNotAbove, left-one, closed-above, plain-from, dropped-here, dropped-apart}
 
 comes-not_before_itself : (p : Path) → comes_before p p ≡ false
 comes-not_before_itself [] = refl

@@ -1,5 +1,5 @@
 -- Of a typed form the exceptions are there, and a `select` has an arm.
-use Rattle.std.proofs.Common.{◌≡◌, ℕ, zero, suc, ◌+◌, ◌<◌, ◌≤◌, List, [], ◌∷◌, ◌++◌, map, Bool, true, false, cond, nat_eq, nat_lt, IsTrue, Option, Some, None, ◌⊎◌, inl, inr, refl, sym, ap, subst, ◌∙◌, arith}
+use Rattle.std.proofs.Common.{◌≡◌, ℕ, ◌+◌, ◌<◌, List, [], ◌∷◌, ◌++◌, map, Bool, true, false, cond, nat_eq, nat_lt, IsTrue, Option, Some, None, ◌⊎◌, inl, inr, refl, sym, ap, subst, ◌∙◌, arith}
 use Rattle.herm_model.specs.Lists.{IsIn}
 use Rattle.herm_model.specs.Paths.{Path}
 use Rattle.herm_model.specs.Types.{TypeTable, Shape, inport, Raised}
@@ -14,7 +14,7 @@ use Rattle.herm_model.specs.TypedPrograms.{Placed, placed, placed_in, placed_in_
 use Rattle.herm_model.specs.WellFormedTables.{IsWellFormedTable}
 use Rattle.herm_model.proofs.Lists.{in-append_left, in-append_right, in-append_cases, in-map_from, not_true, each-joined, each-first, each-none}
 use Rattle.herm_model.proofs.ThereFacts.{calls-declare}
-use Rattle.herm_good_images.proofs.GoodFronts.{HasArm}
+use Rattle.herm_good_images.proofs.fronts.GoodFronts.{HasArm}
 
 -- a number of a rising list is one of the list
 with-number_in : (n : ℕ) (ms : List ℕ) (e : ℕ) → IsIn e (with_number n ms) → (e ≡ n) ⊎ IsIn e ms

@@ -1,5 +1,5 @@
 -- The slots where an edge arrives are those of the block that it leaves, without those of the loops that it leaves; and each block is led to.
-use Rattle.std.proofs.Common.{◌≡◌, ℕ, zero, suc, ◌+◌, ◌<◌, ◌≤◌, length, List, [], ◌∷◌, ◌++◌, map, filter, Bool, true, false, not, ◌&&◌, cond, nat_eq, Option, Some, None, slice_get, IsTrue, inl, inr, ◌⊎◌, refl, sym, ap, ap₂, subst, ◌∙◌, true≢false, arith}
+use Rattle.std.proofs.Common.{◌≡◌, ℕ, ◌<◌, ◌≤◌, List, [], ◌∷◌, ◌++◌, map, filter, Bool, true, false, not, ◌&&◌, cond, nat_eq, Some, slice_get, IsTrue, inl, inr, ◌⊎◌, refl, sym, ap, ap₂, subst, ◌∙◌, true≢false, arith}
 use Rattle.std.proofs.lemmas.Bool.{eq-eqb, eqb-true}
 use Rattle.herm_model.specs.Lists.{IsIn, any_pass, map_or, list_of}
 use Rattle.herm_model.specs.Types.{TypeTable, rows}
@@ -7,7 +7,7 @@ use Rattle.herm_model.specs.Statements.{For, branching_of, Process, Differ}
 use Rattle.herm_model.specs.Calls.{shape_at}
 use Rattle.herm_model.specs.Nodes.{Node, process_nodes}
 use Rattle.herm_model.specs.Exits.{Exit, exits}
-use Rattle.herm_model.specs.Targets.{Target, node}
+use Rattle.herm_model.specs.Targets.{node}
 use Rattle.herm_model.specs.Labels.{Labels}
 use Rattle.herm_model.specs.TypedStatements.{IsTypedForm}
 use Rattle.herm_model.specs.TypedPrograms.{IsTypedProcess}
@@ -17,18 +17,17 @@ use Rattle.herm_model.proofs.FactTests.{got-IsIn}
 use Rattle.herm_model.proofs.NodeNumbers.{process_numbers-Rise}
 use Rattle.herm_model.proofs.TypedCalls.{shape-is}
 use Rattle.herm_model.proofs.Deciding.{at_most-decides}
-use Rattle.herm_forms.specs.Modules.{Span, Module, module_of, loops_in}
+use Rattle.herm_forms.specs.Modules.{Span, Module, module_of}
 use Rattle.herm_forms.specs.LeavingLoops.{is_in_loop, is_inside, keeps_loop}
 use Rattle.herm_instructions.specs.Labels.{Slot}
 use Rattle.herm_instructions.specs.Effects.{row_type}
 use Rattle.herm_translated.specs.CodeBlocks.{own_slot, slots_within, number_at, is_around, slots_among, slots_around, slots_left}
 use Rattle.herm_translated.specs.laws.LabelsAlong.{without_slots}
 use Rattle.herm_translated.proofs.NamedIndices.{any-from}
-use Rattle.herm_translated.proofs.EdgesLabelled.{got-some}
-use Rattle.herm_good_images.proofs.LeadingWithin.{exits-lead}
-use Rattle.herm_good_images.proofs.LoopHeads.{IsHead, both-inside, loop-entered}
-use Rattle.herm_good_images.proofs.OwnLoops.{process-has_loop}
-use Rattle.herm_good_images.proofs.SelectedSlots.{own, chosen, chosen-same, filter-chosen, own-number, in-chosen, chosen-in, own-first, chosen-Differ, without-kept, any-is}
+use Rattle.herm_good_images.proofs.loops.LeadingWithin.{exits-lead}
+use Rattle.herm_good_images.proofs.loops.LoopHeads.{IsHead, both-inside, loop-entered}
+use Rattle.herm_good_images.proofs.loops.OwnLoops.{process-has_loop}
+use Rattle.herm_good_images.proofs.loops.SelectedSlots.{own, chosen, chosen-same, filter-chosen, own-number, in-chosen, chosen-in, own-first, chosen-Differ, without-kept, any-is}
 
 module _ (count : ℕ) (table : TypeTable) (processes : List Process) (p : Process) (labels : Labels) (typed : IsTypedProcess count table processes p) where
   abbrev c : Module

@@ -1,16 +1,16 @@
 -- The front of each form but `for` keeps the rules of good code.
-use Rattle.std.proofs.Common.{◌≡◌, ℕ, zero, suc, ◌+◌, ◌<◌, ◌≤◌, length, List, [], ◌∷◌, ◌++◌, map, flat_map, filter, drop, reverse, Bool, true, false, cond, not, Option, Some, None, slice_get, IsTrue, ◌⊎◌, inl, inr, refl, sym, ap, ap₂, subst, ◌∙◌, arith}
+use Rattle.std.proofs.Common.{◌≡◌, ℕ, zero, suc, length, List, [], ◌∷◌, ◌++◌, map, flat_map, filter, reverse, Bool, true, false, cond, not, Option, Some, slice_get, IsTrue, ◌⊎◌, inl, inr, refl, sym, ap, ap₂, subst, ◌∙◌, arith}
 use Rattle.std.proofs.lemmas.List.{append-nil}
 use Rattle.herm_model.specs.Lists.{IsIn, any_pass, list_of, map_or, range, numbered}
 use Rattle.herm_model.specs.Paths.{Path, Fact, path_of, is_at_or_below}
-use Rattle.herm_model.specs.Types.{TypeTable, type_at, Mode, by_in, by_inout, by_out, Parameter, Raised, fields, cases, rows, callmessage, Shape}
+use Rattle.herm_model.specs.Types.{TypeTable, type_at, Mode, by_in, by_inout, by_out, Parameter, fields, cases, rows, callmessage}
 use Rattle.herm_model.specs.Facts.{component_count}
 use Rattle.herm_model.specs.Expressions.{Literal, Expression, Atom, paths_read, paths_among}
 use Rattle.herm_model.specs.Statements.{Form, Arm, Process, Differ}
 use Rattle.herm_model.specs.Calls.{shape_at, call_parameters, call_raises, kept_for, is_given, is_returned, arguments_by, argument_path}
 use Rattle.herm_model.specs.Outcomes.{Outcome, is_false, component, arm, raised, exceptions, arms_from, outcomes}
 use Rattle.herm_model.specs.FactsOfStatements.{present, full, full_of_each, room_for, set_by_call, given, kept_by_call, needs, closed}
-use Rattle.herm_model.specs.TypedExpressions.{HasShape, IsTyped}
+use Rattle.herm_model.specs.TypedExpressions.{IsTyped}
 use Rattle.herm_model.specs.TypedStatements.{AreApart, AreArguments, AreKeysOf, IsArgument, IsFound, IsTypedForm}
 use Rattle.herm_model.specs.WellFormedTables.{IsWellFormedTable}
 use Rattle.herm_model.proofs.Lists.{in-append_left, in-append_right, in-append_cases, in-map, in-flat_map, in-flat_map_from, length-map, not_true}
@@ -18,7 +18,7 @@ use Rattle.herm_model.proofs.Options.{some-injective, none-not_some}
 use Rattle.herm_model.proofs.Deciding.{below-in}
 use Rattle.herm_model.proofs.TypedCalls.{shape-is, parameters-are, raises-are, kept-declared}
 use Rattle.herm_model.proofs.DecidedForms.{IsRegular, well_formed-regular}
-use Rattle.herm_instructions.specs.Instructions.{Argument, of_in, Choice, Instruction, Store, JumpFalse, CaseOf, Remove, Get, Select, Call}
+use Rattle.herm_instructions.specs.Instructions.{Instruction, Store, JumpFalse, CaseOf, Remove, Get, Select, Call}
 use Rattle.herm_instructions.specs.Labels.{Slot, Label}
 use Rattle.herm_instructions.specs.Operands.{FindsOnStack, Begins, input_types, types_of_key, types_of_row_key}
 use Rattle.herm_instructions.specs.Effects.{atom_of, arm_of, facts_needed, facts_behind, exceptions_of, label_behind}
@@ -27,14 +27,14 @@ use Rattle.herm_instructions.specs.TypedInstructions.{AreArgumentsOf, IsArgument
 use Rattle.herm_instructions.specs.GoodCode.{FindsSlots, TrimsExcess}
 use Rattle.herm_translated.specs.Constants.{literals_of, literals_among, literals_in}
 use Rattle.herm_translated.specs.Fronts.{argument_by, arguments_of, choices_from, expression_code, atom_code, inputs_code, type_of, trimmed, front}
-use Rattle.herm_translated.specs.BlockLabels.{label_with, is_named, facts_after}
+use Rattle.herm_translated.specs.BlockLabels.{label_with, facts_after}
 use Rattle.herm_translated.specs.laws.LabelsAlong.{handed_on}
 use Rattle.herm_translated.specs.laws.NamedComponents.{NamesAll}
 use Rattle.herm_translated.proofs.FrontWays.{IsNoFor, OnlyRaises, expression-raises}
 use Rattle.herm_translated.proofs.LinkedProcess.{in-below}
 use Rattle.herm_translated.proofs.Handing.{pushed_types, expression-on, keys-on, inputs-on, arguments-same}
-use Rattle.herm_good_images.proofs.GoodInstructions.{closed-more, AreGood, good-joined, good-one, IsGoodAt}
-use Rattle.herm_good_images.proofs.GoodOperands.{pushed-reverse, at, LandsAtExit, IsGoodIn, raising, HasRead, expression-good, keys-good, HasReadInputs, inputs-good}
+use Rattle.herm_good_images.proofs.fronts.GoodInstructions.{closed-more, AreGood, good-joined, good-one}
+use Rattle.herm_good_images.proofs.fronts.GoodOperands.{pushed-reverse, LandsAtExit, IsGoodIn, raising, expression-good, keys-good, HasReadInputs, inputs-good}
 
 range-Differ : (k n : ℕ) → Differ (range k n)
 range-Differ k zero = tt
