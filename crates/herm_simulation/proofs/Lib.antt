@@ -1,0 +1,5 @@
+pub mod Leading
+pub mod LoopsLeft
+pub mod AlongEdges
+pub mod Raised
+pub mod Rows

@@ -1,0 +1,2 @@
+-- What is claimed of the code of a process beside its source.
+pub mod EdgeLaws

@@ -1,0 +1,4 @@
+//! The code of a process does what its source does. The definitions stand in specs/; each function here is a law.
+#![tactic(auto)]
+
+pub mod edges;
