@@ -3,3 +3,4 @@ pub mod LoopsLeft
 pub mod AlongEdges
 pub mod Raised
 pub mod Rows
+pub mod DoneFronts

@@ -19,14 +19,33 @@ use Rattle.herm_code_machine.specs.Stacks.{Effect, leaving}
 use Rattle.herm_code_machine.specs.laws.GoodImageLaws.{IsEnd}
 use Rattle.herm_translated.specs.Fronts.{expression_code, atom_code}
 use Rattle.herm_translated.proofs.EachInstruction.{expression-each, atoms-each}
+use Rattle.herm_translated.proofs.Joined.{get-left, get-right, got-within}
 use Rattle.herm_simulation.specs.Leading.{StandFrom, state_at, LeadsTo}
+use Rattle.herm_simulation.specs.FrontsInPlace.{LandFrom}
 use Rattle.herm_simulation.proofs.Leading.{stand-first, stand-rest, leads-then, leads-from, effect-leads}
 use Rattle.herm_simulation.proofs.Raised.{exception_in, RaisesListed, const-listed, load-listed, size-listed, apply-listed, combine-listed}
 
-module _ (name : Name → Name) (c : ReadyCode) (types : TypeTable) (variables : List ℕ) (exit_at : Outcome → ℕ) where
-  -- each exception of instructions in a row lands at its edge
-  abbrev pub LandFrom : (index : ℕ) → List Instruction → Type 0
-  LandFrom i row = (n : ℕ) (x : Instruction) → slice_get row n ≡ Some x → (e : ℕ) → IsIn e (exceptions_of types variables x) → landing_of c.code (i + n) e ≡ Some (exit_at (raised e))
+module _ (c : ReadyCode) (exit_at : Outcome → ℕ) where
+  pub land-first : (i : ℕ) (x : Instruction) (row : List Instruction) → LandFrom c exit_at i (x ∷ row) → (e : ℕ) → IsIn e (exceptions_of c.scope.types c.scope.variables x) → landing_of c.code i e ≡ Some (exit_at (raised e))
+  land-first i x row h e m = let same : i + 0 ≡ i = omega arith in subst (λ n. landing_of c.code n e ≡ Some (exit_at (raised e))) same (h 0 x refl e m)
+
+  pub land-rest : (i : ℕ) (x : Instruction) (row : List Instruction) → LandFrom c exit_at i (x ∷ row) → LandFrom c exit_at (suc i) row
+  land-rest i x row h n y at e m = let same : i + suc n ≡ suc i + n = omega arith in subst (λ n. landing_of c.code n e ≡ Some (exit_at (raised e))) same (h (suc n) y at e m)
+
+  pub land-left : (i : ℕ) (row more : List Instruction) → LandFrom c exit_at i (row ++ more) → LandFrom c exit_at i row
+  land-left i row more h n x at e m = h n x (get-left row more n (got-within row n x at) ∙ at) e m
+
+  pub land-right : (i : ℕ) (row more : List Instruction) → LandFrom c exit_at i (row ++ more) → LandFrom c exit_at (i + length row) more
+  land-right i row more h n x at e m =
+      let same : i + (length row + n) ≡ i + length row + n = omega arith in
+      subst (λ n. landing_of c.code n e ≡ Some (exit_at (raised e))) same (h (length row + n) x (get-right row more (length row + n) n refl ∙ at) e m)
+
+module _ (name : Name → Name) (c : ReadyCode) (exit_at : Outcome → ℕ) where
+  abbrev types : TypeTable
+  types = c.scope.types
+
+  abbrev variables : List ℕ
+  variables = c.scope.variables
 
   -- an instruction that goes on to the next one, or raises what it lists
   pub record IsOperand (x : Instruction) : Type 0 where
@@ -51,12 +70,6 @@ module _ (name : Name → Name) (c : ReadyCode) (types : TypeTable) (variables :
       (λ k. record { other = refl; plain = λ v. v; onward = λ i. refl; raises = const-listed name c types variables k; local = refl })
       (λ p. record { other = refl; plain = λ v. v; onward = λ i. refl; raises = load-listed name c types variables p; local = refl })
 
-  pub land-first : (i : ℕ) (x : Instruction) (row : List Instruction) → LandFrom i (x ∷ row) → (e : ℕ) → IsIn e (exceptions_of types variables x) → landing_of c.code i e ≡ Some (exit_at (raised e))
-  land-first i x row h e m = let same : i + 0 ≡ i = omega arith in subst (λ n. landing_of c.code n e ≡ Some (exit_at (raised e))) same (h 0 x refl e m)
-
-  pub land-rest : (i : ℕ) (x : Instruction) (row : List Instruction) → LandFrom i (x ∷ row) → LandFrom (suc i) row
-  land-rest i x row h n y at e m = let same : i + suc n ≡ suc i + n = omega arith in subst (λ n. landing_of c.code n e ≡ Some (exit_at (raised e))) same (h (suc n) y at e m)
-
   -- from a state to the index behind a row, or to the edge of an exception
   abbrev pub Led : (module_number behind : ℕ) → CodeState Name → List Value → Completion Name → Type 0
   Led k j s stack (goes ok b) = LeadsTo name c s (state_at k j stack b)
@@ -68,7 +81,7 @@ module _ (name : Name → Name) (c : ReadyCode) (types : TypeTable) (variables :
   led-before k j s t stack (goes (raised e) b) before h = leads-then name c s t (state_at k (exit_at (raised e)) [] b) before h
   led-before k j s t stack r before h = tt
 
-  pub row-leads : (row : List Instruction) (k i : ℕ) (stack : List Value) (b : Frame Name) → StandFrom c i row → LandFrom i row → ((x : Instruction) → IsIn x row → IsOperand x)
+  pub row-leads : (row : List Instruction) (k i : ℕ) (stack : List Value) (b : Frame Name) → StandFrom c i row → LandFrom c exit_at i row → ((x : Instruction) → IsIn x row → IsOperand x)
       → Led k (i + length row) (state_at k i stack b) (row_effect name c row stack b).stack (row_effect name c row stack b).completion
   row-leads [] k i stack b stands lands each = leads-from name c (state_at k i stack b) (state_at k (i + 0) stack b) (ap (λ n. state_at k n stack b) (omega arith))
   row-leads (x ∷ row) k i stack b stands lands each =
@@ -76,7 +89,7 @@ module _ (name : Name → Name) (c : ReadyCode) (types : TypeTable) (variables :
       (λ b'.
       (let same : suc i + length row ≡ at = omega arith in
       subst (λ n. Led k n (state_at k (suc i) e.stack b') (row_effect name c row e.stack b').stack (row_effect name c row e.stack b').completion) same
-      (row-leads row k (suc i) e.stack b' (stand-rest c i x row stands) (land-rest i x row lands) (λ y m. each y (inr m)))))
+      (row-leads row k (suc i) e.stack b' (stand-rest c i x row stands) (land-rest c exit_at i x row lands) (λ y m. each y (inr m)))))
     where
       e : Effect Name
       e = effect name c x stack b
@@ -96,7 +109,7 @@ module _ (name : Name → Name) (c : ReadyCode) (types : TypeTable) (variables :
       lands-there : (x' : ℕ) (b' : Frame Name) → e.completion ≡ goes (raised x') b' → LeadsTo name c (state_at k i stack b) (state_at k (exit_at (raised x')) [] b')
       lands-there x' b' is =
           effect-leads name c k i (exit_at (raised x')) x stack e.stack b b' (raised x') (stand-first c i x row stands) operand.other operand.plain (ap (leaving e.stack) is)
-          (land-first i x row lands x' (operand.raises stack b x' (ap exception_in is)))
+          (land-first c exit_at i x row lands x' (operand.raises stack b x' (ap exception_in is)))
 
       by : (r : Completion Name) → e.completion ≡ r → Again → Led k at (state_at k i stack b) (in_row (row_effect name c row) e.stack r).stack (in_row (row_effect name c row) e.stack r).completion
       by (goes ok b') is again = led-before k at (state_at k i stack b) (state_at k (suc i) e.stack b') (row_effect name c row e.stack b').stack (row_effect name c row e.stack b').completion (on b' is) (again b')

@@ -1,2 +1,3 @@
 -- What is claimed of the code of a process beside its source.
 pub mod EdgeLaws
+pub mod FrontLaws

@@ -2,3 +2,4 @@
 #![tactic(auto)]
 
 pub mod edges;
+pub mod fronts;
