@@ -4,3 +4,4 @@ pub mod AlongEdges
 pub mod Raised
 pub mod Rows
 pub mod DoneFronts
+pub mod InPlace

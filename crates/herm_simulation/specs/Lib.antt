@@ -1,3 +1,4 @@
 pub mod Leading
 pub mod FrontsInPlace
+pub mod Checks
 pub mod laws
