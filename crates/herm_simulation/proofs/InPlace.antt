@@ -115,7 +115,7 @@ module _ (k : Coded) where
   abbrev pub exit : (place : ℕ) → Node → Outcome → ℕ
   exit i n = exit_of types variables constants (begins_at i) (block i n)
 
-  linked : HasLinkedBlocks types k.process checked_code
+  pub linked : HasLinkedBlocks types k.process checked_code
   linked = linked-blocks k.exceptions types k.processes k.process k.labels k.facts k.entry_drops k.drops k.sound.typed
 
   -- the block of the node at a place
@@ -144,7 +144,7 @@ module _ (k : Coded) where
   block-here i n e = let same : 0 + i ≡ i = omega arith in among-blocks 0 nodes k.facts k.drops i n e ∙ ap (λ q. Some (block_of source_code q n (list_at k.facts i) (list_at k.drops i))) same
 
   -- the edge of an exit
-  departure-outcome : (slots : List Slot) (o : Outcome) (t : Target) (drops : List Path) → (departure source_code slots o t drops).outcome ≡ o
+  pub departure-outcome : (slots : List Slot) (o : Outcome) (t : Target) (drops : List Path) → (departure source_code slots o t drops).outcome ≡ o
   departure-outcome slots o (node i) drops = refl
   departure-outcome slots o end drops = refl
   departure-outcome slots o (end_by e) drops = refl
@@ -158,7 +158,7 @@ module _ (k : Coded) where
     here : slice_get blocks i ≡ Some (block i n)
     here = block-here i n at
 
-    in-blocks : IsIn (block i n) blocks
+    pub in-blocks : IsIn (block i n) blocks
     in-blocks = got-IsIn blocks i (block i n) here
 
     abbrev lines : List Instruction
@@ -203,13 +203,17 @@ module _ (k : Coded) where
       known = k.known n (got-IsIn nodes i n at);
     }
 
+    -- the edge of an exit
+    pub departure-at : (j : ℕ) (x : Exit) → slice_get (exits types variables n) j ≡ Some x → slice_get (block i n).departures j ≡ Some (departure source_code (slots_of i n) x.outcome x.target (list_at (list_at k.drops i) j))
+    departure-at j x e = among-departures (slots_of i n) (exits types variables n) (list_at k.drops i) j x e
+
     -- an edge stands where its outcome leads
     pub edge-stands : (j : ℕ) (x : Exit) → slice_get (exits types variables n) j ≡ Some x
         → StandFrom ready (exit i n x.outcome) (edge_code begins_at (departure source_code (slots_of i n) x.outcome x.target (list_at (list_at k.drops i) j)))
     edge-stands j x at-j q y e =
         let d = departure source_code (slots_of i n) x.outcome x.target (list_at (list_at k.drops i) j) in
         let o = departure-outcome (slots_of i n) x.outcome x.target (list_at (list_at k.drops i) j) in
-        let there : slice_get (block i n).departures j ≡ Some d = among-departures (slots_of i n) (exits types variables n) (list_at k.drops i) j x at-j in
+        let there : slice_get (block i n).departures j ≡ Some d = departure-at j x at-j in
         let low : q < edge_length d = (let w = got-within (edge_code begins_at d) q y e in let l = edge-long begins_at d in omega (arith, w, l)) in
         ap (λ o. slice_get code.code (exit i n o + q)) (sym o)
         ∙ edges-there types variables constants entry blocks i j q (block i n) d here there (linked.outcomes_differ (block i n) in-blocks) low

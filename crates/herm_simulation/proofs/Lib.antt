@@ -5,3 +5,7 @@ pub mod Raised
 pub mod Rows
 pub mod DoneFronts
 pub mod InPlace
+pub mod Arrivals
+pub mod SourceSide
+pub mod PiecesBegin
+pub mod LocalForms

@@ -1,4 +1,5 @@
 pub mod Leading
 pub mod FrontsInPlace
 pub mod Checks
+pub mod Standing
 pub mod laws
