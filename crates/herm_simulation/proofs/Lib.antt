@@ -9,3 +9,4 @@ pub mod Arrivals
 pub mod SourceSide
 pub mod PiecesBegin
 pub mod LocalForms
+pub mod Beside

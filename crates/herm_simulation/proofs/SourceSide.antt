@@ -101,14 +101,14 @@ module _ (k : Coded) where
       by (inr m) again = around (is_around (source_code k) l i) refl m
 
   -- the slots of a `for` have its own in front; those of other forms are those around
-  loop-slots : (i : ℕ) (number : ℕ) (r t : Path) → IsTypedIn k.exceptions k.processes (source_code k) (For r t) → numbers_of (slots_within (types k) (variables k) number (For r t) (slots_around (source_code k) i)) ≡ number ∷ numbers_of (slots_around (source_code k) i)
+  pub loop-slots : (i : ℕ) (number : ℕ) (r t : Path) → IsTypedIn k.exceptions k.processes (source_code k) (For r t) → numbers_of (slots_within (types k) (variables k) number (For r t) (slots_around (source_code k) i)) ≡ number ∷ numbers_of (slots_around (source_code k) i)
   loop-slots i number r t typed =
       let of = typed.typed.2 in
       ap (λ o. numbers_of (map (λ row. record { number = number; row = row }) (list_of row_of_shape o) ++ slots_around (source_code k) i))
       (shape-is (types k) (variables k) t of.0 (rows typed.typed.0 typed.typed.1) of.1.0 of.2)
 
   module _ (i : ℕ) (n : Node) (at : slice_get (nodes k) i ≡ Some n) where
-    typed-here : IsTypedIn k.exceptions k.processes (source_code k) n.form
+    pub typed-here : IsTypedIn k.exceptions k.processes (source_code k) n.form
     typed-here = record { table = (k.sound).well; variables = (k.sound).typed.variables_known; typed = (k.sound).typed.typed n (got-IsIn (nodes k) i n at) }
 
     row-here : (t : ℕ) → row_of (source_code k) n.form ≡ Some t → row_type (source_code k) n.number ≡ Some t
@@ -118,7 +118,7 @@ module _ (k : Coded) where
     abbrev pub HasLists : List (Loop Name) → Type 0
     HasLists loops = AreListsOf (slots_around (source_code k) i) loops ⊎ (AreListsOf (slots_of k i n) loops × ((r t : Path) × (n.form ≡ For r t)))
 
-    not-own : (loops : List (Loop Name)) → AreListsOf (slots_around (source_code k) i) loops → rows_for n.number loops ≡ None
+    pub not-own : (loops : List (Loop Name)) → AreListsOf (slots_around (source_code k) i) loops → rows_for n.number loops ≡ None
     not-own loops lists = none-listed n.number loops (λ m. around-differs (nodes k) i n.number (subst (IsIn n.number) lists.0 m) (sym (ap (map_or 0 (λ (n : Node). n.number)) at)))
 
   -- behind a test of a `for`
