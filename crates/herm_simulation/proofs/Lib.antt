@@ -10,3 +10,4 @@ pub mod SourceSide
 pub mod PiecesBegin
 pub mod LocalForms
 pub mod Beside
+pub mod LocalSteps
