@@ -135,7 +135,7 @@ module _ (name : Name → Name) (c : ReadyCode) (number : ℕ) (facts : List Fac
       (leads-from name c _ _ (ap (λ s. state_at k (exit_at o) s b') (after-none o)))
 
   -- where an instruction goes on in one way, or raises what it lists
-  ok-leads : (i : ℕ) (x : Instruction) → LandFrom c exit_at i (x ∷ []) → leads c i x ok ≡ Some (suc i) → exit_at ok ≡ suc i → (o : Outcome) → IsIn o (ok ∷ map raised (exceptions_of types variables x)) → leads c i x o ≡ Some (exit_at o)
+  pub ok-leads : (i : ℕ) (x : Instruction) → LandFrom c exit_at i (x ∷ []) → leads c i x ok ≡ Some (suc i) → exit_at ok ≡ suc i → (o : Outcome) → IsIn o (ok ∷ map raised (exceptions_of types variables x)) → leads c i x o ≡ Some (exit_at o)
   ok-leads i x lands onward behind o (inl e) = subst (λ o. leads c i x o ≡ Some (exit_at o)) (sym e) (onward ∙ ap Some (sym behind))
   ok-leads i x lands onward behind o (inr h) =
       let r = in-map_from raised o (exceptions_of types variables x) h in

@@ -11,3 +11,4 @@ pub mod PiecesBegin
 pub mod LocalForms
 pub mod Beside
 pub mod LocalSteps
+pub mod ActingForms
