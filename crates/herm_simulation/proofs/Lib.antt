@@ -12,3 +12,4 @@ pub mod LocalForms
 pub mod Beside
 pub mod LocalSteps
 pub mod ActingForms
+pub mod CalledArguments
