@@ -13,3 +13,4 @@ pub mod Beside
 pub mod LocalSteps
 pub mod ActingForms
 pub mod CalledArguments
+pub mod ActingCalls
