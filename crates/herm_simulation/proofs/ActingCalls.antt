@@ -63,10 +63,10 @@ module _ (k : Coded) (i : ℕ) (n : Node) (at : slice_get (nodes k) i ≡ Some n
   abbrev keeps : List Raised
   keeps = call_raises (types k) (variables k) o
 
-  abbrev main : Instruction
+  abbrev pub main : Instruction
   main = Instructions.Call o arguments keeps
 
-  abbrev before : List Instruction
+  abbrev pub before : List Instruction
   before = inputs_code (constants k) parameters atoms
 
   abbrev first : ℕ
@@ -87,7 +87,7 @@ module _ (k : Coded) (i : ℕ) (n : Node) (at : slice_get (nodes k) i ≡ Some n
   outs-of : outs arguments ≡ arguments_at (source_code k) is_out o atoms
   outs-of = outs-same (types k) (variables k) parameters arguments (arguments-are (types k) (variables k) parameters atoms are) ∙ paths-of is_out refl
 
-  front-at : IsFrontAt (ready k) (list_at k.facts i) n.number (Call o atoms) first (exit k i n)
+  pub front-at : IsFrontAt (ready k) (list_at k.facts i) n.number (Call o atoms) first (exit k i n)
   front-at = subst (λ f. IsFrontAt (ready k) (list_at k.facts i) n.number f first (exit k i n)) same (front-stands k i n at)
 
   -- the callmessage

@@ -31,12 +31,14 @@ use Rattle.herm_simulation.proofs.Arrivals.{second-at}
 use Rattle.herm_simulation.proofs.InPlace.{Coded, types, variables, constants, source_code, checked_code, blocks, entry, code, ready, nodes, begins_at, block, slots_of, block-here}
 
 module _ (k : Coded) where
-  -- It runs the module of the same number, within the block of the point's node, with an empty stack and an equal frame.
+  -- It runs the module of the same number, within the block of the point's node, with an empty stack and an equal frame; and in an open
+  -- call the lists of rows are those of the slots around the call.
   pub record Beside (x : State Name) (y : CodeState Name) : Type 0 where
     pub module_number : y.module_number ≡ x.module_number
     pub place : IsAtPoint (constants k) (checked_code k) y.frame.call y.position x.point
     pub stack : y.stack ≡ []
     pub frame : y.frame ≡ x.frame
+    pub lists : (q i : ℕ) → x.frame.call ≡ Some q → x.point ≡ node i → AreListsOf (slots_around (source_code k) i) x.frame.loops
 
   -- where it is, at a node
   pub record AtNode (x : State Name) (y : CodeState Name) (n : Node) : Type 0 where

@@ -143,6 +143,14 @@ module _ (k : Coded) where
   pub block-here : (i : ℕ) (n : Node) → slice_get nodes i ≡ Some n → slice_get blocks i ≡ Some (block i n)
   block-here i n e = let same : 0 + i ≡ i = omega arith in among-blocks 0 nodes k.facts k.drops i n e ∙ ap (λ q. Some (block_of source_code q n (list_at k.facts i) (list_at k.drops i))) same
 
+  no-more : (j : ℕ) (ns : List Node) (facts : List (List Fact)) (drops : List (List (List Path))) (i : ℕ) → slice_get ns i ≡ None → slice_get (blocks_from source_code j ns facts drops) i ≡ None
+  no-more j [] facts drops i e = refl
+  no-more j (m ∷ ns) facts drops zero e = none-not_some (sym e)
+  no-more j (m ∷ ns) facts drops (suc i) e = no-more (suc j) ns (further_lists facts) (further_lists drops) i e
+
+  pub no-block : (i : ℕ) → slice_get nodes i ≡ None → slice_get blocks i ≡ None
+  no-block i e = no-more 0 nodes k.facts k.drops i e
+
   -- the edge of an exit
   pub departure-outcome : (slots : List Slot) (o : Outcome) (t : Target) (drops : List Path) → (departure source_code slots o t drops).outcome ≡ o
   departure-outcome slots o (node i) drops = refl

@@ -14,3 +14,4 @@ pub mod LocalSteps
 pub mod ActingForms
 pub mod CalledArguments
 pub mod ActingCalls
+pub mod Nexts

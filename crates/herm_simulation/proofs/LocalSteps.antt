@@ -85,7 +85,7 @@ none-stays r b (went q d h) e = true≢false (sym (ap is_staying e))
 none-stays r b (stayed d h) e = h
 none-stays r b never e = true≢false (sym (ap is_staying e))
 
-never-stays : (k : Coded) (number : ℕ) (form : Form) (b b' : Frame Name) → act own_name (source_code k) number form b ≡ stays b' → ⊥
+pub never-stays : (k : Coded) (number : ℕ) (form : Form) (b b' : Frame Name) → act own_name (source_code k) number form b ≡ stays b' → ⊥
 never-stays k number form b b' e = none-stays (act own_name (source_code k) number form b) b' (all-act own_name (λ b. ⊤) (λ b. ⊥) any-kept (source_code k) number form b tt (λ _ ls b h. h)) e
 
 module _ (k : Coded) where
@@ -106,6 +106,7 @@ module _ (k : Coded) where
           place = subst (λ call. IsAtPoint (constants k) (checked_code k) call (arrived_state q i n t b).position t) (sym (arrive-closed t b closed)) (arrival-stands k i n at o t leads).0;
           stack = refl;
           frame = refl;
+          lists = λ c j called here. none-not_some (sym (arrive-closed t b closed) ∙ called);
         })
 
     -- what a run comes to that leads out of a block by an outcome
@@ -210,7 +211,7 @@ module _ (k : Coded) where
           only-local z e w (inl same) = ap (instruction_acts (types k)) same ∙ e
           only-local z e w (inr m) = absurd m
 
-      runs-by : (t : Target) → leads_to (source_code k) n o ≡ Some t → IsWithin (constants k) (checked_code k) (begins_at k i) (comes_again (blocks k) i) (block k i n) None here.index → Runs t
+      pub runs-by : (t : Target) → leads_to (source_code k) n o ≡ Some t → IsWithin (constants k) (checked_code k) (begins_at k i) (comes_again (blocks k) i) (block k i n) None here.index → Runs t
       runs-by t leads (inl e) = runs-first t leads (here.position ∙ ap at_index e)
       runs-by t leads (inr h) = runs-second t leads (here.position ∙ ap at_index h.0) h.1 h.2 h.3 h.4
 
