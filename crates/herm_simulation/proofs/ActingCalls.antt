@@ -21,6 +21,7 @@ use Rattle.herm_forms.specs.Callmessages.{Composed, compose}
 use Rattle.herm_forms.specs.Excess.{excess_over_full}
 use Rattle.herm_forms.specs.Frames.{Frame, Completion, counted_step, counted_action}
 use Rattle.herm_forms.specs.HearReply
+use Rattle.herm_forms.specs.Incoming.{ports_of as form_ports}
 use Rattle.herm_forms.specs.laws.EdgeLaws.{AreSound}
 use Rattle.herm_forms.specs.laws.TypedForms.{IsTypedIn}
 use Rattle.herm_forms.proofs.called.SetArguments.{typed-called, parameters-of, raises-of}
@@ -121,6 +122,7 @@ module _ (k : Coded) (i : ℕ) (n : Node) (at : slice_get (nodes k) i ≡ Some n
             ap (with_popped (λ (p : Popped). leaving p.rest (callmessages.call (composed_of own_name (ready k) arguments p.values d) (outs arguments) a))) popped
             ∙ ap₂ (λ m out. leaving [] (callmessages.call m out a)) (made d refl) outs-of
             ∙ ap (λ f. leaving [] (settle own_name (source_code k) f from a d)) (sym same));
+        ports = ap form_ports (sym same);
         out = λ q m.
             (let long = length-joined before (main ∷ []) in
             ok-leads own_name (ready k) n.number (list_at k.facts i) first (exit k i n) (first + length before) main (land-right (ready k) (exit k i n) first before (main ∷ []) front-at.lands) refl

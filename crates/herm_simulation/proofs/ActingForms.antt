@@ -16,6 +16,7 @@ use Rattle.herm_model.proofs.Options.{none-not_some, some-injective, chain-some}
 use Rattle.herm_journal.specs.Messages.{CellWant, CellAction, is_inport}
 use Rattle.herm_forms.specs.Acts.{is_action, wants, settle}
 use Rattle.herm_forms.specs.Frames.{Frame, counted_step, counted_action}
+use Rattle.herm_forms.specs.Incoming.{ports_of as form_ports}
 use Rattle.herm_forms.specs.laws.EdgeLaws.{AreSound}
 use Rattle.herm_forms.specs.laws.TypedForms.{IsTypedIn}
 use Rattle.herm_forms.proofs.KeptBodies.{IsCall}
@@ -28,12 +29,13 @@ use Rattle.herm_instructions.specs.Instructions
 use Rattle.herm_instructions.specs.Instructions.{Instruction, Choice}
 use Rattle.herm_instructions.specs.Pieces.{is_operand}
 use Rattle.herm_code_machine.specs.CodeActions.{code_wants, code_settles}
+use Rattle.herm_code_machine.specs.CodeSeen.{ports_of}
 use Rattle.herm_code_machine.specs.CodeStates.{leads}
 use Rattle.herm_code_machine.specs.Pieces.{behind_operands, pushed, operand}
 use Rattle.herm_code_machine.specs.ReadyCode.{ReadyCode}
 use Rattle.herm_code_machine.specs.Stacks.{leaving}
 use Rattle.herm_code_machine.specs.laws.InstructionLaws.{ActsAsForm, DoForms}
-use Rattle.herm_code_machine.proofs.DoneForms.{instructions-do-forms}
+use Rattle.herm_code_machine.proofs.DoneForms.{instructions-do-forms, ports-same}
 use Rattle.herm_code_machine.proofs.TrimmedExcess.{trims-are_excess}
 use Rattle.herm_translated.specs.Fronts.{front, front_length, type_of, choices_from, trimmed}
 use Rattle.herm_simulation.specs.Checks.{list_at}
@@ -107,6 +109,7 @@ module _ (k : Coded) (i : ℕ) (n : Node) (at : slice_get (nodes k) i ≡ Some n
     pub row : behind_operands (ready k) b.variables (before ++ (main ∷ [])) [] ≡ Some stack
     pub wanted : code_wants own_name (ready k) main stack b ≡ wants own_name (source_code k) n.form b
     pub settles : (from : ℕ) (a : CellAction Name) → code_settles own_name (ready k) main stack from a (counted_action (counted_step b)) ≡ leaving [] (settle own_name (source_code k) n.form from a (counted_action (counted_step b)))
+    pub ports : ports_of main ≡ form_ports n.form
     pub out : (o : Outcome) → IsIn o (outcomes (types k) (variables k) n.form) → leads (ready k) (suc (begins_at k i) + length before) main o ≡ Some (exit k i n o)
 
   abbrev first : ℕ
@@ -127,10 +130,10 @@ module _ (k : Coded) (i : ℕ) (n : Node) (at : slice_get (nodes k) i ≡ Some n
     does steps = instructions-do-forms own_name (ready k) n.number steps
 
     -- an instruction alone
-    alone : (main : Instruction) → FrontOf form ≡ main ∷ [] → is_operand main ≡ false → behind_operands (ready k) b.variables (main ∷ []) [] ≡ Some [] → instruction_acts (types k) main ≡ true
+    alone : (main : Instruction) → FrontOf form ≡ main ∷ [] → is_operand main ≡ false → behind_operands (ready k) b.variables (main ∷ []) [] ≡ Some [] → instruction_acts (types k) main ≡ true → ports_of main ≡ form_ports form
         → ActsAsForm own_name (ready k) n.number b main form → ActsAsForm own_name (ready k) n.number (counted_action (counted_step b)) main form
         → ((o : Outcome) → IsIn o (outcomes (types k) (variables k) form) → leads (ready k) first main o ≡ Some (exit k i n o)) → Acting b
-    alone main front' other row acts now then' led = record {
+    alone main front' other row acts looks now then' led = record {
       before = [];
       main = main;
       is = ap FrontOf same ∙ front';
@@ -142,6 +145,7 @@ module _ (k : Coded) (i : ℕ) (n : Node) (at : slice_get (nodes k) i ≡ Some n
       wanted = now.wanted [] ∙ sym (wants-scope k form b) ∙ ap (λ f. wants own_name (source_code k) f b) (sym same);
       settles = λ from a. then'.answers [] from a
           ∙ ap (leaving []) (sym (settle-scope k form from a (counted_action (counted_step b))) ∙ ap (λ f. settle own_name (source_code k) f from a (counted_action (counted_step b))) (sym same));
+      ports = looks ∙ ap form_ports (sym same);
       out = λ o m.
           (let here : first + 0 ≡ first = omega arith in
           subst (λ j. leads (ready k) j main o ≡ Some (exit k i n o)) (sym here) (led o (subst (λ f. IsIn o (outcomes (types k) (variables k) f)) same m)));
@@ -165,7 +169,7 @@ module _ (k : Coded) (i : ℕ) (n : Node) (at : slice_get (nodes k) i ≡ Some n
           let t = chain-some (slice_get (types k)) (type_at (types k) (variables k) x) (inport message declared) e in
           let type : type_of (types k) (variables k) x ≡ t.0 = ap (map_or 0 (λ t. t)) t.1 in
           let action : instruction_acts (types k) main ≡ true = ap (λ t. map_or false is_inport_shape (slice_get (types k) t)) type ∙ ap (map_or false is_inport_shape) t.2 in
-          alone b (New x) same main refl refl refl action ((does b (New x) same b).new_inport x (type_of (types k) (variables k) x)) ((does b (New x) same (counted_action (counted_step b))).new_inport x (type_of (types k) (variables k) x))
+          alone b (New x) same main refl refl refl action refl ((does b (New x) same b).new_inport x (type_of (types k) (variables k) x)) ((does b (New x) same (counted_action (counted_step b))).new_inport x (type_of (types k) (variables k) x))
           (one-way b (New x) same main refl refl refl refl)
       by s e h = absurd (true≢false (sym h))
 
@@ -181,17 +185,17 @@ module _ (k : Coded) (i : ℕ) (n : Node) (at : slice_get (nodes k) i ≡ Some n
       } in
       let trim = trimmed (types k) (variables k) facts (j ∷ q) o in
       let excess = trims-are_excess (ready k).scope j q o trim facts b refl exact (ap is_some there.1) in
-      alone b (Send (j ∷ q) o) same (Instructions.Send (j ∷ q) o trim) refl refl refl refl ((does b (Send (j ∷ q) o) same b).send (j ∷ q) o trim excess) ((does b (Send (j ∷ q) o) same (counted_action (counted_step b))).send (j ∷ q) o trim excess)
+      alone b (Send (j ∷ q) o) same (Instructions.Send (j ∷ q) o trim) refl refl refl refl refl ((does b (Send (j ∷ q) o) same b).send (j ∷ q) o trim excess) ((does b (Send (j ∷ q) o) same (counted_action (counted_step b))).send (j ∷ q) o trim excess)
       (one-way b (Send (j ∷ q) o) same (Instructions.Send (j ∷ q) o trim) refl refl refl refl)
 
   receive-acts : (b : Frame Name) (x p : Path) → n.form ≡ Receive x p → Acting b
   receive-acts b x p same =
-      alone b (Receive x p) same (Instructions.Receive x p) refl refl refl refl ((does b (Receive x p) same b).receive x p) ((does b (Receive x p) same (counted_action (counted_step b))).receive x p)
+      alone b (Receive x p) same (Instructions.Receive x p) refl refl refl refl refl ((does b (Receive x p) same b).receive x p) ((does b (Receive x p) same (counted_action (counted_step b))).receive x p)
       (one-way b (Receive x p) same (Instructions.Receive x p) refl refl refl refl)
 
   select-acts : (b : Frame Name) (arms : List Arm) → n.form ≡ Select arms → Acting b
   select-acts b arms same =
-      alone b (Select arms) same main refl refl refl refl (chosen b) (chosen (counted_action (counted_step b))) led
+      alone b (Select arms) same main refl refl refl refl (ports-same choices ∙ ap (map (λ (a : Arm). a.port)) (choices-arms (exit k i n) 0 arms)) (chosen b) (chosen (counted_action (counted_step b))) led
     where
       choices : List Choice
       choices = choices_from (exit k i n) 0 arms
@@ -215,18 +219,18 @@ module _ (k : Coded) (i : ℕ) (n : Node) (at : slice_get (nodes k) i ≡ Some n
 
   return-acts : (b : Frame Name) (m : Path) → n.form ≡ Return m → Acting b
   return-acts b m same =
-      alone b (Return m) same (Instructions.Return m) refl refl refl refl ((does b (Return m) same b).return m) ((does b (Return m) same (counted_action (counted_step b))).return m)
+      alone b (Return m) same (Instructions.Return m) refl refl refl refl refl ((does b (Return m) same b).return m) ((does b (Return m) same (counted_action (counted_step b))).return m)
       (one-way b (Return m) same (Instructions.Return m) refl refl refl refl)
 
   return-by-acts : (b : Frame Name) (m : Path) (e : ℕ) → n.form ≡ ReturnBy m e → Acting b
   return-by-acts b m e same =
       let main = Instructions.ReturnBy m e (kept_for (list_of raises_of (shape_at (types k) (variables k) m)) e) in
-      alone b (ReturnBy m e) same main refl refl refl refl ((does b (ReturnBy m e) same b).return_by m e _ refl) ((does b (ReturnBy m e) same (counted_action (counted_step b))).return_by m e _ refl)
+      alone b (ReturnBy m e) same main refl refl refl refl refl ((does b (ReturnBy m e) same b).return_by m e _ refl) ((does b (ReturnBy m e) same (counted_action (counted_step b))).return_by m e _ refl)
       (one-way b (ReturnBy m e) same main refl refl refl refl)
 
   create-acts : (b : Frame Name) (o : Path) (p : ℕ) → n.form ≡ Create o p → Acting b
   create-acts b o p same =
-      alone b (Create o p) same (Instructions.Create o p) refl refl refl refl ((does b (Create o p) same b).create o p) ((does b (Create o p) same (counted_action (counted_step b))).create o p)
+      alone b (Create o p) same (Instructions.Create o p) refl refl refl refl refl ((does b (Create o p) same b).create o p) ((does b (Create o p) same (counted_action (counted_step b))).create o p)
       (one-way b (Create o p) same (Instructions.Create o p) refl refl refl refl)
 
   -- each action but a call

@@ -119,7 +119,7 @@ module _ (k : Coded) where
         subst (Beside k x') (sym (leads-one own_name (ready k) s there y' led (arrival-stands k i n at o t leads).1 runs)) (arrives-beside q x x' o t b same leads closed is)
 
   module _ (x x' : State Name) (y y' : CodeState Name) (stands : StandsWell k.exceptions (types k) k.processes k.process k.labels k.sound x) (beside : Beside k x y) (sound : IsLocallySoundCode (ready k) y) where
-    module _ (n : Node) (no_work : x.frame.work ≡ []) (idle : x.frame.call ≡ None) (here : AtNode k x y n) (o : Outcome) (b : Frame Name) (acts : act own_name (source_code k) n.number n.form (counted_step x.frame) ≡ goes o b) where
+    module _ (n : Node) (idle : x.frame.call ≡ None) (here : AtNode k x y n) (o : Outcome) (b : Frame Name) (acts : act own_name (source_code k) n.number n.form (counted_step x.frame) ≡ goes o b) where
       abbrev i : ℕ
       i = here.place
 
@@ -216,8 +216,8 @@ module _ (k : Coded) where
       runs-by t leads (inr h) = runs-second t leads (here.position ∙ ap at_index h.0) h.1 h.2 h.3 h.4
 
       -- the local step of the code
-      stepped : (t : Target) → leads_to (source_code k) n o ≡ Some t → record { module_number = x.module_number; point = t; frame = arrive (source_code k) t b } ≡ x' → code_local_step own_name (ready k) y ≡ Some y' → Beside k x' y'
-      stepped t leads is steps =
+      stepped : (t : Target) → x.frame.work ≡ [] → leads_to (source_code k) n o ≡ Some t → record { module_number = x.module_number; point = t; frame = arrive (source_code k) t b } ≡ x' → code_local_step own_name (ready k) y ≡ Some y' → Beside k x' y'
+      stepped t no_work leads is steps =
           let r = runs-by t leads (subst (λ call. IsWithin (constants k) (checked_code k) (begins_at k i) (comes_again (blocks k) i) (block k i n) call here.index) idle-code here.within) in
           let left = step-left k i n here.there x stands here.point idle r.lists o b acts in
           let piece : Piece = record { has_step = true; first = suc r.step } in
@@ -232,7 +232,7 @@ module _ (k : Coded) where
     statement-beside : (n : Node) → x.frame.work ≡ [] → x.frame.call ≡ None → AtNode k x y n → (r : Completion Name) → act own_name (source_code k) n.number n.form (counted_step x.frame) ≡ r → state_after (source_code k) x (Some n) r ≡ Some x' → code_local_step own_name (ready k) y ≡ Some y' → Beside k x' y'
     statement-beside n no_work idle here (goes o b) acts is steps =
         let m = map-some (λ t. record { module_number = x.module_number; point = t; frame = arrive (source_code k) t b }) (leads_to (source_code k) n o) x' is in
-        stepped n no_work idle here o b acts m.0 m.1 m.2 steps
+        stepped n idle here o b acts m.0 no_work m.1 m.2 steps
     statement-beside n no_work idle here (stays b) acts is steps = absurd (never-stays k n.number n.form (counted_step x.frame) b acts)
     statement-beside n no_work idle here stuck acts is steps = none-not_some is
 

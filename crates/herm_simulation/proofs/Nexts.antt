@@ -35,10 +35,10 @@ use Rattle.herm_simulation.proofs.Beside.{Beside, AtNode, at-node, next-at_step}
 use Rattle.herm_simulation.proofs.InPlace.{Coded, types, variables, constants, source_code, checked_code, blocks, code, ready, nodes, begins_at, block, block-here, no-block, front-stands}
 use Rattle.herm_simulation.proofs.Leading.{stand-first, stand-right}
 use Rattle.herm_simulation.proofs.LocalSteps.{Runs, runs-by, never-stays}
-use Rattle.herm_simulation.proofs.PiecesBegin.{acts-first, stand-dropped}
+use Rattle.herm_simulation.proofs.PiecesBegin.{IsFirst, acts-first, stand-dropped}
 use Rattle.herm_simulation.proofs.SourceSide.{values-here, found-here}
 
-calls-or : (form : Form) → ((o : Path) × (atoms : List Atom) × (form ≡ Call o atoms)) ⊎ (IsCall form → ⊥)
+pub calls-or : (form : Form) → ((o : Path) × (atoms : List Atom) × (form ≡ Call o atoms)) ⊎ (IsCall form → ⊥)
 calls-or (Call o atoms) = inl (o, atoms, refl)
 calls-or form = inr (λ h. h)
 
@@ -61,7 +61,7 @@ module _ (k : Coded) (x : State Name) (y : CodeState Name) where
     same-work : (work : List (Cell Name)) → x.frame.work ≡ work → y.frame.work ≡ work
     same-work work e = ap (λ (b : Frame Name). b.work) beside.frame ∙ e
 
-    same-call : (call : Option ℕ) → x.frame.call ≡ call → y.frame.call ≡ call
+    pub same-call : (call : Option ℕ) → x.frame.call ≡ call → y.frame.call ≡ call
     same-call call e = ap (λ (b : Frame Name). b.call) beside.frame ∙ e
 
     source-next : (work : List (Cell Name)) (call : Option ℕ) (o : Option Node) → x.frame.work ≡ work → x.frame.call ≡ call → node_at (source_code k) x.point ≡ o → next_of (source_code k) x ≡ states.item_or work (states.call_or_statement call o)
@@ -71,8 +71,16 @@ module _ (k : Coded) (x : State Name) (y : CodeState Name) where
     code-next work call p w c at = ap₂ (λ work call. item_or work (call_or_piece (ready k) y.position call)) (same-work work w) (same-call call c) ∙ ap (λ p. item_or work (call_or_piece (ready k) p call)) at
 
     -- an open call
-    replies : (q : ℕ) (n : Node) → x.frame.work ≡ [] → x.frame.call ≡ Some q → node_at (source_code k) x.point ≡ Some n → Nexts
-    replies q n w c at =
+    pub record IsOpen (q : ℕ) (n : Node) : Type 0 where
+      pub here : AtNode k x y n
+      pub port : Path
+      pub atoms : List Atom
+      pub same : n.form ≡ Call port atoms
+      pub place : here.index ≡ suc (begins_at k here.place) + length (before k here.place n here.there port atoms same)
+      pub there : instruction_at (code k) here.index ≡ Some (main k here.place n here.there port atoms same)
+
+    pub open-at : (q : ℕ) (n : Node) → x.frame.call ≡ Some q → node_at (source_code k) x.point ≡ Some n → IsOpen q n
+    open-at q n c at =
         let here = at-node k x y n beside at in
         let i = here.place in
         let within = subst (λ call. IsWithin (constants k) (checked_code k) (begins_at k i) (comes_again (blocks k) i) (block k i n) call here.index) (same-call (Some q) c) here.within in
@@ -87,54 +95,77 @@ module _ (k : Coded) (x : State Name) (y : CodeState Name) where
         ap (instruction_at (code k)) place
         ∙ stand-first (ready k) (suc (begins_at k i) + length (before k i n here.there o atoms same)) (main k i n here.there o atoms same) []
         (stand-right (ready k) (suc (begins_at k i)) (before k i n here.there o atoms same) (main k i n here.there o atoms same ∷ []) (front-at k i n here.there o atoms same).stands) in
-        on_reply q n here o atoms same c (source-next [] (Some q) (Some n) w c at) place
-        (code-next [] (Some q) (at_index here.index) w c here.position ∙ ap (λ x. by_met q (elim x [ None ↦ None | Some instruction ↦ Some (record { index = here.index; instruction = instruction }) ])) there)
+        record { here = here; port = o; atoms = atoms; same = same; place = place; there = there }
+
+    replies : (q : ℕ) (n : Node) → x.frame.work ≡ [] → x.frame.call ≡ Some q → node_at (source_code k) x.point ≡ Some n → Nexts
+    replies q n w c at =
+        let h = open-at q n c at in
+        on_reply q n h.here h.port h.atoms h.same c (source-next [] (Some q) (Some n) w c at) h.place
+        (code-next [] (Some q) (at_index (h.here).index) w c (h.here).position ∙ ap (λ x. by_met q (elim x [ None ↦ None | Some instruction ↦ Some (record { index = (h.here).index; instruction = instruction }) ])) h.there)
 
     -- a statement
-    idle-within : (n : Node) (here : AtNode k x y n) → x.frame.call ≡ None → IsWithin (constants k) (checked_code k) (begins_at k here.place) (comes_again (blocks k) here.place) (block k here.place n) None here.index
+    pub idle-within : (n : Node) (here : AtNode k x y n) → x.frame.call ≡ None → IsWithin (constants k) (checked_code k) (begins_at k here.place) (comes_again (blocks k) here.place) (block k here.place n) None here.index
     idle-within n here c = subst (λ call. IsWithin (constants k) (checked_code k) (begins_at k here.place) (comes_again (blocks k) here.place) (block k here.place n) call here.index) (same-call None c) here.within
 
-    acting-here : (n : Node) (here : AtNode k x y n) → x.frame.call ≡ None → is_action (source_code k) n.form ≡ true → ((o : Path) × (atoms : List Atom) × (n.form ≡ Call o atoms)) ⊎ (IsCall n.form → ⊥) → Acting k here.place n here.there x.frame
+    pub acting-here : (n : Node) (here : AtNode k x y n) → x.frame.call ≡ None → is_action (source_code k) n.form ≡ true → ((o : Path) × (atoms : List Atom) × (n.form ≡ Call o atoms)) ⊎ (IsCall n.form → ⊥) → Acting k here.place n here.there x.frame
     acting-here n here c acts (inl call) =
         call-acts k here.place n here.there call.0 call.1 call.2 x.frame (values-here k here.place n here.there x stands here.point c) (found-here k here.place n here.there x stands here.point c)
     acting-here n here c acts (inr other) =
         each-acts k here.place n here.there x.frame (values-here k here.place n here.there x stands here.point c) (found-here k here.place n here.there x stands here.point c) n.form refl other acts
+
+    no-loop : (r t : Path) → is_action (source_code k) (For r t) ≡ true → ⊥
+    no-loop r t e = true≢false (sym e)
+
+    pub action-at_first : (n : Node) (here : AtNode k x y n) → x.frame.call ≡ None → is_action (source_code k) n.form ≡ true → y.position ≡ at_index (begins_at k here.place)
+    action-at_first n here c acts = by (idle-within n here c)
+      where
+        by : IsWithin (constants k) (checked_code k) (begins_at k here.place) (comes_again (blocks k) here.place) (block k here.place n) None here.index → y.position ≡ at_index (begins_at k here.place)
+        by (inl e) = here.position ∙ ap at_index e
+        by (inr h) = absurd (no-loop h.2 h.3 (ap (is_action (source_code k)) (sym h.4) ∙ acts))
+
+    -- the action comes first behind operands
+    row-first : (n : Node) (here : AtNode k x y n) (acting : Acting k here.place n here.there x.frame) → IsFirst (acting.before ++ (acting.main ∷ [])) (drop (suc (begins_at k here.place)) (code k).code)
+    row-first n here acting =
+        stand-dropped (ready k) (suc (begins_at k here.place)) (acting.before ++ (acting.main ∷ []))
+        (subst (StandFrom (ready k) (suc (begins_at k here.place))) acting.is (front-stands k here.place n here.there).stands)
+
+    pub action-met : (n : Node) (here : AtNode k x y n) (acting : Acting k here.place n here.there x.frame)
+        → action_from (types k) (drop (suc (begins_at k here.place)) (code k).code) (suc (begins_at k here.place)) ≡ Some (record { index = suc (begins_at k here.place) + length acting.before; instruction = acting.main })
+    action-met n here acting = acts-first (types k) acting.before acting.main (drop (suc (begins_at k here.place)) (code k).code) (suc (begins_at k here.place)) (row-first n here acting) acting.operands acting.other acting.action
 
     actions : (n : Node) → x.frame.work ≡ [] → x.frame.call ≡ None → node_at (source_code k) x.point ≡ Some n → is_action (source_code k) n.form ≡ true → Nexts
     actions n w c at acts =
         let here = at-node k x y n beside at in
         let i = here.place in
         let acting = acting-here n here c acts (calls-or n.form) in
-        let position = at-first here (idle-within n here c) in
-        let row : StandFrom (ready k) (suc (begins_at k i)) (acting.before ++ (acting.main ∷ [])) = subst (StandFrom (ready k) (suc (begins_at k i))) acting.is (front-stands k i n here.there).stands in
-        let first = stand-dropped (ready k) (suc (begins_at k i)) (acting.before ++ (acting.main ∷ [])) row in
-        let met = acts-first (types k) acting.before acting.main (drop (suc (begins_at k i)) (code k).code) (suc (begins_at k i)) first acting.operands acting.other acting.action in
+        let position = action-at_first n here c acts in
         on_action n here acting w c acts (source-next [] None (Some n) w c at) position
-        (next-at_step k y (begins_at k i) (Some (record { index = suc (begins_at k i) + length acting.before; instruction = acting.main })) (same-work [] w) (same-call None c) position (step-at k i (block k i n) (block-here k i n here.there)) met)
+        (next-at_step k y (begins_at k i) (Some (record { index = suc (begins_at k i) + length acting.before; instruction = acting.main })) (same-work [] w) (same-call None c) position (step-at k i (block k i n) (block-here k i n here.there)) (action-met n here acting))
         (ap₂ (λ (b : Frame Name) stack. behind_operands (ready k) b.variables (drop (suc (begins_at k i)) (code k).code) stack) beside.frame beside.stack
-        ∙ operands-first (ready k) x.frame.variables acting.before acting.main (drop (suc (begins_at k i)) (code k).code) [] first acting.other
+        ∙ operands-first (ready k) x.frame.variables acting.before acting.main (drop (suc (begins_at k i)) (code k).code) [] (row-first n here acting) acting.other
         ∙ acting.row)
-      where
-        no-loop : (r t : Path) → is_action (source_code k) (For r t) ≡ true → ⊥
-        no-loop r t e = true≢false (sym e)
 
-        at-first : (here : AtNode k x y n) → IsWithin (constants k) (checked_code k) (begins_at k here.place) (comes_again (blocks k) here.place) (block k here.place n) None here.index → y.position ≡ at_index (begins_at k here.place)
-        at-first here (inl e) = here.position ∙ ap at_index e
-        at-first here (inr h) = absurd (no-loop h.2 h.3 (ap (is_action (source_code k)) (sym h.4) ∙ acts))
+    -- no action comes next at a local step
+    pub local-piece : (n : Node) (here : AtNode k x y n) → x.frame.call ≡ None → node_at (source_code k) x.point ≡ Some n → is_action (source_code k) n.form ≡ false
+        → (step : ℕ) × (y.position ≡ at_index step) × (instruction_at (code k) step ≡ Some Step) × (action_from (types k) (drop (suc step) (code k).code) (suc step) ≡ None)
+    local-piece n here c at local =
+        let s = step-there k.exceptions (types k) k.processes k.process k.labels k.sound x x stands n at c local in
+        by (act own_name (source_code k) n.number n.form (counted_step x.frame)) refl s.0 s.1
+      where
+        by : (r : Completion Name) → act own_name (source_code k) n.number n.form (counted_step x.frame) ≡ r → (x' : State Name) → state_after (source_code k) x (Some n) r ≡ Some x'
+            → (step : ℕ) × (y.position ≡ at_index step) × (instruction_at (code k) step ≡ Some Step) × (action_from (types k) (drop (suc step) (code k).code) (suc step) ≡ None)
+        by (goes o b) acts x' is =
+            let m = map-some (λ t. record { module_number = x.module_number; point = t; frame = arrive (source_code k) t b }) (leads_to (source_code k) n o) x' is in
+            let r = runs-by k x x y y stands beside sound n c here o b acts m.0 m.1 (idle-within n here c) in
+            (r.step, r.position, r.stands_there, r.quiet)
+        by (stays b) acts x' is = absurd (never-stays k n.number n.form (counted_step x.frame) b acts)
+        by stuck acts x' is = none-not_some is
 
     locals : (n : Node) → x.frame.work ≡ [] → x.frame.call ≡ None → node_at (source_code k) x.point ≡ Some n → is_action (source_code k) n.form ≡ false → Nexts
     locals n w c at local =
         let here = at-node k x y n beside at in
-        let s = step-there k.exceptions (types k) k.processes k.process k.labels k.sound x x stands n at c local in
-        by here (act own_name (source_code k) n.number n.form (counted_step x.frame)) refl s.0 s.1
-      where
-        by : (here : AtNode k x y n) (r : Completion Name) → act own_name (source_code k) n.number n.form (counted_step x.frame) ≡ r → (x' : State Name) → state_after (source_code k) x (Some n) r ≡ Some x' → Nexts
-        by here (goes o b) acts x' is =
-            let m = map-some (λ t. record { module_number = x.module_number; point = t; frame = arrive (source_code k) t b }) (leads_to (source_code k) n o) x' is in
-            let r = runs-by k x x y y stands beside sound n w c here o b acts m.0 m.1 (idle-within n here c) in
-            on_local n here r.step c local (source-next [] None (Some n) w c at) (next-at_step k y r.step None (same-work [] w) (same-call None c) r.position r.stands_there r.quiet) r.position
-        by here (stays b) acts x' is = absurd (never-stays k n.number n.form (counted_step x.frame) b acts)
-        by here stuck acts x' is = none-not_some is
+        let p = local-piece n here c at local in
+        on_local n here p.0 c local (source-next [] None (Some n) w c at) (next-at_step k y p.0 None (same-work [] w) (same-call None c) p.1 p.2 p.3) p.1
 
     -- an end
     ends : (call : Option ℕ) → x.frame.work ≡ [] → x.frame.call ≡ call → node_at (source_code k) x.point ≡ None → Nexts
