@@ -15,3 +15,5 @@ pub mod ActingForms
 pub mod CalledArguments
 pub mod ActingCalls
 pub mod Nexts
+pub mod Looks
+pub mod Answers

@@ -1,0 +1,200 @@
+-- The answer to what is wanted is one in the code, after which the code stands beside the source again.
+use Rattle.std.proofs.Common.{◌≡◌, ◌⊎◌, inl, inr, ℕ, zero, suc, ◌+◌, List, [], ◌∷◌, ◌++◌, map, length, Bool, true, false, cond, Option, Some, None, option_map, option_and_then, slice_get, refl, sym, ap, ap₂, subst, ◌∙◌, arith, true≢false}
+use Rattle.std.specs.Prelude.{◌||◌, IsTrue, ⊤}
+use Rattle.herm_model.specs.Lists.{IsIn}
+use Rattle.herm_model.specs.Paths.{Path}
+use Rattle.herm_model.specs.Expressions.{Atom}
+use Rattle.herm_model.specs.Nodes.{Node}
+use Rattle.herm_model.specs.Outcomes.{Outcome, outcomes}
+use Rattle.herm_model.specs.Statements.{Form, For, Call}
+use Rattle.herm_model.specs.Targets.{Target, node}
+use Rattle.herm_model.specs.Values.{Name, Cell, Value}
+use Rattle.herm_model.proofs.FactTests.{got-IsIn}
+use Rattle.herm_model.proofs.Options.{none-not_some, some-injective, chain-some, map-some}
+use Rattle.herm_journal.specs.Actions.{to_put, put, take, hear}
+use Rattle.herm_journal.specs.Messages.{CellWant, CellAction, CellReply, IsReplyTo}
+use Rattle.herm_forms.specs.Acts.{is_action, wants, settle, settle_reply, leads_to}
+use Rattle.herm_forms.specs.ClosesAndAnswers
+use Rattle.herm_forms.specs.EdgeFinalising.{arrive}
+use Rattle.herm_forms.specs.Frames.{Loop, Frame, Completion, goes, stays, stuck, counted_step, counted_action}
+use Rattle.herm_forms.specs.Incoming.{ComesIn, looked_at}
+use Rattle.herm_forms.specs.OpenCalls.{Calling, calling_form, call_type, IsReply}
+use Rattle.herm_forms.specs.laws.EdgeLaws.{AreSound, held_after}
+use Rattle.herm_forms.specs.laws.CallLaws.{without_lent}
+use Rattle.herm_forms.proofs.KeptBodies.{All, went, stayed, never, Opens, IsCall, all-work, all-settle, all-settle_reply}
+use Rattle.herm_forms.proofs.typed.EachForm.{puts-same}
+use Rattle.herm_source.specs.States as states
+use Rattle.herm_source.specs.States.{State, own_name, node_at, next_of, state_after, wanted, answered}
+use Rattle.herm_source.specs.Local.{calling}
+use Rattle.herm_source.specs.SeenBySystem.{port_type, open_call}
+use Rattle.herm_source.proofs.sound.OneForm.{AnswersWell, GoesWell, settles-well, replies-well}
+use Rattle.herm_source.proofs.sound.OneModule.{StandsWell, has_of, values-of, lists-of}
+use Rattle.herm_source.proofs.sound.Shapes.{IsShaped, AreItems, HasLoops, loops-kept, OnlyWorks, only-lets}
+use Rattle.herm_source.proofs.sound.SoundProcesses.{SuitsCode, put-wanted}
+use Rattle.herm_system.specs.Machines.{OpenCall}
+use Rattle.herm_system.specs.Suiting.{Answers}
+use Rattle.herm_runs.proofs.ActionParts.{cond-both}
+use Rattle.herm_instructions.specs.Actions.{is_step, is_action as instruction_acts}
+use Rattle.herm_instructions.specs.Images.{instruction_at}
+use Rattle.herm_instructions.specs.Instructions.{Instruction}
+use Rattle.herm_code_machine.specs.CodeActions.{code_settles, code_hears}
+use Rattle.herm_code_machine.specs.CodeLocal.{IsLocallySoundCode}
+use Rattle.herm_code_machine.specs.CodeStates.{Position, at_index, CodeState, leads, stack_after, state_behind, begins_piece, to_next_piece}
+use Rattle.herm_code_machine.specs.CodeSteps
+use Rattle.herm_code_machine.specs.CodeSteps.{CodeNext, code_next, code_answered, settled, settled_action, worked}
+use Rattle.herm_code_machine.specs.Pieces.{Met, Piece}
+use Rattle.herm_code_machine.specs.Stacks.{Effect, leaving}
+use Rattle.herm_code_machine.specs.laws.PieceLaws.{IsAtPiece}
+use Rattle.herm_translated.specs.CodeBlocks.{slots_around, slots_within}
+use Rattle.herm_translated.specs.Fronts.{front_length}
+use Rattle.herm_translated.proofs.Joined.{length-joined}
+use Rattle.herm_translated.proofs.Lengths.{front-long}
+use Rattle.herm_simulation.specs.Checks.{list_at}
+use Rattle.herm_simulation.specs.Leading.{StandFrom, state_at}
+use Rattle.herm_simulation.specs.Standing.{IsWithin, IsAtPoint}
+use Rattle.herm_simulation.specs.laws.EdgeLaws.{AreListsOf}
+use Rattle.herm_simulation.proofs.ActingCalls.{main, before, call-hears, call-acts}
+use Rattle.herm_simulation.proofs.ActingForms.{Acting}
+use Rattle.herm_simulation.proofs.Arrivals.{outcome-among}
+use Rattle.herm_simulation.proofs.Beside.{Beside, AtNode, lists-first}
+use Rattle.herm_simulation.proofs.DoneFronts.{after-none}
+use Rattle.herm_simulation.proofs.InPlace.{Coded, types, variables, constants, source_code, checked_code, blocks, code, ready, nodes, begins_at, block, block-here, front-stands, slots_of, exit}
+use Rattle.herm_simulation.proofs.Leading.{stand-first, stand-right, nothing-leads, leads-one}
+use Rattle.herm_simulation.proofs.LocalSteps.{leads-beside}
+use Rattle.herm_simulation.proofs.Nexts.{Nexts, on_item, on_reply, on_action, on_local, on_nothing, nexts}
+use Rattle.herm_simulation.proofs.SourceSide.{goes-is, typed-here, values-here, found-here, shaped-here}
+
+-- a form that visits no table has the slots around it
+own-none : (k : Coded) (i number : ℕ) (form : Form) → ((r t : Path) → form ≡ For r t → ⊥) → slots_within (types k) (variables k) number form (slots_around (source_code k) i) ≡ slots_around (source_code k) i
+own-none k i number (For r t) other = absurd (other r t refl)
+own-none k i number form other = refl
+
+abbrev is_staying : Completion Name → Bool
+is_staying (stays b) = true
+is_staying r = false
+
+abbrev frame_there : Completion Name → Option (Frame Name)
+frame_there (stays b) = Some b
+frame_there r = None
+
+stays-is : (Is Stay : Frame Name → Type 0) (r : Completion Name) (b : Frame Name) → All Is Stay r → r ≡ stays b → Stay b
+stays-is Is Stay r b (went q d h) e = none-not_some (ap frame_there e)
+stays-is Is Stay r b (stayed d h) e = subst Stay (some-injective (ap frame_there e)) h
+stays-is Is Stay r b never e = none-not_some (ap frame_there e)
+
+-- where a run begins at a piece, it comes to nothing else
+rests : (k : Coded) (s t : CodeState Name) → IsAtPiece (ready k) s.position → to_next_piece own_name (ready k) s ≡ Some t → t ≡ s
+rests k s t piece is = leads-one own_name (ready k) s s t (nothing-leads own_name (ready k) s) piece is
+
+module _ (k : Coded) (x x' : State Name) (y y' : CodeState Name) (stands : StandsWell k.exceptions (types k) k.processes k.process k.labels k.sound x) (beside : Beside k x y) (sound : IsLocallySoundCode (ready k) y) (from : ℕ) (a : CellAction Name) where
+  -- the front of the work list
+  item-beside : (item : Cell Name) (work : List (Cell Name)) → x.frame.work ≡ item ∷ work → (r : Completion Name) → ClosesAndAnswers.work_done item a (counted_action (record (x.frame) { work = work })) ≡ r
+      → state_after (source_code k) x None r ≡ Some x' → worked y r ≡ Some y' → Beside k x' y'
+  item-beside item work w (goes o b) done is steps = none-not_some is
+  item-beside item work w stuck done is steps = none-not_some is
+  item-beside item work w (stays b) done is steps =
+      let kept = stays-is (OnlyWorks (source_code k) x.frame.variables x.frame.loops x.frame.call) (OnlyWorks (source_code k) x.frame.variables x.frame.loops x.frame.call) (ClosesAndAnswers.work_done item a (counted_action (record (x.frame) { work = work }))) b
+      (all-work (OnlyWorks (source_code k) x.frame.variables x.frame.loops x.frame.call) (only-lets (source_code k) x.frame.variables x.frame.loops x.frame.call) item a (counted_action (record (x.frame) { work = work }))
+      ((λ z h. (stands.0).work z (subst (IsIn z) (sym w) (inr h))), refl, refl, refl)) done in
+      let same : y.frame.call ≡ b.call = ap (λ (d : Frame Name). d.call) beside.frame ∙ sym kept.3 in
+      subst (λ (x' : State Name). Beside k x' y') (some-injective is)
+      (subst (λ (y' : CodeState Name). Beside k (record x { frame = b }) y') (some-injective steps)
+      (record {
+        module_number = beside.module_number;
+        place = subst (λ call. IsAtPoint (constants k) (checked_code k) call y.position x.point) same beside.place;
+        stack = beside.stack;
+        frame = refl;
+        lists = λ q i called here. subst (AreListsOf (slots_around (source_code k) i)) (sym kept.2) (beside.lists q i (sym kept.3 ∙ called) here);
+      }))
+
+  -- behind an instruction that leads out by an outcome
+  settled-beside : (i : ℕ) (n : Node) (at : slice_get (nodes k) i ≡ Some n) (index : ℕ) (z : Instruction) (o : Outcome) (b : Frame Name) → (IsIn o (outcomes (types k) (variables k) n.form) → leads (ready k) index z o ≡ Some (exit k i n o))
+      → AreSound (source_code k) (held_after (types k) (variables k) n.form o (k.labels i)) b.variables → b.call ≡ None → AreListsOf (slots_of k i n) b.loops
+      → state_after (source_code k) x (Some n) (goes o b) ≡ Some x' → settled own_name (ready k) y index z [] (goes o b) ≡ Some y' → Beside k x' y'
+  settled-beside i n at index z o b out values closed lists is steps =
+      let m = map-some (λ t. record { module_number = x.module_number; point = t; frame = arrive (source_code k) t b }) (leads_to (source_code k) n o) x' is in
+      let led = out (outcome-among k n (got-IsIn (nodes k) i n at) o m.0 m.1) in
+      let there = state_at y.module_number (exit k i n o) [] b in
+      let behind : state_behind (ready k) y index z [] (goes o b) ≡ Some there =
+      ap (option_map (λ j. state_at y.module_number j (stack_after o []) b)) led ∙ ap (λ stack. Some (state_at y.module_number (exit k i n o) stack b)) (after-none o) in
+      let runs : to_next_piece own_name (ready k) there ≡ Some y' = sym (ap (option_and_then (to_next_piece own_name (ready k))) behind) ∙ steps in
+      leads-beside k i n at y.module_number there y' x x' o m.0 b beside.module_number m.1 values closed lists m.2 (nothing-leads own_name (ready k) there) runs
+
+  -- the answer to a statement's action
+  module _ (n : Node) (here : AtNode k x y n) (acting : Acting k here.place n here.there x.frame) (idle : x.frame.call ≡ None) (acts : is_action (source_code k) n.form ≡ true) (position : y.position ≡ at_index (begins_at k here.place))
+      (comes : ComesIn own_name (source_code k) n.form (counted_action (counted_step x.frame)) from a) where
+    abbrev i : ℕ
+    i = here.place
+
+    abbrev counted : Frame Name
+    counted = counted_action (counted_step x.frame)
+
+    abbrev index : ℕ
+    index = suc (begins_at k i) + length acting.before
+
+    no-loop : (r t : Path) → n.form ≡ For r t → ⊥
+    no-loop r t e = true≢false (sym acts ∙ ap (is_action (source_code k)) e)
+
+    around : slots_of k i n ≡ slots_around (source_code k) i
+    around = own-none k i n.number n.form no-loop
+
+    lists-here : AreListsOf (slots_around (source_code k) i) x.frame.loops
+    lists-here = subst (AreListsOf (slots_around (source_code k) i)) (ap (λ (b : Frame Name). b.loops) beside.frame) (lists-first k i n here.there y sound (ap (λ (b : Frame Name). b.call) beside.frame ∙ idle) position)
+
+    well : AnswersWell (source_code k) n.form (k.labels i) x.frame.loops (settle own_name (source_code k) n.form from a counted)
+    well = settles-well k.exceptions k.processes (source_code k) n.form (typed-here k i n here.there) acts from a (k.labels i) counted
+        (values-here k i n here.there x stands here.point idle) (found-here k i n here.there x stands here.point idle) comes (shaped-here k i n here.there x stands here.point idle)
+
+    kept-loops : All (HasLoops (source_code k) None x.frame.loops) (λ b. ⊤) (settle own_name (source_code k) n.form from a counted)
+    kept-loops = all-settle own_name (HasLoops (source_code k) None x.frame.loops) (λ b. ⊤) (loops-kept (source_code k) None x.frame.loops) (source_code k) n.form from a counted
+        (((stands.0).work, idle), refl) (λ call m b h. tt)
+
+    -- a call whose callmessage was placed stays
+    opened-beside : (b : Frame Name) → AnswersWell (source_code k) n.form (k.labels i) x.frame.loops (stays b) → Some (record x { frame = b }) ≡ Some x' → settled own_name (ready k) y index acting.main [] (stays b) ≡ Some y' → Beside k x' y'
+    opened-beside b h is steps =
+        let o = by n.form refl h.1 in
+        let opened : CodeState Name = state_at y.module_number index [] b in
+        let there : instruction_at (code k) index ≡ Some acting.main =
+        stand-first (ready k) index acting.main []
+        (stand-right (ready k) (suc (begins_at k i)) acting.before (acting.main ∷ []) (subst (StandFrom (ready k) (suc (begins_at k i))) acting.is (front-stands k i n here.there).stands)) in
+        let rest : y' ≡ opened = rests k opened y' (acting.main, there, begins acting.main acting.action) steps in
+        let long : front_length (types k) (variables k) (constants k) n.form ≡ length acting.before + 1 =
+        sym (front-long (types k) (variables k) (constants k) (list_at k.facts i) n.number (suc (begins_at k i)) (exit k i n) n.form) ∙ ap length acting.is ∙ length-joined acting.before (acting.main ∷ []) in
+        subst (λ (x' : State Name). Beside k x' y') (some-injective is)
+        (subst (λ (y' : CodeState Name). Beside k (record x { frame = b }) y') (sym rest)
+        (record {
+          module_number = beside.module_number;
+          place = subst (λ call. IsAtPoint (constants k) (checked_code k) call (at_index index) x.point) (sym h.6)
+              (subst (λ t. IsAtPoint (constants k) (checked_code k) (Some h.5) (at_index index) t) (sym here.point)
+              (block k i n, block-here k i n here.there, (omega (arith, long), o.0, o.1, o.2)));
+          stack = refl;
+          frame = refl;
+          lists = λ q j called at. subst (AreListsOf (slots_around (source_code k) j)) (sym h.3) (subst (λ j. AreListsOf (slots_around (source_code k) j) x.frame.loops) (place-of i j (sym here.point ∙ at)) lists-here);
+        }))
+      where
+        by : (form : Form) → n.form ≡ form → calling_form form ≡ Some h.0 → (o : Path) × (atoms : List Atom) × (n.form ≡ Call o atoms)
+        by (Call o atoms) same c = (o, atoms, same)
+        by form same c = none-not_some c
+
+        place_in : Target → Option ℕ
+        place_in (node j) = Some j
+        place_in t = None
+
+        place-of : (i j : ℕ) → node i ≡ node j → i ≡ j
+        place-of i j e = some-injective (ap place_in e)
+
+        begins : (z : Instruction) → instruction_acts (types k) z ≡ true → begins_piece (ready k) z ≡ true
+        begins z e = by-step (is_step z) e
+          where
+            by-step : (b : Bool) → instruction_acts (types k) z ≡ true → (b || instruction_acts (types k) z) ≡ true
+            by-step true e = refl
+            by-step false e = e
+
+    answer-by : (r : Completion Name) → settle own_name (source_code k) n.form from a counted ≡ r → state_after (source_code k) x (Some n) r ≡ Some x' → settled own_name (ready k) y index acting.main [] r ≡ Some y' → Beside k x' y'
+    answer-by (goes o b) done is steps =
+        let h : AnswersWell (source_code k) n.form (k.labels i) x.frame.loops (goes o b) = subst (AnswersWell (source_code k) n.form (k.labels i) x.frame.loops) done well in
+        let kept = goes-is (HasLoops (source_code k) None x.frame.loops) (λ b. ⊤) (settle own_name (source_code k) n.form from a counted) o b kept-loops done in
+        settled-beside i n here.there index acting.main o b (acting.out o) h.0 h.1.2
+        (subst (λ slots. AreListsOf slots b.loops) (sym around) (subst (AreListsOf (slots_around (source_code k) i)) (sym kept.1) lists-here)) is steps
+    answer-by (stays b) done is steps = opened-beside b (subst (AnswersWell (source_code k) n.form (k.labels i) x.frame.loops) done well) is steps
+    answer-by stuck done is steps = none-not_some is
