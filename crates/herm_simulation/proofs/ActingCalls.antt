@@ -98,6 +98,14 @@ module _ (k : Coded) (i : ℕ) (n : Node) (at : slice_get (nodes k) i ≡ Some n
       ∙ ap (λ moved. compose own_name (map (λ (p : Parameter). p.mode) parameters) inputs (flat_map (λ p. excess_over_full (source_code k) p b) moved) moved b) inouts-of
       ∙ sym (ap (option_and_then (λ inputs. compose own_name (map (λ (p : Parameter). p.mode) parameters) inputs (flat_map (λ p. excess_over_full (source_code k) p b) (arguments_at (source_code k) is_inout o atoms)) (arguments_at (source_code k) is_inout o atoms) b)) given)
 
+  -- each outcome leads to its edge
+  pub call-out : (q : Outcome) → IsIn q (outcomes (types k) (variables k) n.form) → leads (ready k) (first + length before) main q ≡ Some (exit k i n q)
+  call-out q m =
+      let long = length-joined before (main ∷ []) in
+      ok-leads own_name (ready k) n.number (list_at k.facts i) first (exit k i n) (first + length before) main (land-right (ready k) (exit k i n) first before (main ∷ []) front-at.lands) refl
+      ((front-at).behind ok (map raised (exceptions_of (types k) (variables k) main)) refl ∙ ap (λ l. first + l) long ∙ omega arith) q
+      (subst (λ f. IsIn q (outcomes (types k) (variables k) f)) same m)
+
   pub call-acts : (b : Frame Name) → AreSound (source_code k) (k.labels i) b.variables → Found (source_code k) n.form (k.labels i) → Acting k i n at b
   call-acts b sound found =
       let full = (typed-atoms k.exceptions k.processes (source_code k)).called o atoms typed (k.labels i) b.variables sound (λ f h. found f (subst (λ g. IsIn f (needs (types k) (variables k) g)) (sym same) h)) in
@@ -123,11 +131,7 @@ module _ (k : Coded) (i : ℕ) (n : Node) (at : slice_get (nodes k) i ≡ Some n
             ∙ ap₂ (λ m out. leaving [] (callmessages.call m out a)) (made d refl) outs-of
             ∙ ap (λ f. leaving [] (settle own_name (source_code k) f from a d)) (sym same));
         ports = ap form_ports (sym same);
-        out = λ q m.
-            (let long = length-joined before (main ∷ []) in
-            ok-leads own_name (ready k) n.number (list_at k.facts i) first (exit k i n) (first + length before) main (land-right (ready k) (exit k i n) first before (main ∷ []) front-at.lands) refl
-            ((front-at).behind ok (map raised (exceptions_of (types k) (variables k) main)) refl ∙ ap (λ l. first + l) long ∙ omega arith) q
-            (subst (λ f. IsIn q (outcomes (types k) (variables k) f)) same m));
+        out = call-out;
       }
 
   -- the answer to the open call

@@ -1,8 +1,9 @@
 -- The answer to what is wanted is one in the code, after which the code stands beside the source again.
 use Rattle.std.proofs.Common.{◌≡◌, ◌⊎◌, inl, inr, ℕ, zero, suc, ◌+◌, List, [], ◌∷◌, ◌++◌, map, length, Bool, true, false, cond, Option, Some, None, option_map, option_and_then, slice_get, refl, sym, ap, ap₂, subst, ◌∙◌, arith, true≢false}
 use Rattle.std.specs.Prelude.{◌||◌, IsTrue, ⊤}
-use Rattle.herm_model.specs.Lists.{IsIn}
-use Rattle.herm_model.specs.Paths.{Path}
+use Rattle.herm_model.specs.Lists.{IsIn, list_of, any_pass}
+use Rattle.herm_model.specs.Paths.{Path, path_of, is_at_or_below}
+use Rattle.herm_model.specs.Labels.{label_at}
 use Rattle.herm_model.specs.Expressions.{Atom}
 use Rattle.herm_model.specs.Nodes.{Node}
 use Rattle.herm_model.specs.Outcomes.{Outcome, outcomes}
@@ -18,10 +19,11 @@ use Rattle.herm_forms.specs.ClosesAndAnswers
 use Rattle.herm_forms.specs.EdgeFinalising.{arrive}
 use Rattle.herm_forms.specs.Frames.{Loop, Frame, Completion, goes, stays, stuck, counted_step, counted_action}
 use Rattle.herm_forms.specs.Incoming.{ComesIn, looked_at}
-use Rattle.herm_forms.specs.OpenCalls.{Calling, calling_form, call_type, IsReply}
+use Rattle.herm_forms.specs.OpenCalls.{Calling, calling_form, call_type, lent_paths, IsReply}
 use Rattle.herm_forms.specs.laws.EdgeLaws.{AreSound, held_after}
 use Rattle.herm_forms.specs.laws.CallLaws.{without_lent}
 use Rattle.herm_forms.proofs.KeptBodies.{All, went, stayed, never, Opens, IsCall, all-work, all-settle, all-settle_reply}
+use Rattle.herm_forms.proofs.forms.PlainForms.{same_facts}
 use Rattle.herm_forms.proofs.typed.EachForm.{puts-same}
 use Rattle.herm_source.specs.States as states
 use Rattle.herm_source.specs.States.{State, own_name, node_at, next_of, state_after, wanted, answered}
@@ -53,7 +55,7 @@ use Rattle.herm_simulation.specs.Checks.{list_at}
 use Rattle.herm_simulation.specs.Leading.{StandFrom, state_at}
 use Rattle.herm_simulation.specs.Standing.{IsWithin, IsAtPoint}
 use Rattle.herm_simulation.specs.laws.EdgeLaws.{AreListsOf}
-use Rattle.herm_simulation.proofs.ActingCalls.{main, before, call-hears, call-acts}
+use Rattle.herm_simulation.proofs.ActingCalls.{main, before, call-hears, call-out}
 use Rattle.herm_simulation.proofs.ActingForms.{Acting}
 use Rattle.herm_simulation.proofs.Arrivals.{outcome-among}
 use Rattle.herm_simulation.proofs.Beside.{Beside, AtNode, lists-first}
@@ -198,3 +200,104 @@ module _ (k : Coded) (x x' : State Name) (y y' : CodeState Name) (stands : Stand
         (subst (λ slots. AreListsOf slots b.loops) (sym around) (subst (AreListsOf (slots_around (source_code k) i)) (sym kept.1) lists-here)) is steps
     answer-by (stays b) done is steps = opened-beside b (subst (AnswersWell (source_code k) n.form (k.labels i) x.frame.loops) done well) is steps
     answer-by stuck done is steps = none-not_some is
+
+  calling-here : (n : Node) (here : AtNode k x y n) (o : Path) (atoms : List Atom) → n.form ≡ Call o atoms → calling (source_code k) x ≡ Some (record { port = o; arguments = atoms })
+  calling-here n here o atoms same =
+      ap (λ t. option_and_then (λ (n : Node). calling_form n.form) (node_at (source_code k) t)) here.point ∙ ap (option_and_then (λ (n : Node). calling_form n.form)) here.there ∙ ap calling_form same
+
+  -- the reply to an open call
+  module _ (q : ℕ) (n : Node) (here : AtNode k x y n) (o : Path) (atoms : List Atom) (same : n.form ≡ Call o atoms) (called : x.frame.call ≡ Some q) (reply : (m : ℕ) (r : CellReply Name) → a ≡ hear m r → IsReply (source_code k) (record { port = o; arguments = atoms }) r) where
+    abbrev at : ℕ
+    at = here.place
+
+    abbrev the_call : Calling
+    the_call = record { port = o; arguments = atoms }
+
+    abbrev the_main : Instruction
+    the_main = main k at n here.there o atoms same
+
+    abbrev main_index : ℕ
+    main_index = suc (begins_at k at) + length (before k at n here.there o atoms same)
+
+    is-form : calling_form n.form ≡ Some the_call
+    is-form = ap calling_form same
+
+    is-calling : calling (source_code k) x ≡ Some the_call
+    is-calling = calling-here n here o atoms same
+
+    open-values : AreSound (source_code k) (without_lent (source_code k) the_call (k.labels at)) x.frame.variables
+    open-values =
+        same_facts (source_code k) (has_of (source_code k) x) (without_lent (source_code k) the_call (k.labels at)) x.frame.variables
+        (λ f.
+        ap (λ (o : Option ℕ). cond (any_pass (λ p. is_at_or_below p (path_of f)) (list_of (λ _. list_of (lent_paths (source_code k)) (calling (source_code k) x)) o)) false (label_at k.labels x.point f)) called
+        ∙ ap (λ (o : Option Calling). cond (any_pass (λ p. is_at_or_below p (path_of f)) (list_of (lent_paths (source_code k)) o)) false (label_at k.labels x.point f)) is-calling
+        ∙ ap (λ t. cond (any_pass (λ p. is_at_or_below p (path_of f)) (lent_paths (source_code k) the_call)) false (label_at k.labels t f)) here.point)
+        (values-of (source_code k) x stands.0)
+
+    reply-well : GoesWell (source_code k) n.form (k.labels at) (settle_reply (source_code k) n.form q a (counted_action x.frame))
+    reply-well = replies-well k.exceptions k.processes (source_code k) n.form the_call is-form (typed-here k at n here.there) q a (k.labels at) (counted_action x.frame) reply open-values (lists-of (source_code k) x stands.0, (stands.0).work, refl)
+
+    kept-reply : All (HasLoops (source_code k) None x.frame.loops) (λ b. ⊥) (settle_reply (source_code k) n.form q a (counted_action x.frame))
+    kept-reply = all-settle_reply own_name (HasLoops (source_code k) None x.frame.loops) (λ b. ⊥) (loops-kept (source_code k) None x.frame.loops) (source_code k) n.form q a (counted_action x.frame) (((stands.0).work, refl), refl)
+
+    call-no_loop : (r t : Path) → n.form ≡ For r t → ⊥
+    call-no_loop r t e = none-not_some (sym (ap calling_form e) ∙ is-form)
+
+    reply-by : (r : Completion Name) → settle_reply (source_code k) n.form q a (counted_action x.frame) ≡ r → state_after (source_code k) x (Some n) r ≡ Some x' → settled own_name (ready k) y main_index the_main [] r ≡ Some y' → Beside k x' y'
+    reply-by (goes z b) done is steps =
+        let h : GoesWell (source_code k) n.form (k.labels at) (goes z b) = subst (GoesWell (source_code k) n.form (k.labels at)) done reply-well in
+        let kept = goes-is (HasLoops (source_code k) None x.frame.loops) (λ b. ⊥) (settle_reply (source_code k) n.form q a (counted_action x.frame)) z b kept-reply done in
+        settled-beside at n here.there main_index the_main z b (call-out k at n here.there o atoms same z) h.0 h.1.2
+        (subst (λ slots. AreListsOf slots b.loops) (sym (own-none k at n.number n.form call-no_loop)) (subst (AreListsOf (slots_around (source_code k) at)) (sym kept.1) (beside.lists q at called here.point))) is steps
+    reply-by (stays b) done is steps = absurd (stays-is (HasLoops (source_code k) None x.frame.loops) (λ b. ⊥) (settle_reply (source_code k) n.form q a (counted_action x.frame)) b kept-reply done)
+    reply-by stuck done is steps = none-not_some is
+
+  module _ (w : CellWant Name) (answers : Answers w a) (suits : SuitsCode (types k) (source_code k) x from a) (want : wanted own_name (source_code k) x ≡ Some w) where
+    -- what comes in with the answer to a statement
+    comes-in : (n : Node) → node_at (source_code k) x.point ≡ Some n → wants own_name (source_code k) n.form x.frame ≡ Some w → (b : CellAction Name) → Answers w b → SuitsCode (types k) (source_code k) x from b
+        → ComesIn own_name (source_code k) n.form (counted_action (counted_step x.frame)) from b
+    comes-in n there is (take c m) answers suits = (suits.0, sym (ap (option_and_then (λ (node : Node). looked_at (source_code k) node.form x.frame from)) there) ∙ suits.1, suits.2)
+    comes-in n there is (put c m) answers suits =
+        let z = put-wanted w c m answers in
+        (z.0, puts-same own_name (source_code k) (suc x.frame.steps) (suc x.frame.actions) x.frame z.0 m n.form (is ∙ ap (λ w. Some w) z.1))
+    comes-in n there is b answers suits = tt
+
+    -- the reply that comes in is one that the call waits for
+    reply-in : (q : ℕ) (c : Calling) → x.frame.call ≡ Some q → calling (source_code k) x ≡ Some c → (i : ℕ) (r : CellReply Name) → a ≡ hear i r → IsReply (source_code k) c r
+    reply-in q c called is i r e =
+        let h : SuitsCode (types k) (source_code k) x from (hear i r) = subst (SuitsCode (types k) (source_code k) x from) e suits in
+        let there : open_call (source_code k) x ≡ Some (record { number = q; call_type = call_type (source_code k) c }) =
+        ap (option_and_then (λ (n : ℕ). option_map (λ (c : Calling). record { number = n; call_type = call_type (source_code k) c }) (calling (source_code k) x))) called ∙ ap (option_map (λ (c : Calling). record { number = q; call_type = call_type (source_code k) c })) is in
+        let same : h.0 ≡ record { number = q; call_type = call_type (source_code k) c } = some-injective (sym h.1 ∙ there) in
+        subst (λ (z : OpenCall). IsReplyTo (types k) z.call_type r) same h.3
+
+    pub answers-beside : answered own_name (source_code k) x from a ≡ Some x' → code_answered own_name (ready k) y from a ≡ Some y' → Beside k x' y'
+    answers-beside is steps = by (nexts k x y stands beside sound)
+      where
+        by : Nexts k x y → Beside k x' y'
+        by (on_item item work front s c) =
+            item-beside item work front (ClosesAndAnswers.work_done item a (counted_action (record (x.frame) { work = work }))) refl
+            (sym (ap (states.settle_next own_name (source_code k) x from a) s) ∙ is)
+            (sym (ap (λ (b : Frame Name). worked y (ClosesAndAnswers.work_done item a (counted_action (record b { work = work })))) beside.frame) ∙ sym (ap (CodeSteps.settle_next own_name (ready k) y from a) c) ∙ steps)
+        by (on_reply q n here o atoms same called s place c) =
+            reply-by q n here o atoms same called (λ m r e. reply-in q (record { port = o; arguments = atoms }) called (calling-here n here o atoms same) m r e)
+            (settle_reply (source_code k) n.form q a (counted_action x.frame)) refl
+            (sym (ap (states.settle_next own_name (source_code k) x from a) s) ∙ is)
+            (ap (λ r. settled own_name (ready k) y (suc (begins_at k here.place) + length (before k here.place n here.there o atoms same)) (main k here.place n here.there o atoms same) [] r) (sym (call-hears k here.place n here.there o atoms same q a (counted_action x.frame)))
+            ∙ ap (λ j. settled own_name (ready k) y j (main k here.place n here.there o atoms same) [] (code_hears (main k here.place n here.there o atoms same) q a (counted_action x.frame))) (sym place)
+            ∙ ap₂ (λ stack (b : Frame Name). settled own_name (ready k) y here.index (main k here.place n here.there o atoms same) stack (code_hears (main k here.place n here.there o atoms same) q a (counted_action b))) (sym beside.stack) (sym beside.frame)
+            ∙ sym (ap (CodeSteps.settle_next own_name (ready k) y from a) c) ∙ steps)
+        by (on_action n here acting front idle acts s position c stack) =
+            let want' : wants own_name (source_code k) n.form x.frame ≡ Some w = (cond-both (is_action (source_code k) n.form) (wants own_name (source_code k) n.form x.frame) w (sym (ap (states.wanted_next own_name (source_code k) x.frame) s) ∙ want)).1 in
+            let at : node_at (source_code k) x.point ≡ Some n = ap (node_at (source_code k)) here.point ∙ here.there in
+            let m : Met = record { index = suc (begins_at k here.place) + length acting.before; instruction = acting.main } in
+            let p : Piece = record { has_step = true; first = suc (begins_at k here.place) } in
+            answer-by n here acting idle acts position (comes-in n at want' a answers suits) (settle own_name (source_code k) n.form from a (counted_action (counted_step x.frame))) refl
+            (sym (ap (states.settle_next own_name (source_code k) x from a) s) ∙ is)
+            (ap (λ (e : Effect Name). settled own_name (ready k) y m.index acting.main e.stack e.completion) (sym (acting.settles from a))
+            ∙ ap (λ (b : Frame Name). let e = code_settles own_name (ready k) acting.main acting.stack from a (counted_action (counted_step b)) in settled own_name (ready k) y m.index acting.main e.stack e.completion) (sym beside.frame)
+            ∙ sym (ap (option_and_then (settled_action own_name (ready k) y p m from a)) stack)
+            ∙ sym (ap (CodeSteps.settle_next own_name (ready k) y from a) c) ∙ steps)
+        by (on_local n here step called quiet s c position) =
+            none-not_some (sym (ap (λ b. cond b (wants own_name (source_code k) n.form x.frame) None) quiet) ∙ sym (ap (states.wanted_next own_name (source_code k) x.frame) s) ∙ want)
+        by (on_nothing s c) = none-not_some (sym (ap (states.settle_next own_name (source_code k) x from a) s) ∙ is)
