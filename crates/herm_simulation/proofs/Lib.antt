@@ -17,3 +17,4 @@ pub mod ActingCalls
 pub mod Nexts
 pub mod Looks
 pub mod Answers
+pub mod Begun
