@@ -18,3 +18,5 @@ pub mod Nexts
 pub mod Looks
 pub mod Answers
 pub mod Begun
+pub mod Indices
+pub mod Simulated

@@ -2,4 +2,5 @@ pub mod Leading
 pub mod FrontsInPlace
 pub mod Checks
 pub mod Standing
+pub mod Simulating
 pub mod laws

@@ -1,3 +1,4 @@
 -- What is claimed of the code of a process beside its source.
 pub mod EdgeLaws
 pub mod FrontLaws
+pub mod SimulationLaws
