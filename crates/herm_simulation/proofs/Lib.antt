@@ -20,3 +20,4 @@ pub mod Answers
 pub mod Begun
 pub mod Indices
 pub mod Simulated
+pub mod RunsAlike

@@ -3,3 +3,4 @@
 
 pub mod edges;
 pub mod fronts;
+pub mod simulation;

@@ -38,8 +38,13 @@ SourceRunsAsCode = OfTranslated (λ program modules checked. let code = code_mac
     (limits : Limits) (argument : Text) (events : List Event) (q : Run (CodeState Name)) → IsTrue (is_text argument) → run code events (start code limits argument) ≡ Some q
     → (r : Run (State Name)) × (run (source modules) events (start (source modules) limits argument) ≡ Some r) × LookAlike code (source modules) (turned (Simulates program modules checked)) q r)
 
--- So the rounds of the code are those of the source, and look alike. Language reference, "Rounds".
+-- So the rounds of the one are those of the other, and look alike. Language reference, "Rounds".
 abbrev pub CodeRoundsAsSource : Type 0
 CodeRoundsAsSource = OfTranslated (λ program modules checked. let code = code_machine (ready_image program modules checked) in
+    (limits : Limits) (argument : Text) (most : ℕ) (r : Run (State Name)) → IsTrue (is_text argument) → rounds most (source modules) (start (source modules) limits argument) ≡ Some r
+    → (q : Run (CodeState Name)) × (rounds most code (start code limits argument) ≡ Some q) × LookAlike (source modules) code (Simulates program modules checked) r q)
+
+abbrev pub SourceRoundsAsCode : Type 0
+SourceRoundsAsCode = OfTranslated (λ program modules checked. let code = code_machine (ready_image program modules checked) in
     (limits : Limits) (argument : Text) (most : ℕ) (q : Run (CodeState Name)) → IsTrue (is_text argument) → rounds most code (start code limits argument) ≡ Some q
     → (r : Run (State Name)) × (rounds most (source modules) (start (source modules) limits argument) ≡ Some r) × LookAlike code (source modules) (turned (Simulates program modules checked)) q r)
