@@ -1,16 +1,16 @@
 -- A call: its piece, and the answer to it while it is open.
-use Rattle.std.proofs.Common.{◌≡◌, ℕ, suc, ◌+◌, List, [], ◌∷◌, ◌++◌, map, length, Bool, true, false, cond, Option, Some, None, option_map, option_and_then, slice_get, refl, sym, ap, ap₂, subst, ◌∙◌, arith}
-use Rattle.std.specs.Prelude.{⊤, flat_map, filter, not, IsTrue}
+use Rattle.std.proofs.Common.{◌≡◌, ℕ, suc, ◌+◌, List, [], ◌∷◌, map, length, Bool, true, false, Some, option_and_then, slice_get, refl, sym, ap, ap₂, subst, ◌∙◌, arith}
+use Rattle.std.specs.Prelude.{⊤, flat_map, filter, not}
 use mathlib.Core.Path.{fun_ext}
 use Rattle.herm_model.specs.Lists.{IsIn, any_pass}
-use Rattle.herm_model.specs.Paths.{Path, Fact, same_path}
+use Rattle.herm_model.specs.Paths.{Path, same_path}
 use Rattle.herm_model.specs.Types.{Mode, by_in, Parameter, Raised, callmessage}
 use Rattle.herm_model.specs.Calls.{arguments_by, is_returned, call_parameters, call_raises}
 use Rattle.herm_model.specs.Expressions.{Atom}
 use Rattle.herm_model.specs.FactsOfStatements.{needs, set_by_call, kept_by_call}
 use Rattle.herm_model.specs.Nodes.{Node}
 use Rattle.herm_model.specs.Outcomes.{Outcome, ok, raised, outcomes}
-use Rattle.herm_model.specs.Statements.{Form, Call}
+use Rattle.herm_model.specs.Statements.{Call}
 use Rattle.herm_model.specs.TypedStatements.{AreArguments}
 use Rattle.herm_model.specs.Values.{Name, Parts, Value}
 use Rattle.herm_model.proofs.TypedCalls.{parameters-are}
@@ -19,7 +19,7 @@ use Rattle.herm_forms.specs.Acts.{is_inout, is_out, composed, inputs_of, argumen
 use Rattle.herm_forms.specs.Callmessages as callmessages
 use Rattle.herm_forms.specs.Callmessages.{Composed, compose}
 use Rattle.herm_forms.specs.Excess.{excess_over_full}
-use Rattle.herm_forms.specs.Frames.{Frame, Completion, counted_step, counted_action}
+use Rattle.herm_forms.specs.Frames.{Frame, counted_step, counted_action}
 use Rattle.herm_forms.specs.HearReply
 use Rattle.herm_forms.specs.Incoming.{ports_of as form_ports}
 use Rattle.herm_forms.specs.laws.EdgeLaws.{AreSound}
@@ -33,19 +33,19 @@ use Rattle.herm_instructions.specs.Instructions
 use Rattle.herm_instructions.specs.Instructions.{Argument, Instruction}
 use Rattle.herm_instructions.specs.Operands.{count_inputs}
 use Rattle.herm_instructions.specs.Pieces.{is_operand}
-use Rattle.herm_code_machine.specs.CodeActions.{mode_of, inouts, outs, composed_of, code_settles, code_wants, code_hears}
+use Rattle.herm_code_machine.specs.CodeActions.{mode_of, inouts, outs, composed_of, code_hears}
 use Rattle.herm_code_machine.specs.CodeStates.{leads}
-use Rattle.herm_code_machine.specs.Stacks.{leaving, Effect, Popped, pop, parts_from, with_popped}
+use Rattle.herm_code_machine.specs.Stacks.{leaving, Popped, pop, parts_from, with_popped}
 use Rattle.herm_code_machine.specs.laws.StackLaws.{pushed_on}
 use Rattle.herm_code_machine.proofs.Standing.{popped-as-pushed}
 use Rattle.herm_code_machine.proofs.sound.CallArguments.{modes-same, inouts-same, outs-same, hears-same}
-use Rattle.herm_translated.specs.Fronts.{arguments_of, inputs_code, front, front_length}
+use Rattle.herm_translated.specs.Fronts.{arguments_of, inputs_code, front}
 use Rattle.herm_translated.proofs.EachInstruction.{inputs-each}
 use Rattle.herm_translated.proofs.Joined.{length-joined}
 use Rattle.herm_simulation.specs.Checks.{list_at}
-use Rattle.herm_simulation.specs.FrontsInPlace.{LandFrom, IsFrontAt}
+use Rattle.herm_simulation.specs.FrontsInPlace.{IsFrontAt}
 use Rattle.herm_simulation.proofs.ActingForms.{Acting}
-use Rattle.herm_simulation.proofs.CalledArguments.{arguments-are, paths-same, kept-same, Inputs, inputs-pushed}
+use Rattle.herm_simulation.proofs.CalledArguments.{arguments-are, paths-same, kept-same, inputs-pushed}
 use Rattle.herm_simulation.proofs.DoneFronts.{ok-leads}
 use Rattle.herm_simulation.proofs.InPlace.{Coded, types, variables, constants, source_code, ready, nodes, begins_at, exit, front-stands}
 use Rattle.herm_simulation.proofs.Rows.{land-right}

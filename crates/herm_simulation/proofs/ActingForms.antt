@@ -1,8 +1,8 @@
 -- Statements that are actions: their pieces, what they want, and what their answers leave.
-use Rattle.std.proofs.Common.{◌≡◌, ◌⊎◌, inl, inr, ℕ, zero, suc, ◌+◌, List, [], ◌∷◌, ◌++◌, map, length, Bool, true, false, cond, Option, Some, None, option_map, option_and_then, slice_get, refl, sym, ap, ap₂, subst, ◌∙◌, arith, true≢false}
-use Rattle.std.specs.Prelude.{⊤, drop, IsTrue, is_some}
+use Rattle.std.proofs.Common.{◌≡◌, ◌⊎◌, inl, inr, ℕ, suc, ◌+◌, List, [], ◌∷◌, ◌++◌, map, length, true, false, cond, Option, Some, None, option_map, option_and_then, slice_get, refl, sym, ap, subst, ◌∙◌, arith, true≢false}
+use Rattle.std.specs.Prelude.{is_some}
 use Rattle.herm_model.specs.Lists.{IsIn, map_or, list_of}
-use Rattle.herm_model.specs.Paths.{Path, Fact, init, case}
+use Rattle.herm_model.specs.Paths.{Path, init, case}
 use Rattle.herm_model.specs.Types.{Shape, inport, type_at}
 use Rattle.herm_model.specs.Calls.{shape_at, raises_of, kept_for}
 use Rattle.herm_model.specs.FactsOfStatements.{needs}
@@ -11,9 +11,9 @@ use Rattle.herm_model.specs.Nodes.{Node}
 use Rattle.herm_model.specs.Statements.{Form, Arm, New, Send, Receive, Select, Call, Return, ReturnBy, Create}
 use Rattle.herm_model.specs.Values.{Name, Parts, Value}
 use Rattle.herm_model.specs.FactsOfValues.{HasExactly}
-use Rattle.herm_model.proofs.Lists.{in-map_from, in-append_cases}
+use Rattle.herm_model.proofs.Lists.{in-append_cases}
 use Rattle.herm_model.proofs.Options.{none-not_some, some-injective, chain-some}
-use Rattle.herm_journal.specs.Messages.{CellWant, CellAction, is_inport}
+use Rattle.herm_journal.specs.Messages.{CellAction, is_inport}
 use Rattle.herm_forms.specs.Acts.{is_action, wants, settle}
 use Rattle.herm_forms.specs.Frames.{Frame, counted_step, counted_action}
 use Rattle.herm_forms.specs.Incoming.{ports_of as form_ports}

@@ -1,5 +1,5 @@
 -- The code of an edge does what the source does where control goes to the edge's target.
-use Rattle.std.proofs.Common.{◌≡◌, ℕ, zero, suc, ◌+◌, List, [], ◌∷◌, ◌++◌, map, length, Bool, true, false, cond, Option, Some, None, refl, sym, ap, ap₂, subst, ◌∙◌, arith}
+use Rattle.std.proofs.Common.{◌≡◌, ℕ, suc, ◌+◌, List, [], ◌∷◌, ◌++◌, map, length, Bool, true, false, cond, Option, Some, None, refl, sym, ap, subst, ◌∙◌, arith}
 use Rattle.std.specs.Prelude.{filter, not, nat_eq}
 use Rattle.herm_model.specs.Lists.{any_pass}
 use Rattle.herm_model.specs.Statements.{Differ}
@@ -10,19 +10,19 @@ use Rattle.herm_model.specs.Values.{Name, Cell, cell_at, has_value}
 use Rattle.herm_model.specs.Finalising.{excess}
 use Rattle.herm_model.proofs.Lists.{length-map}
 use Rattle.herm_forms.specs.EdgeFinalising.{keeps, arrive}
-use Rattle.herm_forms.specs.Frames.{Loop, Frame, drop, drop_at, finalise_old, cleared}
+use Rattle.herm_forms.specs.Frames.{Frame, drop, drop_at, finalise_old, cleared}
 use Rattle.herm_forms.specs.LeavingLoops.{keeps_loop, leave_loops}
 use Rattle.herm_forms.specs.Modules.{Module}
-use Rattle.herm_instructions.specs.Instructions.{Instruction, Jump, LoopDrop, Drop, End, EndBy}
+use Rattle.herm_instructions.specs.Instructions.{Jump, LoopDrop, Drop, End, EndBy}
 use Rattle.herm_instructions.specs.Labels.{Slot}
 use Rattle.herm_code_machine.specs.ReadyCode.{ReadyCode, scope_of}
-use Rattle.herm_code_machine.specs.CodeStates.{CodeState, at_end, at_end_by, ended_at}
+use Rattle.herm_code_machine.specs.CodeStates.{CodeState, at_end, at_end_by}
 use Rattle.herm_code_machine.specs.Effects.{drop_loop}
-use Rattle.herm_translated.specs.Departures.{Arrival, to_block, to_second_step, to_end, to_end_by, Departure, edge_code, arrive_by, second_step}
+use Rattle.herm_translated.specs.Departures.{to_block, to_second_step, Departure, edge_code, arrive_by, second_step}
 use Rattle.herm_translated.specs.CodeBlocks.{number_at, arrival_at, departure, slots_left}
 use Rattle.herm_simulation.specs.Leading.{StandFrom, state_at, LeadsTo, arrived_at}
 use Rattle.herm_simulation.specs.laws.EdgeLaws.{AreListsOf, EdgesDoArrivals}
-use Rattle.herm_simulation.proofs.Leading.{stand-first, stand-rest, stand-left, stand-right, leads-then, leads-from, nothing-leads, instruction-leads, effect-leads}
+use Rattle.herm_simulation.proofs.Leading.{stand-first, stand-rest, stand-left, stand-right, leads-then, leads-from, instruction-leads, effect-leads}
 use Rattle.herm_simulation.proofs.LoopsLeft.{drop_loops, statements, all-left}
 
 -- numbers of slots that pass a test

@@ -1,6 +1,6 @@
 -- The answer to what is wanted is one in the code, after which the code stands beside the source again.
-use Rattle.std.proofs.Common.{◌≡◌, ◌⊎◌, inl, inr, ℕ, zero, suc, ◌+◌, List, [], ◌∷◌, ◌++◌, map, length, Bool, true, false, cond, Option, Some, None, option_map, option_and_then, slice_get, refl, sym, ap, ap₂, subst, ◌∙◌, arith, true≢false}
-use Rattle.std.specs.Prelude.{◌||◌, IsTrue, ⊤}
+use Rattle.std.proofs.Common.{◌≡◌, inr, ℕ, suc, ◌+◌, List, [], ◌∷◌, length, Bool, true, false, cond, Option, Some, None, option_map, option_and_then, slice_get, refl, sym, ap, ap₂, subst, ◌∙◌, arith, true≢false}
+use Rattle.std.specs.Prelude.{◌||◌, ⊤}
 use Rattle.herm_model.specs.Lists.{IsIn, list_of, any_pass}
 use Rattle.herm_model.specs.Paths.{Path, path_of, is_at_or_below}
 use Rattle.herm_model.specs.Labels.{label_at}
@@ -9,29 +9,29 @@ use Rattle.herm_model.specs.Nodes.{Node}
 use Rattle.herm_model.specs.Outcomes.{Outcome, outcomes}
 use Rattle.herm_model.specs.Statements.{Form, For, Call}
 use Rattle.herm_model.specs.Targets.{Target, node}
-use Rattle.herm_model.specs.Values.{Name, Cell, Value}
+use Rattle.herm_model.specs.Values.{Name, Cell}
 use Rattle.herm_model.proofs.FactTests.{got-IsIn}
-use Rattle.herm_model.proofs.Options.{none-not_some, some-injective, chain-some, map-some}
-use Rattle.herm_journal.specs.Actions.{to_put, put, take, hear}
+use Rattle.herm_model.proofs.Options.{none-not_some, some-injective, map-some}
+use Rattle.herm_journal.specs.Actions.{put, take, hear}
 use Rattle.herm_journal.specs.Messages.{CellWant, CellAction, CellReply, IsReplyTo}
 use Rattle.herm_forms.specs.Acts.{is_action, wants, settle, settle_reply, leads_to}
 use Rattle.herm_forms.specs.ClosesAndAnswers
 use Rattle.herm_forms.specs.EdgeFinalising.{arrive}
-use Rattle.herm_forms.specs.Frames.{Loop, Frame, Completion, goes, stays, stuck, counted_step, counted_action}
+use Rattle.herm_forms.specs.Frames.{Frame, Completion, goes, stays, stuck, counted_step, counted_action}
 use Rattle.herm_forms.specs.Incoming.{ComesIn, looked_at}
 use Rattle.herm_forms.specs.OpenCalls.{Calling, calling_form, call_type, lent_paths, IsReply}
 use Rattle.herm_forms.specs.laws.EdgeLaws.{AreSound, held_after}
 use Rattle.herm_forms.specs.laws.CallLaws.{without_lent}
-use Rattle.herm_forms.proofs.KeptBodies.{All, went, stayed, never, Opens, IsCall, all-work, all-settle, all-settle_reply}
+use Rattle.herm_forms.proofs.KeptBodies.{All, went, stayed, never, all-work, all-settle, all-settle_reply}
 use Rattle.herm_forms.proofs.forms.PlainForms.{same_facts}
 use Rattle.herm_forms.proofs.typed.EachForm.{puts-same}
 use Rattle.herm_source.specs.States as states
 use Rattle.herm_source.specs.States.{State, own_name, node_at, next_of, state_after, wanted, answered}
 use Rattle.herm_source.specs.Local.{calling}
-use Rattle.herm_source.specs.SeenBySystem.{port_type, open_call}
+use Rattle.herm_source.specs.SeenBySystem.{open_call}
 use Rattle.herm_source.proofs.sound.OneForm.{AnswersWell, GoesWell, settles-well, replies-well}
 use Rattle.herm_source.proofs.sound.OneModule.{StandsWell, has_of, values-of, lists-of}
-use Rattle.herm_source.proofs.sound.Shapes.{IsShaped, AreItems, HasLoops, loops-kept, OnlyWorks, only-lets}
+use Rattle.herm_source.proofs.sound.Shapes.{HasLoops, loops-kept, OnlyWorks, only-lets}
 use Rattle.herm_source.proofs.sound.SoundProcesses.{SuitsCode, put-wanted}
 use Rattle.herm_system.specs.Machines.{OpenCall}
 use Rattle.herm_system.specs.Suiting.{Answers}
@@ -41,11 +41,11 @@ use Rattle.herm_instructions.specs.Images.{instruction_at}
 use Rattle.herm_instructions.specs.Instructions.{Instruction}
 use Rattle.herm_code_machine.specs.CodeActions.{code_settles, code_hears}
 use Rattle.herm_code_machine.specs.CodeLocal.{IsLocallySoundCode}
-use Rattle.herm_code_machine.specs.CodeStates.{Position, at_index, CodeState, leads, stack_after, state_behind, begins_piece, to_next_piece}
+use Rattle.herm_code_machine.specs.CodeStates.{at_index, CodeState, leads, stack_after, state_behind, begins_piece, to_next_piece}
 use Rattle.herm_code_machine.specs.CodeSteps
 use Rattle.herm_code_machine.specs.CodeSteps.{CodeNext, code_next, code_answered, settled, settled_action, worked}
 use Rattle.herm_code_machine.specs.Pieces.{Met, Piece}
-use Rattle.herm_code_machine.specs.Stacks.{Effect, leaving}
+use Rattle.herm_code_machine.specs.Stacks.{Effect}
 use Rattle.herm_code_machine.specs.laws.PieceLaws.{IsAtPiece}
 use Rattle.herm_translated.specs.CodeBlocks.{slots_around, slots_within}
 use Rattle.herm_translated.specs.Fronts.{front_length}
@@ -53,14 +53,14 @@ use Rattle.herm_translated.proofs.Joined.{length-joined}
 use Rattle.herm_translated.proofs.Lengths.{front-long}
 use Rattle.herm_simulation.specs.Checks.{list_at}
 use Rattle.herm_simulation.specs.Leading.{StandFrom, state_at}
-use Rattle.herm_simulation.specs.Standing.{IsWithin, IsAtPoint}
+use Rattle.herm_simulation.specs.Standing.{IsAtPoint}
 use Rattle.herm_simulation.specs.laws.EdgeLaws.{AreListsOf}
 use Rattle.herm_simulation.proofs.ActingCalls.{main, before, call-hears, call-out}
 use Rattle.herm_simulation.proofs.ActingForms.{Acting}
 use Rattle.herm_simulation.proofs.Arrivals.{outcome-among}
 use Rattle.herm_simulation.proofs.Beside.{Beside, AtNode, lists-first}
 use Rattle.herm_simulation.proofs.DoneFronts.{after-none}
-use Rattle.herm_simulation.proofs.InPlace.{Coded, types, variables, constants, source_code, checked_code, blocks, code, ready, nodes, begins_at, block, block-here, front-stands, slots_of, exit}
+use Rattle.herm_simulation.proofs.InPlace.{Coded, types, variables, constants, source_code, checked_code, code, ready, nodes, begins_at, block, block-here, front-stands, slots_of, exit}
 use Rattle.herm_simulation.proofs.Leading.{stand-first, stand-right, nothing-leads, leads-one}
 use Rattle.herm_simulation.proofs.LocalSteps.{leads-beside}
 use Rattle.herm_simulation.proofs.Nexts.{Nexts, on_item, on_reply, on_action, on_local, on_nothing, nexts}

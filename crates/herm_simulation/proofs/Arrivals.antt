@@ -1,16 +1,15 @@
 -- Behind an outcome of a node: the code leads to where the edge arrives, with what the source has there.
-use Rattle.std.proofs.Common.{◌≡◌, ◌⊎◌, inl, inr, ℕ, zero, suc, ◌+◌, ◌<◌, List, [], ◌∷◌, ◌++◌, map, length, Bool, true, false, cond, nat_eq, Option, Some, None, option_map, option_and_then, slice_get, refl, sym, ap, ap₂, subst, ◌∙◌, arith, true≢false}
-use Rattle.std.specs.Prelude.{find, ◌||◌, IsTrue}
+use Rattle.std.proofs.Common.{◌≡◌, inl, inr, ℕ, suc, ◌+◌, ◌<◌, List, [], ◌∷◌, Bool, true, false, cond, nat_eq, Some, None, slice_get, refl, sym, ap, ap₂, subst, ◌∙◌, arith}
+use Rattle.std.specs.Prelude.{find, ◌||◌}
 use Rattle.std.proofs.lemmas.Bool.{eq-eqb}
-use Rattle.herm_model.specs.Lists.{IsIn, any_pass, list_of}
-use Rattle.herm_model.specs.Paths.{Path, Fact, init}
+use Rattle.herm_model.specs.Lists.{IsIn, any_pass}
+use Rattle.herm_model.specs.Paths.{Path, Fact}
 use Rattle.herm_model.specs.Exits.{Exit, exits}
-use Rattle.herm_model.specs.Finalising.{excess}
 use Rattle.herm_model.specs.Nodes.{Node}
 use Rattle.herm_model.specs.Outcomes.{Outcome, same_outcome, outcomes}
-use Rattle.herm_model.specs.Statements.{Form, For}
+use Rattle.herm_model.specs.Statements.{For}
 use Rattle.herm_model.specs.Targets.{Target, node, end, end_by}
-use Rattle.herm_model.specs.Values.{Name, has_value}
+use Rattle.herm_model.specs.Values.{Name}
 use Rattle.herm_model.proofs.Reached.{same_outcome-is}
 use Rattle.herm_model.proofs.ExcessOrder.{values-excess}
 use Rattle.herm_model.proofs.FactTests.{got-IsIn}
@@ -19,25 +18,23 @@ use Rattle.herm_model.proofs.NodeExits.{exits-outcomes}
 use Rattle.herm_model.proofs.Options.{none-not_some, some-injective, map-some}
 use Rattle.herm_forms.specs.Acts.{leads_to}
 use Rattle.herm_forms.specs.EdgeFinalising.{keeps, arrive}
-use Rattle.herm_forms.specs.Frames.{Loop, Frame}
+use Rattle.herm_forms.specs.Frames.{Frame}
 use Rattle.herm_forms.specs.laws.EdgeLaws.{AreSound, held_after}
 use Rattle.herm_instructions.specs.Images.{instruction_at}
-use Rattle.herm_instructions.specs.Instructions.{Instruction, Step}
+use Rattle.herm_instructions.specs.Instructions.{Step}
 use Rattle.herm_instructions.specs.Labels.{Slot}
-use Rattle.herm_code_machine.specs.CodeStates.{Position, CodeState}
 use Rattle.herm_code_machine.specs.laws.PieceLaws.{IsAtPiece}
 use Rattle.herm_translated.specs.BlockLabels.{goes_to_second, comes_again}
 use Rattle.herm_translated.specs.CodeBlocks.{CodeBlock, arrival_at, departure, number_at}
-use Rattle.herm_translated.specs.Departures.{Arrival, to_block, to_second_step, to_end, to_end_by, Departure, second_step}
+use Rattle.herm_translated.specs.Departures.{to_block, to_second_step, Departure, second_step}
 use Rattle.herm_translated.specs.Layout.{block_length, block_code}
-use Rattle.herm_translated.specs.laws.LayoutLaws.{IsInBlock}
 use Rattle.herm_translated.proofs.Addresses.{laid-out}
 use Rattle.herm_simulation.specs.Checks.{list_at}
 use Rattle.herm_simulation.specs.Leading.{state_at, LeadsTo, arrived_at}
 use Rattle.herm_simulation.specs.Standing.{IsAtPoint}
 use Rattle.herm_simulation.specs.laws.EdgeLaws.{AreListsOf}
 use Rattle.herm_simulation.proofs.AlongEdges.{edges-do_arrivals}
-use Rattle.herm_simulation.proofs.InPlace.{Coded, types, variables, constants, source_code, checked_code, blocks, entry, code, ready, nodes, begins_at, block, slots_of, exit, linked, in-blocks, departure-outcome, departure-at, block-here, edge-stands}
+use Rattle.herm_simulation.proofs.InPlace.{Coded, types, variables, constants, source_code, checked_code, blocks, entry, code, ready, nodes, begins_at, block, slots_of, exit, linked, in-blocks, departure-at, edge-stands}
 
 -- what is found stands at a place
 found-place : {X : Type 0} (test : X → Bool) (xs : List X) (x : X) → find test xs ≡ Some x → (j : ℕ) × (slice_get xs j ≡ Some x) × (test x ≡ true)

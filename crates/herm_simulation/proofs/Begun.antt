@@ -1,28 +1,27 @@
 -- A process of code begins beside the one of the source.
-use Rattle.std.proofs.Common.{◌≡◌, ◌⊎◌, inl, inr, ℕ, zero, suc, ◌+◌, ◌<◌, List, [], ◌∷◌, map, length, Bool, true, false, cond, nat_eq, Option, Some, None, slice_get, refl, sym, ap, ap₂, subst, ◌∙◌, arith}
+use Rattle.std.proofs.Common.{◌≡◌, inl, ℕ, zero, suc, ◌+◌, ◌<◌, [], ◌∷◌, length, Bool, true, false, nat_eq, Some, None, refl, sym, ap, subst, ◌∙◌, arith}
 use Rattle.std.specs.Prelude.{◌&&◌, pred, IsTrue}
 use Rattle.std.proofs.lemmas.Bool.{eqb-true}
 use mathlib.Core.Bool.{false≢true}
-use Rattle.herm_model.specs.Paths.{Path, Fact, init, case, same_path}
+use Rattle.herm_model.specs.Paths.{Path, init, same_path}
 use Rattle.herm_model.specs.ControlPaths.{held_at_start}
 use Rattle.herm_model.specs.FactsOfValues.{HasExactly}
-use Rattle.herm_model.specs.Finalising.{excess}
 use Rattle.herm_model.specs.Outcomes.{ok}
 use Rattle.herm_model.specs.Targets.{Target, node, end, end_by}
-use Rattle.herm_model.specs.Values.{Name, an_inport, Cell, cell, Parts, no_parts, part, gaps, has_value}
+use Rattle.herm_model.specs.Values.{Name, an_inport, cell, Parts, no_parts, part, gaps, has_value}
 use Rattle.herm_model.proofs.ExcessOrder.{values-excess}
 use Rattle.herm_model.proofs.NothingThere.{nothing-there, nothing-in_gaps}
-use Rattle.herm_model.proofs.Options.{none-not_some, some-injective}
+use Rattle.herm_model.proofs.Options.{none-not_some}
 use Rattle.herm_forms.specs.EdgeFinalising.{keeps, arrive}
 use Rattle.herm_forms.specs.Frames.{Frame}
-use Rattle.herm_source.specs.States.{State, own_name, begin}
+use Rattle.herm_source.specs.States.{own_name, begin}
 use Rattle.herm_source.proofs.OpeningFrame.{opening_frame}
 use Rattle.herm_instructions.specs.Images.{instruction_at}
 use Rattle.herm_instructions.specs.Instructions.{Step}
-use Rattle.herm_code_machine.specs.CodeStates.{Position, CodeState, code_begin, to_next_piece}
+use Rattle.herm_code_machine.specs.CodeStates.{CodeState, code_begin}
 use Rattle.herm_code_machine.specs.laws.PieceLaws.{IsAtPiece}
 use Rattle.herm_translated.specs.CodeBlocks.{arrival_at, departure}
-use Rattle.herm_translated.specs.Departures.{Arrival, to_block, to_second_step, edge_code, edge_length}
+use Rattle.herm_translated.specs.Departures.{edge_code, edge_length}
 use Rattle.herm_translated.proofs.Addresses.{laid-out}
 use Rattle.herm_translated.proofs.Joined.{got-within}
 use Rattle.herm_translated.proofs.Lengths.{edge-long}

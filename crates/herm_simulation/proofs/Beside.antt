@@ -1,29 +1,26 @@
 -- A process of code beside one of the source: where it is, and which lists of rows it has.
-use Rattle.std.proofs.Common.{◌≡◌, ◌⊎◌, inl, inr, ℕ, zero, suc, ◌+◌, ◌<◌, List, [], ◌∷◌, ◌++◌, map, length, Bool, true, false, cond, nat_eq, Option, Some, None, option_map, option_and_then, slice_get, refl, sym, ap, ap₂, subst, ◌∙◌, arith}
+use Rattle.std.proofs.Common.{◌≡◌, ℕ, suc, ◌+◌, [], ◌∷◌, Bool, true, cond, nat_eq, Option, Some, None, option_map, slice_get, refl, sym, ap, subst, ◌∙◌, arith}
 use Rattle.std.specs.Prelude.{drop, find}
 use Rattle.std.proofs.lemmas.Bool.{eq-eqb}
 use Rattle.herm_model.specs.Paths.{Path}
 use Rattle.herm_model.specs.Nodes.{Node}
-use Rattle.herm_model.specs.Statements.{Differ, For}
+use Rattle.herm_model.specs.Statements.{For}
 use Rattle.herm_model.specs.Targets.{Target, node, end, end_by}
-use Rattle.herm_model.specs.Values.{Name, Cell}
+use Rattle.herm_model.specs.Values.{Name}
 use Rattle.herm_model.proofs.Options.{none-not_some, some-injective}
-use Rattle.herm_forms.specs.Frames.{Loop, Frame}
 use Rattle.herm_source.specs.States.{State, node_at}
 use Rattle.herm_instructions.specs.Images.{instruction_at}
-use Rattle.herm_instructions.specs.Instructions.{Instruction, Step}
-use Rattle.herm_instructions.specs.Labels.{Slot, Label, ListedLabel, listed_at}
-use Rattle.herm_instructions.specs.Places.{label_at}
+use Rattle.herm_instructions.specs.Instructions.{Step}
+use Rattle.herm_instructions.specs.Labels.{Label, ListedLabel, listed_at}
 use Rattle.herm_code_machine.specs.CodeLocal.{AreSlots, IsLocallySoundCode}
 use Rattle.herm_code_machine.specs.CodeStates.{Position, at_index, at_end, at_end_by, CodeState}
 use Rattle.herm_code_machine.specs.CodeSteps.{code_next, call_or_piece, by_piece, by_action, item_or}
-use Rattle.herm_code_machine.specs.Pieces.{Met, Piece, action_from, piece_by}
+use Rattle.herm_code_machine.specs.Pieces.{Met, action_from, piece_by}
 use Rattle.herm_code_machine.proofs.sound.Between.{holds-at}
 use Rattle.herm_code_machine.proofs.sound.LoopEffects.{slots-numbers}
-use Rattle.herm_translated.specs.BlockLabels.{label_with, listed_with, edge_slots, labels_within, comes_again}
+use Rattle.herm_translated.specs.BlockLabels.{label_with, listed_with, labels_within, comes_again}
 use Rattle.herm_translated.specs.CodeBlocks.{CodeBlock, slots_around, slots_within}
 use Rattle.herm_translated.specs.Departures.{second_step}
-use Rattle.herm_translated.specs.Layout.{block_length}
 use Rattle.herm_translated.proofs.LabelsStand.{label-where_listed, blocks-labelled}
 use Rattle.herm_simulation.specs.Standing.{IsWithin, IsAtPoint}
 use Rattle.herm_simulation.specs.laws.EdgeLaws.{AreListsOf}

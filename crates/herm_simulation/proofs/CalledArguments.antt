@@ -1,38 +1,27 @@
 -- The arguments of the code of a call are those of the call.
-use Rattle.std.proofs.Common.{◌≡◌, ◌⊎◌, inl, inr, ℕ, zero, suc, ◌+◌, List, [], ◌∷◌, ◌++◌, map, length, Bool, true, false, cond, Option, Some, None, option_map, option_and_then, slice_get, refl, sym, ap, ap₂, subst, ◌∙◌, arith, true≢false}
-use Rattle.std.specs.Prelude.{⊤, flat_map, filter, not, IsTrue}
-use mathlib.Core.Path.{fun_ext}
-use Rattle.herm_model.specs.Lists.{IsIn, any_pass}
-use Rattle.herm_model.specs.Paths.{Path, same_path}
+use Rattle.std.proofs.Common.{◌≡◌, inl, inr, ℕ, zero, suc, List, [], ◌∷◌, ◌++◌, map, length, Bool, false, cond, Option, Some, option_and_then, slice_get, refl, sym, ap, ap₂, subst, ◌∙◌, true≢false}
+use Rattle.std.specs.Prelude.{⊤, flat_map, IsTrue}
+use Rattle.herm_model.specs.Lists.{IsIn}
+use Rattle.herm_model.specs.Paths.{Path}
 use Rattle.herm_model.specs.Types.{TypeTable, Mode, by_in, by_inout, by_out, Parameter, Raised}
-use Rattle.herm_model.specs.Calls.{arguments_by, argument_path, is_returned, kept_for, call_parameters, call_raises}
+use Rattle.herm_model.specs.Calls.{arguments_by, argument_path, is_returned, kept_for}
 use Rattle.herm_model.specs.Expressions.{Literal, Atom}
-use Rattle.herm_model.specs.FactsOfStatements.{set_by_call, kept_by_call}
-use Rattle.herm_model.specs.Statements.{Call}
 use Rattle.herm_model.specs.TypedStatements.{IsArgument, AreArguments}
-use Rattle.herm_model.specs.Values.{Name, Cell, Parts, no_parts, part, Value}
-use Rattle.herm_model.proofs.Lists.{in-append_left}
+use Rattle.herm_model.specs.Values.{Name, Parts, part, Value}
 use Rattle.herm_model.proofs.Options.{none-not_some, some-injective, map-some}
 use Rattle.herm_model.proofs.TypedCalls.{kept-declared}
-use Rattle.herm_journal.specs.Messages.{CellAction}
-use Rattle.herm_forms.specs.Acts.{is_inout, is_out, input_of, inputs_of, value_before, settle_reply}
+use Rattle.herm_forms.specs.Acts.{input_of, inputs_of, value_before}
 use Rattle.herm_forms.specs.Evaluate.{Evaluated, gives, raises, no_value, atom_value}
-use Rattle.herm_forms.specs.Frames.{Frame, Completion}
-use Rattle.herm_forms.specs.HearReply
-use Rattle.herm_forms.specs.Modules.{Module}
 use Rattle.herm_instructions.specs.Effects.{atom_of}
-use Rattle.herm_instructions.specs.Instructions
-use Rattle.herm_instructions.specs.Instructions.{Argument, of_in, of_inout, of_out, Instruction}
+use Rattle.herm_instructions.specs.Instructions.{Instruction}
 use Rattle.herm_instructions.specs.Operands.{count_inputs}
 use Rattle.herm_instructions.specs.Pieces.{is_operand}
 use Rattle.herm_instructions.specs.TypedInstructions.{IsArgumentOf, AreArgumentsOf}
-use Rattle.herm_code_machine.specs.CodeActions.{code_hears}
 use Rattle.herm_code_machine.specs.Effects.{constant_value}
 use Rattle.herm_code_machine.specs.Pieces.{behind_operands, pushed, operand}
 use Rattle.herm_code_machine.specs.ReadyCode.{ReadyCode}
 use Rattle.herm_code_machine.specs.Stacks.{parts_from}
 use Rattle.herm_code_machine.specs.laws.StackLaws.{pushed_on}
-use Rattle.herm_code_machine.proofs.sound.CallArguments.{hears-same}
 use Rattle.herm_translated.specs.Constants.{literals_among}
 use Rattle.herm_translated.specs.Fronts.{argument_by, arguments_of, pushed_by, atom_code, inputs_code}
 use Rattle.herm_translated.proofs.FoundConstants.{constant-found}

@@ -1,7 +1,7 @@
 -- Fronts do what their forms do.
-use Rattle.std.proofs.Common.{◌≡◌, ◌⊎◌, inl, inr, ℕ, zero, suc, ◌+◌, List, [], ◌∷◌, ◌++◌, map, length, Bool, true, false, cond, Option, Some, None, option_map, option_and_then, slice_get, refl, sym, ap, ap₂, subst, ◌∙◌, arith}
+use Rattle.std.proofs.Common.{◌≡◌, ◌⊎◌, inl, inr, ℕ, zero, suc, ◌+◌, List, [], ◌∷◌, ◌++◌, map, length, Bool, true, false, cond, Option, Some, None, option_map, slice_get, refl, sym, ap, subst, ◌∙◌, arith}
 use Rattle.std.specs.Prelude.{⊤, flat_map}
-use Rattle.herm_model.specs.Lists.{IsIn, map_or, range, list_of}
+use Rattle.herm_model.specs.Lists.{IsIn, map_or, range}
 use Rattle.herm_model.specs.Paths.{Path, Fact}
 use Rattle.herm_model.specs.Types.{TypeTable, Shape, fields, rows, type_at}
 use Rattle.herm_model.specs.Calls.{shape_at}
@@ -12,9 +12,9 @@ use Rattle.herm_model.specs.Statements.{Form, Assign, Move, New, Discard, Unite,
 use Rattle.herm_model.specs.Values.{Name, Scalar, a_boolean, a_scalar, Cell, cell, Parts, parts_of, has_place, read_at, Value}
 use Rattle.herm_model.specs.CellNames.{count_in, copy_in}
 use Rattle.herm_model.proofs.Lists.{in-map_from, in-append_left, in-append_right, in-append_cases}
-use Rattle.herm_model.proofs.Options.{none-not_some, some-injective, chain-some, map-some}
+use Rattle.herm_model.proofs.Options.{none-not_some, some-injective, chain-some}
 use Rattle.herm_forms.specs.Acts.{act, key_at, new_value}
-use Rattle.herm_forms.specs.Evaluate.{Evaluated, gives, raises, no_value, evaluate, atom_value, scalar_of, value_there, key_of_value, key_values}
+use Rattle.herm_forms.specs.Evaluate.{Evaluated, gives, raises, no_value, evaluate, atom_value, key_of_value, key_values}
 use Rattle.herm_forms.specs.Excess.{excess_over_full}
 use Rattle.herm_forms.specs.RemoveAndGet
 use Rattle.herm_forms.specs.LoopForms.{rows_for}
@@ -25,7 +25,7 @@ use Rattle.herm_instructions.specs.Effects.{exceptions_of}
 use Rattle.herm_instructions.specs.Images.{instruction_at}
 use Rattle.herm_instructions.specs.Instructions
 use Rattle.herm_instructions.specs.Instructions.{Instruction, Const, Load, Store, JumpFalse}
-use Rattle.herm_code_machine.specs.CodeStates.{CodeState, leads, stack_after, begins_piece}
+use Rattle.herm_code_machine.specs.CodeStates.{leads, stack_after, begins_piece}
 use Rattle.herm_code_machine.specs.Effects.{effect, constant_value, next_of_loop}
 use Rattle.herm_code_machine.specs.ExpressionCode.{IsCodeOf, IsDefined, in_row, row_effect}
 use Rattle.herm_code_machine.specs.ReadyCode.{ReadyCode}
@@ -36,13 +36,13 @@ use Rattle.herm_code_machine.specs.laws.StackLaws.{pushed_on}
 use Rattle.herm_code_machine.proofs.DoneForms.{instructions-do-forms}
 use Rattle.herm_code_machine.proofs.ExpressionValues.{code-gives_values}
 use Rattle.herm_code_machine.proofs.Standing.{popped-as-pushed}
-use Rattle.herm_translated.specs.Constants.{place_of, literals_of, literals_among, literals_in}
+use Rattle.herm_translated.specs.Constants.{place_of, literals_of, literals_among}
 use Rattle.herm_translated.specs.Fronts.{expression_code, atom_code, front, front_length, type_of}
 use Rattle.herm_translated.proofs.FoundConstants.{constant-found}
 use Rattle.herm_translated.proofs.Joined.{length-joined}
 use Rattle.herm_simulation.specs.Leading.{StandFrom, state_at, LeadsTo}
-use Rattle.herm_simulation.specs.FrontsInPlace.{LandFrom, IsFrontAt, LeadsOut}
-use Rattle.herm_simulation.specs.laws.FrontLaws.{FrontDoes, FrontsDo, FrontsDoForms}
+use Rattle.herm_simulation.specs.FrontsInPlace.{LandFrom, IsFrontAt}
+use Rattle.herm_simulation.specs.laws.FrontLaws.{FrontDoes, FrontsDoForms}
 use Rattle.herm_simulation.proofs.Leading.{stand-first, stand-left, stand-right, leads-then, leads-from, effect-leads}
 use Rattle.herm_simulation.proofs.Rows.{land-first, land-left, land-right, Led, expression-operands, atom-operands, row-leads}
 

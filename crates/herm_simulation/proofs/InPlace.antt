@@ -1,8 +1,8 @@
 -- A process beside its code: where the front of each node and each of its edges stand.
-use Rattle.std.proofs.Common.{◌≡◌, inl, inr, true, false, cond, true≢false, ℕ, zero, suc, ◌+◌, ◌<◌, List, [], ◌∷◌, ◌++◌, map, length, Bool, Option, Some, None, option_map, option_and_then, slice_get, refl, sym, ap, ap₂, subst, ◌∙◌, arith}
+use Rattle.std.proofs.Common.{◌≡◌, inl, inr, true, false, cond, true≢false, ℕ, zero, suc, ◌+◌, ◌<◌, List, [], ◌∷◌, ◌++◌, map, Bool, Some, None, option_map, option_and_then, slice_get, refl, sym, ap, ap₂, subst, ◌∙◌, arith}
 use Rattle.std.specs.Prelude.{flat_map, find, nat_eq}
 use Rattle.std.proofs.lemmas.Bool.{eq-eqb, eqb-true}
-use Rattle.herm_model.specs.Lists.{IsIn, list_of, total}
+use Rattle.herm_model.specs.Lists.{IsIn}
 use Rattle.herm_model.specs.Paths.{Path, Fact}
 use Rattle.herm_model.specs.Types.{TypeTable}
 use Rattle.herm_model.specs.Exits.{Exit, exits}
@@ -10,7 +10,7 @@ use Rattle.herm_model.specs.Expressions.{Literal}
 use Rattle.herm_model.specs.Labels.{Labels}
 use Rattle.herm_model.specs.Nodes.{Node, process_nodes}
 use Rattle.herm_model.specs.Outcomes.{Outcome, raised, outcomes}
-use Rattle.herm_model.specs.Statements.{Process, Differ}
+use Rattle.herm_model.specs.Statements.{Process}
 use Rattle.herm_model.specs.Targets.{Target, node, end, end_by}
 use Rattle.herm_model.proofs.Lists.{cons-not_nil, cons-head}
 use Rattle.herm_model.proofs.FactTests.{got-IsIn}
@@ -18,7 +18,7 @@ use Rattle.herm_model.proofs.Options.{none-not_some, some-injective}
 use Rattle.herm_forms.specs.Modules.{Module, module_of}
 use Rattle.herm_source.proofs.sound.OneModule.{IsGoodModule}
 use Rattle.herm_instructions.specs.Effects.{exceptions_of}
-use Rattle.herm_instructions.specs.Images.{Landing, CodeModule, Image, instruction_at, landing_of}
+use Rattle.herm_instructions.specs.Images.{Landing, CodeModule, Image}
 use Rattle.herm_instructions.specs.Instructions.{Instruction, Step}
 use Rattle.herm_instructions.specs.Labels.{Slot}
 use Rattle.herm_code_machine.specs.ReadyCode.{ReadyCode}
@@ -26,14 +26,14 @@ use Rattle.herm_code_machine.specs.laws.GoodImageLaws.{IsGoodOver, labelled_code
 use Rattle.herm_translated.specs.Constants.{literals_in}
 use Rattle.herm_translated.specs.CodeBlocks.{CheckedModule, CodeBlock, block_of, blocks_from, blocks_of, entry_edge, slots_within, slots_around, departure, departures_of, first_list, further_lists}
 use Rattle.herm_translated.specs.Departures.{Departure, edge_code, edge_length}
-use Rattle.herm_translated.specs.Fronts.{front, front_length}
-use Rattle.herm_translated.specs.Layout.{landings_by, edge_at, edges_at, exit_of, block_length, block_code}
+use Rattle.herm_translated.specs.Fronts.{front}
+use Rattle.herm_translated.specs.Layout.{landings_by, edge_at, edges_at, exit_of, block_code}
 use Rattle.herm_translated.specs.Translated.{code_of}
 use Rattle.herm_translated.specs.laws.CheckedBlocks.{checked, HasLinkedBlocks}
 use Rattle.herm_translated.specs.laws.LayoutLaws.{start, IsInBlock}
 use Rattle.herm_translated.proofs.Addresses.{outcome_of, first-here, laid-out, edges-there}
-use Rattle.herm_translated.proofs.Joined.{get-left, got-within, length-joined}
-use Rattle.herm_translated.proofs.Lengths.{block-long, front-long, edge-long}
+use Rattle.herm_translated.proofs.Joined.{got-within}
+use Rattle.herm_translated.proofs.Lengths.{block-long, edge-long}
 use Rattle.herm_translated.proofs.LinkedProcess.{linked-blocks}
 use Rattle.herm_simulation.specs.Checks.{list_at, IsRight}
 use Rattle.herm_simulation.specs.FrontsInPlace.{LandFrom, IsFrontAt}

@@ -1,11 +1,10 @@
 -- The node that an index belongs to; and where a process of code stands.
-use Rattle.std.proofs.Common.{◌≡◌, ◌⊎◌, inl, inr, ℕ, zero, suc, ◌+◌, ◌<◌, ◌≤◌, List, [], ◌∷◌, length, Bool, true, false, cond, Option, Some, None, option_and_then, slice_get, refl, sym, ap, ap₂, subst, ◌∙◌, arith}
-use Rattle.std.specs.Prelude.{nat_lt, ⊤}
+use Rattle.std.proofs.Common.{◌≡◌, inl, inr, ℕ, zero, suc, ◌+◌, ◌<◌, ◌≤◌, List, [], ◌∷◌, Bool, true, false, cond, Option, Some, None, slice_get, refl, sym, ap, subst, ◌∙◌, arith}
+use Rattle.std.specs.Prelude.{nat_lt}
 use Rattle.std.proofs.lemmas.Bool.Decides.{nat_tests}
-use Rattle.herm_model.specs.Paths.{Path}
 use Rattle.herm_model.specs.Expressions.{Literal}
 use Rattle.herm_model.specs.Nodes.{Node}
-use Rattle.herm_model.specs.Statements.{For, Call}
+use Rattle.herm_model.specs.Statements.{For}
 use Rattle.herm_model.specs.Targets.{Target, node, end, end_by}
 use Rattle.herm_model.specs.Types.{TypeTable}
 use Rattle.herm_model.specs.Values.{Name}
@@ -14,7 +13,6 @@ use Rattle.herm_forms.specs.Frames.{Frame}
 use Rattle.herm_source.specs.States.{State, node_at}
 use Rattle.herm_source.proofs.sound.OneModule.{StandsWell}
 use Rattle.herm_instructions.specs.Images.{instruction_at}
-use Rattle.herm_instructions.specs.Instructions.{Instruction, Step}
 use Rattle.herm_code_machine.specs.CodeLocal.{IsLocallySoundCode}
 use Rattle.herm_code_machine.specs.CodeStates.{Position, at_index, at_end, at_end_by, CodeState}
 use Rattle.herm_translation.specs.StandsFor.{BelongsTo, IsWhereItStands, MayStandAt}
@@ -29,7 +27,7 @@ use Rattle.herm_simulation.specs.Standing.{IsWithin, IsAtPoint}
 use Rattle.herm_simulation.proofs.Arrivals.{step-at, second-at}
 use Rattle.herm_simulation.proofs.Beside.{Beside}
 use Rattle.herm_simulation.proofs.InPlace.{Coded, types, variables, constants, source_code, checked_code, blocks, entry, code, ready, nodes, begins_at, no-block}
-use Rattle.herm_simulation.proofs.Nexts.{IsOpen, open-at}
+use Rattle.herm_simulation.proofs.Nexts.{open-at}
 
 module _ (types : TypeTable) (variables : List ℕ) (constants : List Literal) where
   among-node : (p first : ℕ) (bs : List CodeBlock) (n q : ℕ) (b : CodeBlock) → slice_get bs n ≡ Some b → q < block_length types variables constants b → (i : ℕ) → i ≡ start_from types variables constants first bs n + q

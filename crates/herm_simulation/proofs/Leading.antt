@@ -1,5 +1,5 @@
 -- Runs of code, instruction by instruction.
-use Rattle.std.proofs.Common.{◌≡◌, ℕ, zero, suc, ◌+◌, List, [], ◌∷◌, ◌++◌, length, Bool, true, false, cond, Option, Some, None, option_map, option_and_then, slice_get, refl, sym, ap, subst, ◌∙◌, arith}
+use Rattle.std.proofs.Common.{◌≡◌, ℕ, suc, ◌+◌, List, ◌∷◌, ◌++◌, length, false, cond, Some, option_map, option_and_then, refl, sym, ap, subst, ◌∙◌, arith}
 use Rattle.herm_model.proofs.Options.{some-injective}
 use Rattle.herm_model.specs.Outcomes.{Outcome}
 use Rattle.herm_model.specs.Values.{Name, Value}

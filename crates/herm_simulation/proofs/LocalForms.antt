@@ -1,17 +1,16 @@
 -- Statements that are local steps: their pieces, and where their fronts lead.
-use Rattle.std.proofs.Common.{◌≡◌, ◌⊎◌, inl, inr, ℕ, suc, ◌+◌, List, [], ◌∷◌, ◌++◌, map, length, Bool, true, false, cond, Option, Some, None, option_and_then, slice_get, refl, sym, ap, subst, ◌∙◌, arith}
+use Rattle.std.proofs.Common.{◌≡◌, inl, inr, ℕ, ◌+◌, List, [], ◌∷◌, length, false, Option, Some, None, slice_get, refl, ap, ◌∙◌}
 use Rattle.std.specs.Prelude.{⊤}
 use Rattle.herm_model.specs.Lists.{IsIn, map_or}
-use Rattle.herm_model.specs.Paths.{Path, Fact}
+use Rattle.herm_model.specs.Paths.{Fact}
 use Rattle.herm_model.specs.Types.{Shape, fields, rows, type_at}
 use Rattle.herm_model.specs.Calls.{shape_at}
-use Rattle.herm_model.specs.Expressions.{Expression}
 use Rattle.herm_model.specs.Outcomes.{Outcome, done}
-use Rattle.herm_model.specs.Statements.{Form, Assign, Move, New, Discard, Unite, Dissolve, Reveal, Case, Wrap, Unwrap, Insert, Remove, Get, For, Connect, Send, Receive, Select, Call, Return, ReturnBy, Create, If, While, Raise, Leave}
-use Rattle.herm_model.specs.Values.{Name, Parts}
+use Rattle.herm_model.specs.Statements.{Form, Assign, Move, New, Discard, Unite, Dissolve, Reveal, Case, Wrap, Unwrap, Insert, Remove, Get, For, Connect, If, While, Raise, Leave}
+use Rattle.herm_model.specs.Values.{Name}
 use Rattle.herm_model.proofs.Options.{chain-some}
-use Rattle.herm_forms.specs.Acts.{act, is_action, new_value}
-use Rattle.herm_forms.specs.Frames.{Frame, goes, stuck}
+use Rattle.herm_forms.specs.Acts.{act, new_value}
+use Rattle.herm_forms.specs.Frames.{Frame, goes}
 use Rattle.herm_forms.specs.LoopForms.{rows_for}
 use Rattle.herm_instructions.specs.Actions.{is_inport_shape, is_action as instruction_acts}
 use Rattle.herm_instructions.specs.Instructions
@@ -19,7 +18,6 @@ use Rattle.herm_instructions.specs.Instructions.{Instruction}
 use Rattle.herm_code_machine.specs.ReadyCode.{ReadyCode}
 use Rattle.herm_translated.specs.Fronts.{front, type_of}
 use Rattle.herm_simulation.specs.FrontsInPlace.{LeadsOut}
-use Rattle.herm_simulation.specs.laws.FrontLaws.{FrontsDo}
 use Rattle.herm_simulation.proofs.DoneFronts.{fronts-do_forms, stuck-goes}
 use Rattle.herm_simulation.proofs.PiecesBegin.{IsLocalRow, behind-local, one-local, expression-local, atoms-local}
 

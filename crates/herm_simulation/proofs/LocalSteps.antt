@@ -1,16 +1,15 @@
 -- A local step of the source is one of the code, and leads to where the code stands beside it again.
-use Rattle.std.proofs.Common.{◌≡◌, ◌⊎◌, inl, inr, ℕ, zero, suc, ◌+◌, List, [], ◌∷◌, ◌++◌, map, length, Bool, true, false, cond, Option, Some, None, option_map, option_and_then, slice_get, refl, sym, ap, ap₂, subst, ◌∙◌, arith, true≢false}
+use Rattle.std.proofs.Common.{◌≡◌, ◌⊎◌, inl, inr, ℕ, zero, suc, ◌+◌, List, [], ◌∷◌, Bool, true, false, cond, Option, Some, None, slice_get, refl, sym, ap, ap₂, subst, ◌∙◌, arith, true≢false}
 use Rattle.std.specs.Prelude.{⊤, drop}
 use Rattle.herm_model.specs.Lists.{IsIn}
 use Rattle.herm_model.specs.Paths.{Path}
 use Rattle.herm_model.specs.Nodes.{Node}
-use Rattle.herm_model.specs.Exits.{Exit}
 use Rattle.herm_model.specs.Outcomes.{Outcome, ok, done, outcomes}
 use Rattle.herm_model.specs.Statements.{Form, For, Leave}
 use Rattle.herm_model.specs.Targets.{Target}
 use Rattle.herm_model.specs.Values.{Name, Cell}
 use Rattle.herm_model.proofs.FactTests.{got-IsIn}
-use Rattle.herm_model.proofs.Options.{none-not_some, some-injective, map-some}
+use Rattle.herm_model.proofs.Options.{none-not_some, map-some}
 use Rattle.herm_forms.specs.Acts.{act, is_action, leads_to}
 use Rattle.herm_forms.specs.EdgeFinalising.{arrive}
 use Rattle.herm_forms.specs.Frames.{Frame, Completion, goes, stays, stuck, counted_step}
@@ -24,7 +23,7 @@ use Rattle.herm_instructions.specs.Images.{instruction_at}
 use Rattle.herm_instructions.specs.Instructions
 use Rattle.herm_instructions.specs.Instructions.{Instruction, Step}
 use Rattle.herm_code_machine.specs.CodeLocal.{IsLocallySoundCode}
-use Rattle.herm_code_machine.specs.CodeStates.{Position, at_index, CodeState, to_next_piece}
+use Rattle.herm_code_machine.specs.CodeStates.{at_index, CodeState, to_next_piece}
 use Rattle.herm_code_machine.specs.CodeSteps
 use Rattle.herm_code_machine.specs.CodeSteps.{CodeNext, a_local_piece, code_next, code_local_step}
 use Rattle.herm_code_machine.specs.Pieces.{Piece, action_from}
@@ -42,9 +41,9 @@ use Rattle.herm_simulation.proofs.Beside.{Beside, AtNode, at-node, lists-first, 
 use Rattle.herm_simulation.proofs.DoneFronts.{fronts-do_forms, same-outcome}
 use Rattle.herm_simulation.proofs.InPlace.{Coded, types, variables, constants, source_code, checked_code, blocks, code, ready, nodes, begins_at, block, slots_of, exit, block-here, front_here, front-stands, edge-stands}
 use Rattle.herm_simulation.proofs.Leading.{leads-then, leads-one}
-use Rattle.herm_simulation.proofs.LocalForms.{IsLoop, IsLeave, front-leads, front-local}
-use Rattle.herm_simulation.proofs.PiecesBegin.{IsLocalRow, no-action, stand-dropped, edge-local}
-use Rattle.herm_simulation.proofs.SourceSide.{HasLists, not-own, loop-slots, typed-here, first-listed, numbers_of, IsLeft, step-left}
+use Rattle.herm_simulation.proofs.LocalForms.{IsLeave, front-leads, front-local}
+use Rattle.herm_simulation.proofs.PiecesBegin.{no-action, stand-dropped, edge-local}
+use Rattle.herm_simulation.proofs.SourceSide.{HasLists, not-own, loop-slots, typed-here, first-listed, numbers_of, step-left}
 
 -- what a form does depends on types and variables alone
 pub act-scope : (k : Coded) (number : ℕ) (form : Form) (b : Frame Name) → act own_name (source_code k) number form b ≡ act own_name (ready k).scope number form b

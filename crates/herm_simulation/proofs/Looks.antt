@@ -1,15 +1,13 @@
 -- Processes beside each other stand alike, want the same, look at the same ports and have the same calls open.
-use Rattle.std.proofs.Common.{◌≡◌, ◌⊎◌, inl, inr, ℕ, zero, suc, ◌+◌, List, [], ◌∷◌, ◌++◌, map, length, Bool, true, false, cond, Option, Some, None, option_map, option_and_then, slice_get, refl, sym, ap, ap₂, subst, ◌∙◌, arith, true≢false}
+use Rattle.std.proofs.Common.{◌≡◌, ◌⊎◌, inl, inr, ℕ, zero, suc, ◌+◌, [], ◌∷◌, Bool, true, false, cond, Option, Some, None, option_map, option_and_then, refl, sym, ap, ap₂, subst, ◌∙◌, arith, true≢false}
 use Rattle.std.specs.Prelude.{drop, find, nat_lt}
-use Rattle.herm_model.specs.Paths.{Path}
 use Rattle.herm_model.specs.Types.{type_at}
 use Rattle.herm_model.specs.Nodes.{Node}
-use Rattle.herm_model.specs.Statements.{Form, Receive, Select, Call}
+use Rattle.herm_model.specs.Statements.{Form, Receive, Select}
 use Rattle.herm_model.specs.Targets.{Target, node, end, end_by}
-use Rattle.herm_model.specs.Values.{Name, Cell, Value}
+use Rattle.herm_model.specs.Values.{Name}
 use Rattle.herm_model.proofs.Options.{none-not_some}
 use Rattle.herm_forms.specs.Acts.{is_action, wants}
-use Rattle.herm_forms.specs.ClosesAndAnswers
 use Rattle.herm_forms.specs.Frames.{Frame}
 use Rattle.herm_forms.specs.Incoming.{leads_from, looked_at, ports_of as form_ports}
 use Rattle.herm_forms.specs.OpenCalls.{Calling, calling_form, call_type}
@@ -18,10 +16,8 @@ use Rattle.herm_source.specs.States.{State, own_name, node_at, next_of, wanted}
 use Rattle.herm_source.specs.StepLimit as limits
 use Rattle.herm_source.specs.StepLimit.{ready_in}
 use Rattle.herm_source.specs.SeenBySystem.{port_type, open_call}
-use Rattle.herm_source.specs.Local.{calling}
 use Rattle.herm_source.proofs.sound.OneModule.{StandsWell}
 use Rattle.herm_system.specs.Machines.{Standing, local, out_of_steps, to_act, greatest_actions, OpenCall}
-use Rattle.herm_journal.specs.Messages.{CellWant}
 use Rattle.herm_instructions.specs.Images.{instruction_at}
 use Rattle.herm_instructions.specs.Instructions.{Instruction, Step}
 use Rattle.herm_code_machine.specs.CodeActions.{code_wants}
@@ -30,15 +26,14 @@ use Rattle.herm_code_machine.specs.CodeSeen.{ports_of, action_at, code_port_type
 use Rattle.herm_code_machine.specs.CodeStates.{Position, at_index, at_end, at_end_by, CodeState}
 use Rattle.herm_code_machine.specs.CodeSteps
 use Rattle.herm_code_machine.specs.CodeSteps.{code_next, code_ready, code_wanted, met_at}
-use Rattle.herm_code_machine.specs.Pieces.{Met, Piece, action_from, action_of, piece_at, piece_by, stack_before_action}
+use Rattle.herm_code_machine.specs.Pieces.{Met, action_from, action_of, piece_by}
 use Rattle.herm_simulation.specs.Leading.{StandFrom}
 use Rattle.herm_simulation.specs.Standing.{IsAtPoint}
 use Rattle.herm_simulation.proofs.ActingCalls.{main}
-use Rattle.herm_simulation.proofs.ActingForms.{Acting}
 use Rattle.herm_simulation.proofs.Arrivals.{step-at}
-use Rattle.herm_simulation.proofs.Beside.{Beside, AtNode, at-node}
-use Rattle.herm_simulation.proofs.InPlace.{Coded, types, variables, constants, source_code, checked_code, blocks, code, ready, nodes, begins_at, block, block-here, no-block}
-use Rattle.herm_simulation.proofs.Nexts.{Nexts, on_item, on_reply, on_action, on_local, on_nothing, nexts, IsOpen, open-at, acting-here, action-at_first, action-met, local-piece, calls-or, same-call}
+use Rattle.herm_simulation.proofs.Beside.{Beside, at-node}
+use Rattle.herm_simulation.proofs.InPlace.{Coded, types, variables, constants, source_code, checked_code, code, ready, begins_at, block, block-here, no-block}
+use Rattle.herm_simulation.proofs.Nexts.{Nexts, on_item, on_reply, on_action, on_local, on_nothing, nexts, open-at, acting-here, action-at_first, action-met, local-piece, calls-or, same-call}
 use Rattle.herm_simulation.proofs.PiecesBegin.{acts-first, stand-dropped}
 
 module _ (k : Coded) (x : State Name) (y : CodeState Name) (stands : StandsWell k.exceptions (types k) k.processes k.process k.labels k.sound x) (beside : Beside k x y) (sound : IsLocallySoundCode (ready k) y) where

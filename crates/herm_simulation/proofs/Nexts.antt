@@ -1,15 +1,13 @@
 -- What comes next in the code, where something comes next in the source.
-use Rattle.std.proofs.Common.{◌≡◌, ◌⊎◌, inl, inr, ℕ, zero, suc, ◌+◌, List, [], ◌∷◌, ◌++◌, map, length, Bool, true, false, cond, Option, Some, None, option_map, option_and_then, slice_get, refl, sym, ap, ap₂, subst, ◌∙◌, arith, true≢false}
-use Rattle.std.specs.Prelude.{drop, IsTrue, IsFalse}
-use Rattle.herm_model.specs.Lists.{IsIn}
+use Rattle.std.proofs.Common.{◌≡◌, ◌⊎◌, inl, inr, ℕ, suc, ◌+◌, List, [], ◌∷◌, ◌++◌, length, Bool, true, false, Option, Some, None, refl, sym, ap, ap₂, subst, ◌∙◌, arith, true≢false}
+use Rattle.std.specs.Prelude.{drop}
 use Rattle.herm_model.specs.Paths.{Path}
 use Rattle.herm_model.specs.Expressions.{Atom}
 use Rattle.herm_model.specs.Nodes.{Node}
-use Rattle.herm_model.specs.Outcomes.{Outcome}
 use Rattle.herm_model.specs.Statements.{Form, Call, For}
 use Rattle.herm_model.specs.Targets.{Target, node, end, end_by}
 use Rattle.herm_model.specs.Values.{Name, Cell}
-use Rattle.herm_model.proofs.Options.{none-not_some, some-injective, map-some}
+use Rattle.herm_model.proofs.Options.{none-not_some, map-some}
 use Rattle.herm_forms.specs.Acts.{is_action, act, leads_to}
 use Rattle.herm_forms.specs.EdgeFinalising.{arrive}
 use Rattle.herm_forms.specs.Frames.{Frame, Completion, goes, stays, stuck, counted_step}
@@ -18,11 +16,11 @@ use Rattle.herm_source.specs.States as states
 use Rattle.herm_source.specs.States.{State, Next, own_name, node_at, next_of, state_after}
 use Rattle.herm_source.proofs.sound.OneModule.{StandsWell, step-there}
 use Rattle.herm_instructions.specs.Images.{instruction_at}
-use Rattle.herm_instructions.specs.Instructions.{Instruction, Step}
+use Rattle.herm_instructions.specs.Instructions.{Step}
 use Rattle.herm_code_machine.specs.CodeLocal.{IsLocallySoundCode}
 use Rattle.herm_code_machine.specs.CodeStates.{Position, at_index, at_end, at_end_by, CodeState}
-use Rattle.herm_code_machine.specs.CodeSteps.{CodeNext, an_item, a_reply, an_action, a_local_piece, nothing, code_next, item_or, call_or_piece, by_met, met_at}
-use Rattle.herm_code_machine.specs.Pieces.{Met, Piece, action_from, stack_before_action, behind_operands}
+use Rattle.herm_code_machine.specs.CodeSteps.{an_item, a_reply, an_action, a_local_piece, nothing, code_next, item_or, call_or_piece, by_met}
+use Rattle.herm_code_machine.specs.Pieces.{action_from, stack_before_action, behind_operands}
 use Rattle.herm_translated.specs.BlockLabels.{comes_again}
 use Rattle.herm_translated.specs.Fronts.{front_length}
 use Rattle.herm_translated.proofs.Joined.{length-joined}
@@ -32,9 +30,9 @@ use Rattle.herm_simulation.proofs.ActingCalls.{main, before, front-at, call-acts
 use Rattle.herm_simulation.proofs.ActingForms.{Acting, each-acts, operands-first}
 use Rattle.herm_simulation.proofs.Arrivals.{step-at}
 use Rattle.herm_simulation.proofs.Beside.{Beside, AtNode, at-node, next-at_step}
-use Rattle.herm_simulation.proofs.InPlace.{Coded, types, variables, constants, source_code, checked_code, blocks, code, ready, nodes, begins_at, block, block-here, no-block, front-stands}
+use Rattle.herm_simulation.proofs.InPlace.{Coded, types, variables, constants, source_code, checked_code, blocks, code, ready, begins_at, block, block-here, no-block, front-stands}
 use Rattle.herm_simulation.proofs.Leading.{stand-first, stand-right}
-use Rattle.herm_simulation.proofs.LocalSteps.{Runs, runs-by, never-stays}
+use Rattle.herm_simulation.proofs.LocalSteps.{runs-by, never-stays}
 use Rattle.herm_simulation.proofs.PiecesBegin.{IsFirst, acts-first, stand-dropped}
 use Rattle.herm_simulation.proofs.SourceSide.{values-here, found-here}
 

@@ -1,17 +1,16 @@
 -- Which piece begins at a step: whether an action comes at once behind operands, or none.
-use Rattle.std.proofs.Common.{◌≡◌, ◌⊎◌, inl, inr, ℕ, zero, suc, ◌+◌, List, [], ◌∷◌, ◌++◌, map, length, Bool, true, false, cond, Option, Some, None, slice_get, refl, sym, ap, subst, ◌∙◌, arith, true≢false}
+use Rattle.std.proofs.Common.{◌≡◌, ◌⊎◌, inl, inr, ℕ, zero, suc, ◌+◌, List, [], ◌∷◌, ◌++◌, map, length, Bool, true, false, cond, Some, None, slice_get, refl, sym, ap, subst, ◌∙◌, arith, true≢false}
 use Rattle.std.specs.Prelude.{drop, flat_map}
 use Rattle.herm_model.specs.Lists.{IsIn}
 use Rattle.herm_model.specs.Types.{TypeTable}
 use Rattle.herm_model.specs.Expressions.{Literal, Expression, Atom}
-use Rattle.herm_model.proofs.Lists.{in-append_left, in-append_right, in-append_cases}
+use Rattle.herm_model.proofs.Lists.{in-append_right, in-append_cases}
 use Rattle.herm_model.proofs.Options.{none-not_some, some-injective}
 use Rattle.herm_instructions.specs.Actions.{is_action}
-use Rattle.herm_instructions.specs.Instructions.{Instruction, Const, Load, Size, Apply, Combine, Drop, LoopDrop}
-use Rattle.herm_instructions.specs.Images.{instruction_at}
+use Rattle.herm_instructions.specs.Instructions.{Instruction, Drop, LoopDrop}
 use Rattle.herm_instructions.specs.Pieces.{is_operand}
 use Rattle.herm_code_machine.specs.ReadyCode.{ReadyCode}
-use Rattle.herm_code_machine.specs.Pieces.{Met, action_from}
+use Rattle.herm_code_machine.specs.Pieces.{action_from}
 use Rattle.herm_translated.specs.Departures.{Arrival, to_block, to_second_step, to_end, to_end_by, Departure, edge_code, arrive_by}
 use Rattle.herm_translated.specs.Fronts.{expression_code, atom_code}
 use Rattle.herm_translated.proofs.EachInstruction.{expression-each, atoms-each}

@@ -1,20 +1,20 @@
 -- The exceptions of the instructions of expressions are those that they list.
-use Rattle.std.proofs.Common.{◌≡◌, ℕ, List, [], ◌∷◌, ◌++◌, Bool, true, false, Option, Some, None, slice_get, refl, sym, ap, ap₂, subst, ◌∙◌}
+use Rattle.std.proofs.Common.{◌≡◌, ℕ, List, [], ◌∷◌, ◌++◌, Bool, true, false, Option, Some, None, slice_get, refl, ap, ap₂, subst, ◌∙◌}
 use Rattle.std.specs.Prelude.{◌||◌}
 use Rattle.herm_model.specs.Lists.{IsIn}
 use Rattle.herm_model.specs.Types.{TypeTable}
-use Rattle.herm_model.specs.Expressions.{Literal, boolean, integer, text, tag, Operator, Expression, literal, operation, is_arithmetic, is_joining}
-use Rattle.herm_model.specs.Outcomes.{Outcome, ok, raised, overflow, depletion, listed_if, raised_by}
-use Rattle.herm_model.specs.Values.{Name, Scalar, a_boolean, an_integer, a_text, a_tag, Kind, a_scalar, a_table, Cell, cell, no_parts, read_at, Value}
+use Rattle.herm_model.specs.Expressions.{Literal, boolean, integer, text, tag, Operator, literal, operation, is_arithmetic, is_joining}
+use Rattle.herm_model.specs.Outcomes.{raised, overflow, depletion, listed_if}
+use Rattle.herm_model.specs.Values.{Name, Scalar, a_boolean, an_integer, a_text, a_tag, a_scalar, a_table, Cell, cell, no_parts, read_at, Value}
 use Rattle.herm_model.proofs.Options.{none-not_some, some-injective}
 use Rattle.herm_forms.specs.Evaluate.{Evaluated, gives, raises, no_value, scalar_then, two_then, operate, scalar_of, value_there, rows_there}
-use Rattle.herm_forms.specs.Frames.{Frame, Completion, goes, stays, stuck}
+use Rattle.herm_forms.specs.Frames.{Frame, Completion, goes}
 use Rattle.herm_forms.proofs.evaluated.RaisedExceptions.{raises-its}
 use Rattle.herm_instructions.specs.Instructions.{UnaryOperator, negative, complement, as_text, text_length, Instruction, Const, Load, Size, Apply, Combine}
 use Rattle.herm_instructions.specs.Effects.{exceptions_of, is_negative}
 use Rattle.herm_code_machine.specs.ExpressionCode.{unary}
 use Rattle.herm_code_machine.specs.ReadyCode.{ReadyCode}
-use Rattle.herm_code_machine.specs.Stacks.{pushing, with_top, with_two}
+use Rattle.herm_code_machine.specs.Stacks.{pushing}
 use Rattle.herm_code_machine.specs.Effects.{effect, applied, constant_value}
 
 -- the exception of a completion

@@ -1,5 +1,5 @@
 -- Instructions in a row lead on to the next one behind them, or to the landing of an exception.
-use Rattle.std.proofs.Common.{◌≡◌, ℕ, suc, ◌+◌, List, [], ◌∷◌, ◌++◌, length, Bool, true, false, Option, Some, None, slice_get, inl, inr, refl, sym, ap, subst, ◌∙◌, arith}
+use Rattle.std.proofs.Common.{◌≡◌, ℕ, suc, ◌+◌, List, [], ◌∷◌, ◌++◌, length, false, Some, inl, inr, refl, ap, subst, ◌∙◌, arith}
 use Rattle.std.specs.Prelude.{⊤, flat_map}
 use Rattle.herm_model.specs.Lists.{IsIn}
 use Rattle.herm_model.specs.Types.{TypeTable}
@@ -9,7 +9,7 @@ use Rattle.herm_model.specs.Values.{Name, Value}
 use Rattle.herm_forms.specs.Frames.{Frame, Completion, goes, stays, stuck}
 use Rattle.herm_instructions.specs.Actions.{is_action}
 use Rattle.herm_instructions.specs.Effects.{exceptions_of}
-use Rattle.herm_instructions.specs.Instructions.{Instruction, Const, Load, Size, Apply, Combine}
+use Rattle.herm_instructions.specs.Instructions.{Instruction}
 use Rattle.herm_instructions.specs.Images.{landing_of}
 use Rattle.herm_code_machine.specs.CodeStates.{CodeState, leads, begins_piece}
 use Rattle.herm_code_machine.specs.Effects.{effect}

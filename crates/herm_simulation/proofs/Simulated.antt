@@ -1,21 +1,18 @@
 -- The source machine of a checked program and the machine of its image are joined.
-use Rattle.std.proofs.Common.{◌≡◌, ◌⊎◌, inl, inr, ℕ, zero, suc, List, [], ◌∷◌, map, length, Bool, true, false, cond, Option, Some, None, option_map, option_and_then, slice_get, refl, sym, ap, ap₂, subst, ◌∙◌, true≢false}
-use Rattle.std.specs.Prelude.{filter, flat_map, not, IsTrue, ⊤}
+use Rattle.std.proofs.Common.{◌≡◌, inl, inr, ℕ, List, [], ◌∷◌, map, length, Bool, true, false, Option, Some, None, option_map, option_and_then, slice_get, refl, sym, ap, subst, ◌∙◌}
+use Rattle.std.specs.Prelude.{filter, flat_map, not}
 use Rattle.herm_model.specs.Lists.{IsIn}
 use Rattle.herm_model.specs.Expressions.{Literal}
 use Rattle.herm_model.specs.Nodes.{Node, process_nodes}
-use Rattle.herm_model.specs.Statements.{Form}
-use Rattle.herm_model.specs.Targets.{node}
 use Rattle.herm_model.specs.Values.{Name, an_inport, Cell, cell, no_parts}
 use Rattle.herm_model.proofs.FactTests.{got-IsIn}
 use Rattle.herm_model.proofs.Lists.{in-map, in-flat_map, in-filter, slice_get-map, length-map}
 use Rattle.herm_model.proofs.Options.{none-not_some, some-injective}
 use Rattle.herm_journal.specs.Entries.{Place}
 use Rattle.herm_journal.specs.Messages.{CellAction}
-use Rattle.herm_forms.specs.Frames.{Frame, counted_action}
+use Rattle.herm_forms.specs.Frames.{counted_action}
 use Rattle.herm_forms.specs.Modules.{Module, module_of}
-use Rattle.herm_source.specs.Checked.{IsChecked}
-use Rattle.herm_source.specs.Instance.{source, code_at as source_code_at, ready_if as source_ready_if, IsSoundIn}
+use Rattle.herm_source.specs.Instance.{source, code_at as source_code_at, ready_if as source_ready_if}
 use Rattle.herm_source.specs.Local.{IsLocallySound}
 use Rattle.herm_source.specs.Modules.{Program, Modules}
 use Rattle.herm_source.specs.SeenBySystem.{port_type, open_call}
@@ -24,7 +21,7 @@ use Rattle.herm_source.specs.laws.SoundProcesses.{IsSoundProcess}
 use Rattle.herm_source.proofs.Numbers.{local-stays, answer-stays}
 use Rattle.herm_source.proofs.sound.GoingOn.{checked-processes-go-on}
 use Rattle.herm_source.proofs.sound.OneModule.{StandsWell}
-use Rattle.herm_source.proofs.sound.SoundProcesses.{StandsInModule, module-at, well-in, suits-code, stay-sound, steps-there}
+use Rattle.herm_source.proofs.sound.SoundProcesses.{StandsInModule, module-at, suits-code, stay-sound, steps-there}
 use Rattle.herm_system.specs.Machines.{is_local}
 use Rattle.herm_system.specs.Suiting.{Fulfils, Suits}
 use Rattle.herm_system.specs.Systems.{number_of}
@@ -36,15 +33,15 @@ use Rattle.herm_code_machine.specs.CodeInstance.{code_at, ready_if, code_machine
 use Rattle.herm_code_machine.specs.CodeLocal.{IsLocallySoundCode, IsSoundCodeIn}
 use Rattle.herm_code_machine.specs.CodeSeen.{code_port_type, code_open_call}
 use Rattle.herm_code_machine.specs.CodeStates.{CodeState, code_begin}
-use Rattle.herm_code_machine.specs.CodeSteps.{code_ready, code_wanted, code_local_step, code_answered}
+use Rattle.herm_code_machine.specs.CodeSteps.{code_wanted, code_local_step, code_answered}
 use Rattle.herm_code_machine.specs.ReadyCode.{ReadyCode, ReadyImage, ready_code}
 use Rattle.herm_code_machine.specs.laws.GoodImageLaws.{StepsAreSound, ActionsAreSound}
 use Rattle.herm_code_machine.proofs.sound.ItemSteps.{answers-sound}
 use Rattle.herm_code_machine.proofs.sound.Processes.{steps-sound}
-use Rattle.herm_translation.specs.StandsFor.{BelongsTo, MayStandAt, StandsFor, AreCodesFor}
+use Rattle.herm_translation.specs.StandsFor.{BelongsTo, MayStandAt, AreCodesFor}
 use Rattle.herm_translation.proofs.Looks.{standing-looks}
 use Rattle.herm_translated.specs.CodeBlocks.{CheckedModule, slots_around}
-use Rattle.herm_translated.specs.Constants.{same_literal, literals_in, once, constants_of}
+use Rattle.herm_translated.specs.Constants.{same_literal, literals_in, once}
 use Rattle.herm_translated.specs.Translated.{code_of, forms_in, image_for}
 use Rattle.herm_translated.specs.laws.CheckedBlocks.{checked as checked_by}
 use Rattle.herm_translated.proofs.FoundConstants.{same_literal-is}
@@ -56,7 +53,7 @@ use Rattle.herm_simulation.specs.laws.SimulationLaws.{CodeIsJoined}
 use Rattle.herm_simulation.proofs.Answers.{answers-beside}
 use Rattle.herm_simulation.proofs.Begun.{begins-beside}
 use Rattle.herm_simulation.proofs.Beside.{Beside}
-use Rattle.herm_simulation.proofs.InPlace.{Coded, checked_code, source_code, ready}
+use Rattle.herm_simulation.proofs.InPlace.{Coded, source_code, ready}
 use Rattle.herm_simulation.proofs.Indices.{belongs, stands-there}
 use Rattle.herm_simulation.proofs.LocalSteps.{steps-beside}
 use Rattle.herm_simulation.proofs.Looks.{ready-same, wanted-same, ports-same, calls-same}

@@ -1,36 +1,36 @@
 -- What the source leaves behind an outcome: sound values, the lists of the loops around, and no open call.
-use Rattle.std.proofs.Common.{◌≡◌, ◌⊎◌, inl, inr, ℕ, zero, suc, ◌+◌, List, [], ◌∷◌, ◌++◌, map, Bool, true, false, cond, nat_eq, Option, Some, None, option_map, option_and_then, slice_get, refl, sym, ap, ap₂, subst, ◌∙◌, true≢false}
-use Rattle.std.specs.Prelude.{IsTrue, IsFalse, ◌&&◌, not}
+use Rattle.std.proofs.Common.{◌≡◌, ◌⊎◌, inl, inr, ℕ, ◌+◌, List, [], ◌∷◌, ◌++◌, map, Bool, true, false, cond, nat_eq, Option, Some, None, option_and_then, slice_get, refl, sym, ap, subst, ◌∙◌, true≢false}
+use Rattle.std.specs.Prelude.{not}
 use Rattle.std.proofs.lemmas.Bool.{eq-eqb, eqb-true}
 use Rattle.herm_model.specs.Lists.{IsIn, list_of, map_or, any_pass}
 use Rattle.herm_model.specs.Calls.{shape_at}
-use Rattle.herm_model.specs.Paths.{Path, Fact, init, case, path_of, is_at_or_below}
+use Rattle.herm_model.specs.Paths.{Path, path_of, is_at_or_below}
 use Rattle.herm_model.specs.Types.{rows}
 use Rattle.herm_model.specs.ControlPaths.{flow_of, IsReached}
 use Rattle.herm_model.specs.Labels.{label_at}
 use Rattle.herm_model.specs.Nodes.{Node}
 use Rattle.herm_model.specs.Outcomes.{Outcome, ok}
-use Rattle.herm_model.specs.Statements.{Form, For, Differ}
-use Rattle.herm_model.specs.Targets.{Target, node, end, end_by}
+use Rattle.herm_model.specs.Statements.{Form, For}
+use Rattle.herm_model.specs.Targets.{node}
 use Rattle.herm_model.specs.Values.{Name, Cell, Parts, parts_of, read_at}
 use Rattle.herm_model.specs.CellNames.{count_in, copy_in}
 use Rattle.herm_model.proofs.FactTests.{got-IsIn}
 use Rattle.herm_model.proofs.Lists.{in-map_from, in-append_cases, cons-head, cons-not_nil, and-both}
 use Rattle.herm_model.proofs.NodeNumbers.{process_numbers-Rise}
-use Rattle.herm_model.proofs.Options.{none-not_some, some-injective}
+use Rattle.herm_model.proofs.Options.{none-not_some}
 use Rattle.herm_model.proofs.TypedCalls.{shape-is}
 use Rattle.herm_forms.specs.Acts.{act}
 use Rattle.herm_forms.specs.Frames.{Loop, Frame, Completion, goes, stays, stuck, if_there, counted_step}
-use Rattle.herm_forms.specs.LoopForms.{rows_for, next_row, visit}
+use Rattle.herm_forms.specs.LoopForms.{rows_for}
 use Rattle.herm_forms.specs.LeavingLoops.{is_inside}
 use Rattle.herm_forms.specs.OpenCalls.{lent_paths}
 use Rattle.herm_forms.specs.laws.EdgeLaws.{AreSound, held_after}
 use Rattle.herm_forms.specs.laws.FormsSound.{AreSameLoops}
 use Rattle.herm_forms.specs.laws.TypedForms.{IsTypedIn}
-use Rattle.herm_forms.proofs.KeptBodies.{All, went, stayed, never, IsVisit, all-act}
+use Rattle.herm_forms.proofs.KeptBodies.{All, went, stayed, never, all-act}
 use Rattle.herm_forms.proofs.forms.PlainForms.{same_facts}
 use Rattle.herm_forms.proofs.forms.VisitedLoops.{visited-loops}
-use Rattle.herm_source.specs.Local.{calling, row_of, row_type, IsLabelled}
+use Rattle.herm_source.specs.Local.{calling, row_of, row_type}
 use Rattle.herm_source.specs.States.{State, own_name, node_at}
 use Rattle.herm_source.proofs.placed.PlacedSteps.{find-own}
 use Rattle.herm_source.proofs.reached.FoundNeeds.{labelled}
@@ -48,7 +48,7 @@ use Rattle.herm_translated.specs.CodeBlocks.{number_at, is_around, own_slot, slo
 use Rattle.herm_translated.proofs.Joined.{map-joined}
 use Rattle.herm_simulation.specs.laws.EdgeLaws.{AreListsOf}
 use Rattle.herm_simulation.proofs.DoneFronts.{outcome_in, same-outcome, same-frame, stuck-goes}
-use Rattle.herm_simulation.proofs.InPlace.{Coded, types, variables, constants, source_code, ready, nodes, slots_of}
+use Rattle.herm_simulation.proofs.InPlace.{Coded, types, variables, source_code, ready, nodes, slots_of}
 use Rattle.herm_simulation.proofs.LoopsLeft.{statements}
 
 abbrev pub numbers_of : List Slot → List ℕ

@@ -1,5 +1,5 @@
 -- What a check gives of a process, where it is right.
-use Rattle.std.specs.Prelude.{ℕ, List, Option, Some, slice_get, IsTrue, ◌↔◌, ◌≡◌}
+use Rattle.std.specs.Prelude.{ℕ, List, Some, slice_get, IsTrue, ◌↔◌, ◌≡◌}
 use Rattle.herm_model.specs.Lists.{IsIn, list_of}
 use Rattle.herm_model.specs.Paths.{Path, Fact, init}
 use Rattle.herm_model.specs.Nodes.{Node}

@@ -1,5 +1,5 @@
 -- Instructions in a row, and the states that runs of code lead through.
-use Rattle.std.specs.Prelude.{ℕ, ◌+◌, List, [], Some, slice_get, ◌≡◌}
+use Rattle.std.specs.Prelude.{ℕ, ◌+◌, List, Some, slice_get, ◌≡◌}
 use Rattle.herm_model.specs.Values.{Name, Value}
 use Rattle.herm_forms.specs.Frames.{Frame}
 use Rattle.herm_instructions.specs.Instructions.{Instruction}

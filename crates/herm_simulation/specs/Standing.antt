@@ -1,5 +1,5 @@
 -- Where a process of code stands that does what a process of the source does.
-use Rattle.std.specs.Prelude.{ℕ, suc, ◌+◌, List, true, Bool, Option, Some, None, slice_get, ◌≡◌, ◌⊎◌, ⊤}
+use Rattle.std.specs.Prelude.{ℕ, ◌+◌, List, true, Bool, Option, Some, None, slice_get, ◌≡◌, ◌⊎◌, ⊤}
 use Rattle.herm_model.specs.Paths.{Path}
 use Rattle.herm_model.specs.Expressions.{Literal, Atom}
 use Rattle.herm_model.specs.Statements.{Call, For}

@@ -11,8 +11,7 @@ use Rattle.herm_forms.specs.Frames.{Loop, Frame}
 use Rattle.herm_forms.specs.Modules.{Module}
 use Rattle.herm_instructions.specs.Labels.{Slot}
 use Rattle.herm_code_machine.specs.ReadyCode.{ReadyCode, scope_of}
-use Rattle.herm_code_machine.specs.CodeStates.{CodeState}
-use Rattle.herm_translated.specs.Departures.{Departure, edge_code}
+use Rattle.herm_translated.specs.Departures.{edge_code}
 use Rattle.herm_translated.specs.CodeBlocks.{arrival_at, departure}
 use Rattle.herm_simulation.specs.Leading.{StandFrom, state_at, LeadsTo, arrived_at}
 

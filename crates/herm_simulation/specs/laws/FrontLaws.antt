@@ -4,7 +4,6 @@ use Rattle.herm_model.specs.Paths.{Path}
 use Rattle.herm_model.specs.Expressions.{Expression, Atom}
 use Rattle.herm_model.specs.Statements.{Form, Assign, Move, New, Discard, Unite, Dissolve, Reveal, Case, Wrap, Unwrap, Insert, Remove, Get, For, Connect, If, While, Raise, Leave}
 use Rattle.herm_model.specs.Values.{Name, Parts}
-use Rattle.herm_forms.specs.Frames.{Frame}
 use Rattle.herm_forms.specs.LoopForms.{rows_for}
 use Rattle.herm_code_machine.specs.ReadyCode.{ReadyCode}
 use Rattle.herm_simulation.specs.FrontsInPlace.{LeadsOut}

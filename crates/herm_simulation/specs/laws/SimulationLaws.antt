@@ -4,7 +4,6 @@ use Rattle.herm_model.specs.Typed.{is_text}
 use Rattle.herm_model.specs.Values.{Name}
 use Rattle.herm_journal.specs.Entries.{Text}
 use Rattle.herm_journal.specs.NextNumbers.{Limits}
-use Rattle.herm_system.specs.Machines.{Machine}
 use Rattle.herm_system.specs.Systems.{Event, Run, run, start}
 use Rattle.herm_system.specs.Rounds.{rounds}
 use Rattle.herm_runs.specs.Joining.{AreJoined, LookAlike, turned}
