@@ -21,3 +21,4 @@ pub mod Begun
 pub mod Indices
 pub mod Simulated
 pub mod RunsAlike
+pub mod RightByRounds

@@ -4,3 +4,4 @@ pub mod Checks
 pub mod Standing
 pub mod Simulating
 pub mod laws
+pub mod examples

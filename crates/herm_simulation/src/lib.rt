@@ -2,5 +2,6 @@
 #![tactic(auto)]
 
 pub mod edges;
+pub mod examples;
 pub mod fronts;
 pub mod simulation;

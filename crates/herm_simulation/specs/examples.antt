@@ -1,0 +1,2 @@
+-- Programs with their images.
+pub mod TranslatedExamples
