@@ -1,5 +1,5 @@
 //! A list of rows with different keys.
-ghost use Rattle.std.specs.Prelude.{◌≡◌, ◌+◌, ◌<◌, ◌≤◌, ℕ, List, [], ◌∷◌, ◌++◌, ◌&&◌, not, nat_le, length, find, IfErr, IfSome, OnErr, OnOk, IfNone, Some, option_copied, option_map, slice_get};
+ghost use Rattle.std.specs.Prelude.{◌≡◌, ◌+◌, ◌<◌, ◌≤◌, ℕ, List, [], ◌∷◌, ◌++◌, ◌&&◌, not, nat_le, length, find, IfErr, IfOk, IfSome, OnErr, OnOk, IfNone, Some, option_copied, option_map, slice_get};
 ghost use Rattle.std.specs.List.{list_any};
 ghost use Rattle.herm_links.specs.Lists.{first_node};
 ghost use Rattle.herm_rows.specs.Keys.{has_key, is_key_of, HaveDifferentKeys, most_rows, rows_of, without};
@@ -9,7 +9,7 @@ ghost use Rattle.herm_rows.specs.Faults.{refused_row, is_duplicate, is_full};
 use crate::index::{place_of_key, place_of_row, put, remove};
 use crate::row::Row;
 use herm_links::{Links, ListNo, NodeNo};
-use std::alloc::Global;
+use std::alloc::{AllocError, Global};
 use std::marker::Model;
 
 /// The greatest number of rows.
@@ -58,6 +58,18 @@ impl<R: Row> Rows<R> {
             list: None,
             index: Vec::new(alloc),
         }
+    }
+
+    /// No rows, and memory taken for so many.
+    pub fn with_room(alloc: Global, count: usize) -> Result<Rows<R>, AllocError>
+    where
+        R: Drop,
+        ensures none { IfOk result (λ rows. rows ≡ []) }
+    {
+        let mut rows = Rows::new(alloc);
+        rows.links.reserve(count)?;
+        rows.index.reserve(count)?;
+        Ok(rows)
     }
 
     /// The number of rows.

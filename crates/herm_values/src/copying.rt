@@ -1,5 +1,5 @@
 //! Copies of values.
-ghost use Rattle.std.specs.Prelude.{◌≡◌, ◌≤◌, ◌<◌, ◌++◌, ◌∷◌, [], false, length, map, IfOk, OnOk};
+ghost use Rattle.std.specs.Prelude.{◌≡◌, ◌≤◌, ◌<◌, ◌++◌, ◌∷◌, [], false, length, map, IfOk, IfSome, OnOk};
 ghost use Rattle.std.specs.List.{list_any};
 ghost use Rattle.herm_model.specs.Tables.{same_key};
 ghost use Rattle.herm_rows.specs.Keys.{rows_of, most_rows};
@@ -79,10 +79,11 @@ fn add_key(keys: &mut Rows<KeyRow>, row: KeyRow) -> Result<(), AllocError>
 fn copy_keys(alloc: Global, keys: &Rows<KeyRow>) -> Result<Rows<KeyRow>, AllocError>
     ensures { IfOk result (λ ks. map key_row_view (rows_of ks) ≡ map key_row_view (rows_of keys.now)) }
 {
-    let mut copies = Rows::new(alloc);
-    if keys.len() == 0 {
-        return Ok(copies);
+    let count = keys.len();
+    if count == 0 {
+        return Ok(Rows::new(alloc));
     }
+    let mut copies = Rows::with_room(alloc, count)?;
     let mut next = keys.first();
     'keys: while let Some(node) = next {
         let row = copy_row(alloc, keys.row(node))?;
@@ -166,6 +167,27 @@ fn copy_value(alloc: Global, v: &Value) -> Result<Value, AllocError>
     }
 }
 
+/// An equal value, where it has neither parts nor memory of its own.
+fn copy_plain(v: &Value) -> Option<Value>
+    requires whole { IsWhole v.now }
+    ensures keyed { IfSome result (λ copy. keyed_view copy ≡ keyed_view v.now) }
+    ensures whole { IfSome result IsWhole }
+{
+    match v {
+        Value::Bool(b) => Some(Value::Bool(*b)),
+        Value::Int(n) => Some(Value::Int(*n)),
+        Value::Tag(i) => Some(Value::Tag(*i)),
+        Value::Inport(port) => Some(Value::Inport(*port)),
+        Value::Outport(port) => Some(Value::Outport(*port)),
+        Value::Text(_) => None,
+        Value::Fields(_) => None,
+        Value::Case(_, _) => None,
+        Value::Table(_) => None,
+        Value::Poly(_) => None,
+        Value::Call(_) => None,
+    }
+}
+
 /// Copies of what stands at these places.
 #[cycle(copying)]
 fn copy_places(alloc: Global, places: &[Option<Value>]) -> Result<Vec<Option<Value>>, AllocError>
@@ -179,6 +201,10 @@ fn copy_places(alloc: Global, places: &[Option<Value>]) -> Result<Vec<Option<Val
             copies.push(None)?;
             continue;
         };
+        if let Some(plain) = copy_plain(v) {
+            copies.push(Some(plain))?;
+            continue;
+        }
         let copy = copy_value(alloc, v)?;
         copies.push(Some(copy))?;
     }

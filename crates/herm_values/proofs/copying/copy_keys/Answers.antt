@@ -15,8 +15,8 @@ add_key-requires c =
     let at = slice_get-map (λ e. e.1) c.args.keys.now n ∙ ap (option_map (λ e. e.1)) c.row.ensures.place in
     let so-far = ap (λ start. map key_row_view (rows_of c.keys.copies) ++ map key_row_view (drop (place_at c.args.keys.now start) (rows_of c.args.keys.now))) (sym c.in-Some.is) ∙ c.keys.invariant.whole in
     record {
-      new = new-key (rows_of c.args.keys.now) (rows_of c.keys.copies) n c.row.result.now c.in_ok-row.row c.len.ensures.keys at c.in_ok-row.ensures so-far;
-      few = few-copied (rows_of c.args.keys.now) (rows_of c.keys.copies) n c.row.result.now at so-far c.len.ensures.few;
+      new = new-key (rows_of c.args.keys.now) (rows_of c.keys.copies) n c.row.result.now c.in_ok-row.row c.len-count.ensures.keys at c.in_ok-row.ensures so-far;
+      few = few-copied (rows_of c.args.keys.now) (rows_of c.keys.copies) n c.row.result.now at so-far c.len-count.ensures.few;
     }
 
 pub keys-preserved : goal.keys-preserved
