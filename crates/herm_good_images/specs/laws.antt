@@ -1,2 +1,3 @@
+pub mod EnteredLoops
 pub mod GoodImages
 pub mod CheckedModulesExist

@@ -1,7 +1,14 @@
 // Laws of the images of checked programs.
 
+ghost use Rattle.herm_good_images.specs.laws.EnteredLoops.{LoopsAreEnteredAtHeads, EdgesKeepSlots};
 ghost use Rattle.herm_good_images.specs.laws.GoodImages.{TypedBlocksAreComplete, ImagesAreGood, MainsBegin};
 ghost use Rattle.herm_good_images.specs.laws.CheckedModulesExist.{CheckedProgramsHaveModules};
+
+/// An edge that leads inside a loop comes from inside it, or leads to its own statement; so an edge arrives with the slots that it does not leave.
+pub fn loops_are_entered_at_their_heads()
+    ensures heads { LoopsAreEnteredAtHeads }
+    ensures slots { EdgesKeepSlots }
+{}
 
 /// Each block of a typed process is led to by an edge to its first step, and has an edge for each outcome of its form; so labels are listed for exactly the
 /// indices that jumps and landings name.

@@ -24,6 +24,7 @@ use Rattle.herm_instructions.specs.Effects.{row_type}
 use Rattle.herm_translated.specs.CodeBlocks.{own_slot, slots_within, number_at, is_around, slots_among, slots_around, slots_left}
 use Rattle.herm_translated.specs.laws.LabelsAlong.{without_slots}
 use Rattle.herm_translated.proofs.NamedIndices.{any-from}
+use Rattle.herm_good_images.specs.laws.EnteredLoops.{LoopsAreEnteredAtHeads, EdgesKeepSlots}
 use Rattle.herm_good_images.proofs.loops.LeadingWithin.{exits-lead}
 use Rattle.herm_good_images.proofs.loops.LoopHeads.{IsHead, both-inside, loop-entered}
 use Rattle.herm_good_images.proofs.loops.OwnLoops.{process-has_loop}
@@ -234,3 +235,12 @@ module _ (count : ℕ) (table : TypeTable) (processes : List Process) (p : Proce
       none : (ls : List Node) → ((l : Node) → IsIn l ls → IsIn l ns) → chosen table p.variables (λ (l : Node). is_around c l 0) ls ≡ []
       none [] h = refl
       none (l ∷ ls) h = ap₂ ◌++◌ (none ls (λ k j. h k (inr j))) (ap (λ b. cond b (own table p.variables l) []) (not-around l (h l (inl refl)) (is_inside c 0 l.number) refl))
+
+pub entered-at_heads : LoopsAreEnteredAtHeads
+entered-at_heads count table processes p labels typed i k from to e l inside = from-inside count table processes p labels typed i k from to e.exit l e.leaves e.is_exit e.leads e.arrives inside
+
+pub slots-kept : EdgesKeepSlots
+slots-kept count table processes p labels typed i k from to e = (
+  to-first count table processes p labels typed i k from to e.exit e.leaves e.is_exit e.leads e.arrives,
+  to-second count table processes p labels typed i k from to e.exit e.leaves e.is_exit e.leads e.arrives,
+)
