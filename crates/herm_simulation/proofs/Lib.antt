@@ -22,3 +22,4 @@ pub mod Indices
 pub mod Simulated
 pub mod RunsAlike
 pub mod RightByRounds
+pub mod Nameless

@@ -111,7 +111,7 @@ module _ (exceptions : ℕ) (program : Program) (modules : Modules) (checked : L
 
   -- a process in its module, which has code
   module _ (x : State Name) (m : CheckedModule) (found : slice_get checked x.module_number ≡ Some m) where
-    in-module : StandsInModule exceptions program modules is.accepted x
+    pub in-module : StandsInModule exceptions program modules is.accepted x
     in-module = module-at exceptions program modules is.accepted x m.code (code-found x.module_number m found)
 
     same-code : m.code ≡ module_of program.types in-module.process in-module.labels
@@ -120,19 +120,19 @@ module _ (exceptions : ℕ) (program : Program) (modules : Modules) (checked : L
     abbrev checked_in : CheckedModule
     checked_in = checked_by program.types in-module.process in-module.labels m.facts m.entry_drops m.drops
 
-    same-module : m ≡ checked_in
+    pub same-module : m ≡ checked_in
     same-module = ap (λ c. record { code = c; facts = m.facts; entry_drops = m.entry_drops; drops = m.drops }) same-code
 
-    in-checked : IsIn m checked
+    pub in-checked : IsIn m checked
     in-checked = got-IsIn checked x.module_number m found
 
-    its-known : (n : Node) → IsIn n (process_nodes in-module.process) → (l : Literal) → IsIn l (literals_in n.form) → IsIn l constants
+    pub its-known : (n : Node) → IsIn n (process_nodes in-module.process) → (l : Literal) → IsIn l (literals_in n.form) → IsIn l constants
     its-known n h l literal =
         let nodes : IsIn n m.code.nodes = subst (λ (c : Module). IsIn n c.nodes) (sym same-code) h in
         let form : IsIn n.form (forms_in checked) = in-flat_map (λ (m : CheckedModule). map (λ (n : Node). n.form) m.code.nodes) m n.form checked in-checked (in-map (λ (n : Node). n.form) n m.code.nodes nodes) in
         once-in (flat_map literals_in (forms_in checked)) l (in-flat_map literals_in n.form l (forms_in checked) form literal)
 
-    abbrev k : Coded
+    abbrev pub k : Coded
     k = record {
       exceptions = exceptions;
       image = image;
@@ -183,7 +183,7 @@ module _ (exceptions : ℕ) (program : Program) (modules : Modules) (checked : L
         there = ap (slice_get checked) same ∙ found
 
   module _ (x : State Name) (y : CodeState Name) (r : R x y) where
-    abbrev its : Coded
+    abbrev pub its : Coded
     its = k x r.coded r.found
 
     to-beside : Beside its x y
@@ -204,10 +204,10 @@ module _ (exceptions : ℕ) (program : Program) (modules : Modules) (checked : L
     its-code : IsLocallySoundCode (ready its) y
     its-code = code-of x r.coded r.found y (r.stands).module_number r.code_sound
 
-    source-at : source_code_at modules x ≡ Some (source_code its)
+    pub source-at : source_code_at modules x ≡ Some (source_code its)
     source-at = (in-module x r.coded r.found).coded
 
-    code-at : code_at its_ready y ≡ Some (ready its)
+    pub code-at : code_at its_ready y ≡ Some (ready its)
     code-at = ready-found x r.coded r.found y.module_number (r.stands).module_number
 
     as-many : AreCodesFor modules its_ready
@@ -217,7 +217,7 @@ module _ (exceptions : ℕ) (program : Program) (modules : Modules) (checked : L
       codes = length-map (ready_code image (label_at image.types image.constants)) image.modules ∙ length-map (code_of constants) checked ∙ sym (length-map (λ (m : CheckedModule). m.code) checked) ∙ ap length is.codes;
     }
 
-    shows : ShowTheSame (source modules) (code_machine its_ready) x y
+    pub shows : ShowTheSame (source modules) (code_machine its_ready) x y
     shows =
         let looks = (standing-looks modules its_ready (nodes_of_indices program modules checked) as-many).looks x y r.stands in
         record {

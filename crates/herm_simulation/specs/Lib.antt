@@ -3,5 +3,6 @@ pub mod FrontsInPlace
 pub mod Checks
 pub mod Standing
 pub mod Simulating
+pub mod SimulatingWithout
 pub mod laws
 pub mod examples

@@ -2,3 +2,4 @@
 pub mod EdgeLaws
 pub mod FrontLaws
 pub mod SimulationLaws
+pub mod DiarySimulation
