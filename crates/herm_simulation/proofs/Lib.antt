@@ -23,3 +23,4 @@ pub mod Simulated
 pub mod RunsAlike
 pub mod RightByRounds
 pub mod Nameless
+pub mod RightChecks
