@@ -34,22 +34,29 @@ module _ (c : ReadyCode) where
 
 module _ (name : Name → Name) (c : ReadyCode) where
   pub nothing-leads : (s : CodeState Name) → LeadsTo name c s s
-  nothing-leads s m u e = (m, e)
+  nothing-leads s = (0, λ m. ap (λ q. run_on name c q s) (omega arith))
 
   pub leads-then : (s t v : CodeState Name) → LeadsTo name c s t → LeadsTo name c t v → LeadsTo name c s v
-  leads-then s t v first second m u e = let r = second m u e in first r.0 u r.1
+  leads-then s t v first second = (
+    first.0 + second.0,
+    λ m.
+        (let same : first.0 + second.0 + m ≡ first.0 + (second.0 + m) = omega arith in
+        ap (λ q. run_on name c q s) same ∙ first.1 (second.0 + m) ∙ second.1 m),
+  )
 
   pub leads-from : (s t : CodeState Name) → s ≡ t → LeadsTo name c s t
-  leads-from s t e m u is = (m, ap (run_on name c m) e ∙ is)
+  leads-from s t e = subst (LeadsTo name c s) e (nothing-leads s)
 
   pub instruction-leads : (s t : CodeState Name) (i : ℕ) (x : Instruction) → s.position ≡ at_index i → instruction_at c.code i ≡ Some x → begins_piece c x ≡ false → done_instruction name c s i x ≡ Some t → LeadsTo name c s t
-  instruction-leads s t i x here at other is m u e = (
-    suc m,
-    ap (on_from name c (run_on name c m) s) here
+  instruction-leads s t i x here at other is = (
+    1,
+    λ m.
+        (let same : 1 + m ≡ suc m = omega arith in
+        ap (λ q. run_on name c q s) same
+        ∙ ap (on_from name c (run_on name c m) s) here
         ∙ ap (on_by name c (run_on name c m) s i) at
         ∙ ap (λ b. cond b (Some s) (option_and_then (run_on name c m) (done_instruction name c s i x))) other
-        ∙ ap (option_and_then (run_on name c m)) is
-        ∙ e,
+        ∙ ap (option_and_then (run_on name c m)) is),
   )
 
   done-plain : (s : CodeState Name) (i : ℕ) (x : Instruction) → (IsEnd x → ⊥)
@@ -79,7 +86,8 @@ module _ (name : Name → Name) (c : ReadyCode) where
 
   pub leads-one : (s t u : CodeState Name) → LeadsTo name c s t → IsAtPiece c t.position → to_next_piece name c s ≡ Some u → u ≡ t
   leads-one s t u led piece is =
-      let r = led 1 t (rests-at t t.position refl piece) in
+      let q = led.0 + 1 in
+      let comes : run_on name c q s ≡ Some t = led.1 1 ∙ rests-at t t.position refl piece in
       let n = suc (length c.code.code) in
-      let same : r.0 + n ≡ n + r.0 = omega arith in
-      some-injective (sym (runs-are-one name c n r.0 s u is) ∙ sym (ap (λ k. run_on name c k s) same) ∙ runs-are-one name c r.0 n s t r.1)
+      let same : q + n ≡ n + q = omega arith in
+      some-injective (sym (runs-are-one name c n q s u is) ∙ sym (ap (λ k. run_on name c k s) same) ∙ runs-are-one name c q n s t comes)

@@ -16,10 +16,10 @@ StandFrom c i row = (n : ℕ) (x : Instruction) → slice_get row n ≡ Some x �
 abbrev pub state_at : (module_number index : ℕ) → List Value → Frame Name → CodeState Name
 state_at k i stack b = record { module_number = k; position = at_index i; stack = stack; frame = b }
 
--- Some instructions lead from a state to another: what a run comes to from there, a run comes to from here.
+-- So many instructions lead from a state to another: with so many more, a run from here comes to what a run from there comes to.
 -- Code reference, "Processes".
 abbrev pub LeadsTo : (Name → Name) → ReadyCode → (here there : CodeState Name) → Type 0
-LeadsTo name c s t = (m : ℕ) (u : CodeState Name) → run_on name c m t ≡ Some u → (k : ℕ) × (run_on name c k s ≡ Some u)
+LeadsTo name c s t = (n : ℕ) × ((more : ℕ) → run_on name c (n + more) s ≡ run_on name c more t)
 
 -- where an arrival is, where blocks begin at these indices; Code reference, "Blocks"
 abbrev pub arrived_at : (start : ℕ → ℕ) → Arrival → Position

@@ -2,4 +2,4 @@ use Rattle.herm_simulation.proofs.AlongEdges.{edges-do_arrivals}
 use Rattle.herm_simulation.proofs.edges.edges_do_arrivals.Goals as goal
 
 pub returns : goal.returns
-returns c = edges-do_arrivals
+returns c = record { edges = edges-do_arrivals }
