@@ -1,13 +1,13 @@
 -- The two machines are joined without the names of cells too.
-use Rattle.std.proofs.Common.{◌≡◌, ℕ, List, [], ◌∷◌, map, length, Bool, true, Option, Some, None, option_map, option_and_then, slice_get, refl, sym, ap, ap₂, subst, ◌∙◌}
+use Rattle.std.proofs.Common.{◌≡◌, ℕ, List, [], ◌∷◌, map, true, Option, Some, None, option_map, refl, sym, ap, ap₂, subst, ◌∙◌}
 use Rattle.std.specs.Prelude.{⊤}
 use Rattle.herm_model.specs.CellNames.{rename, rename_in}
 use Rattle.herm_model.specs.Lists.{total, list_of, any_pass}
 use Rattle.herm_model.specs.Values.{Name, an_inport, Cell, cell, Parts, no_parts, gap, part}
 use Rattle.herm_model.proofs.Lists.{length-map}
-use Rattle.herm_model.proofs.Options.{none-not_some, some-injective, map-some}
-use Rattle.herm_journal.specs.Actions.{Reply, values, raised, gone, new_port, new_process, to_put, to_take, to_close, to_answer, to_hear, make_port, make_process, put, take, close, answer, hear}
-use Rattle.herm_journal.specs.Entries.{Place, Entry, same_place}
+use Rattle.herm_model.proofs.Options.{map-some}
+use Rattle.herm_journal.specs.Actions.{values, raised, gone, new_port, new_process, to_put, to_take, to_close, to_answer, to_hear, make_port, make_process, put, take, close, answer, hear}
+use Rattle.herm_journal.specs.Entries.{Place, same_place}
 use Rattle.herm_journal.specs.Messages.{CellWant, CellAction, CellReply}
 use Rattle.herm_journal.specs.Renaming.{forget_name, rename_reply, rename_action, rename_want}
 use Rattle.herm_journal.specs.Weights.{weigh}
@@ -21,9 +21,7 @@ use Rattle.herm_source.specs.SeenBySystem.{values_held}
 use Rattle.herm_source.specs.States.{State}
 use Rattle.herm_source.proofs.instance.HeldValues.{weigh-values}
 use Rattle.herm_source.proofs.instance.SourceForgets.{source-forgets-names}
-use Rattle.herm_system.specs.DiaryStates.{IsAfter}
-use Rattle.herm_system.specs.Ledger.{held_by, finalised_by}
-use Rattle.herm_system.specs.Machines.{Machine, Held, is_local}
+use Rattle.herm_system.specs.Machines.{Held, is_local}
 use Rattle.herm_system.specs.Suiting.{Answers, Fulfils, Suits}
 use Rattle.herm_system.specs.Systems.{number_of, places_for}
 use Rattle.herm_runs.specs.Joining.{BothOrNone, ShowTheSame, AreJoined, turned}
@@ -44,7 +42,7 @@ use Rattle.herm_simulation.specs.Simulating.{IsTranslated, ready_image, Simulate
 use Rattle.herm_simulation.specs.SimulatingWithout.{SimulatesWithout}
 use Rattle.herm_simulation.specs.laws.DiarySimulation.{NamelessCodeIsJoined, DiariesForth, DiariesBack}
 use Rattle.herm_simulation.proofs.InPlace.{source_code, ready}
-use Rattle.herm_simulation.proofs.Simulated.{its, source-at, code-at, shows, joined}
+use Rattle.herm_simulation.proofs.Simulated.{its, source-at, code-at, joined}
 
 -- a name for cells that have none
 abbrev given_name : ⊤ → Name

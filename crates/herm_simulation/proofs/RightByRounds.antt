@@ -1,26 +1,25 @@
 -- What labels in rounds give of a process is right.
-use Rattle.std.proofs.Common.{◌≡◌, ◌↔◌, inl, inr, ℕ, zero, suc, ◌+◌, List, [], ◌∷◌, map, Bool, true, false, Option, Some, None, option_map, slice_get, refl, sym, ap, ap₂, subst, ◌∙◌, arith, true≢false}
+use Rattle.std.proofs.Common.{◌≡◌, ◌↔◌, inl, inr, ℕ, zero, suc, ◌+◌, List, [], ◌∷◌, map, Bool, true, false, Some, None, option_map, slice_get, refl, sym, ap, ap₂, subst, ◌∙◌, arith}
 use Rattle.std.specs.Prelude.{◌||◌, IsTrue}
 use Rattle.herm_model.specs.Lists.{IsIn, list_of, numbered, any_pass}
-use Rattle.herm_model.specs.Paths.{Path, Fact, same_fact}
+use Rattle.herm_model.specs.Paths.{Fact, same_fact}
 use Rattle.herm_model.specs.Types.{TypeTable}
-use Rattle.herm_model.specs.ControlPaths.{Edge, Point, edge, point, flow_of}
-use Rattle.herm_model.specs.Exits.{Exit, exits}
-use Rattle.herm_model.specs.Nodes.{Node, process_nodes}
+use Rattle.herm_model.specs.ControlPaths.{Point, edge, point, flow_of}
+use Rattle.herm_model.specs.Exits.{exits}
+use Rattle.herm_model.specs.Nodes.{process_nodes}
 use Rattle.herm_model.specs.Statements.{Process}
 use Rattle.herm_model.proofs.FactTests.{listed-IsIn, IsIn-listed}
 use Rattle.herm_model.proofs.Lists.{slice_get-map, not_true}
 use Rattle.herm_model.proofs.Options.{none-not_some, some-injective}
 use Rattle.herm_source.specs.Checked.{IsChecked}
-use Rattle.herm_source.specs.LabelRounds.{LabelLists, label_at, has_label, ready}
+use Rattle.herm_source.specs.LabelRounds.{LabelLists, has_label, ready}
 use Rattle.herm_source.specs.Modules.{Program}
 use Rattle.herm_source.specs.examples.RunExamples.{ready_program}
 use Rattle.herm_instructions.specs.tests.GoodTests.{is_good}
 use Rattle.herm_instructions.proofs.DecidedCode.{test-images}
 use Rattle.herm_translated.specs.CodeBlocks.{CheckedModule}
-use Rattle.herm_translated.specs.examples.CheckedByRounds.{dropped_along, checked_with, checked_by, modules_by, image_by}
+use Rattle.herm_translated.specs.examples.CheckedByRounds.{dropped_along, checked_with, checked_by, image_by}
 use Rattle.herm_simulation.specs.Checks.{list_at, IsRight}
-use Rattle.herm_simulation.specs.Simulating.{IsTranslated}
 use Rattle.herm_simulation.specs.examples.TranslatedExamples.{IsTranslatedByRounds}
 
 -- the facts of a list of labels

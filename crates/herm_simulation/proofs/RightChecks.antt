@@ -1,12 +1,12 @@
 -- Where a check has the excess of facts it is right.
-use Rattle.std.proofs.Common.{◌≡◌, ℕ, ◌<◌, length, List, [], ◌∷◌, ◌++◌, Bool, true, false, cond, Some, option_map, slice_get, refl, sym, ap, subst, ◌∙◌}
+use Rattle.std.proofs.Common.{◌≡◌, ℕ, List, [], ◌∷◌, ◌++◌, Bool, true, false, cond, Some, option_map, slice_get, refl, ap, ◌∙◌}
 use Rattle.std.specs.Prelude.{IsTrue}
 use Rattle.std.proofs.lemmas.Option.{slice_get_within}
 use Rattle.herm_model.specs.Lists.{IsIn, any_pass}
 use Rattle.herm_model.specs.Paths.{Path, Fact, init, path_of, same_fact, is_at_or_below}
 use Rattle.herm_model.specs.Types.{TypeTable}
 use Rattle.herm_model.specs.Facts.{IsFactOf}
-use Rattle.herm_model.specs.ControlPaths.{Edge, Point, Flow, flow_of, point, edge, held_after_edge, held_at_start, IsReached}
+use Rattle.herm_model.specs.ControlPaths.{Edge, flow_of, point, edge, held_after_edge, held_at_start, IsReached}
 use Rattle.herm_model.specs.Exits.{Exit, exits}
 use Rattle.herm_model.specs.Labels.{Labels, label_at, AreExact}
 use Rattle.herm_model.specs.Nodes.{Node, process_nodes}
