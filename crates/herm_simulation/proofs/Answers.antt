@@ -71,10 +71,6 @@ own-none : (k : Coded) (i number : ℕ) (form : Form) → ((r t : Path) → form
 own-none k i number (For r t) other = absurd (other r t refl)
 own-none k i number form other = refl
 
-abbrev is_staying : Completion Name → Bool
-is_staying (stays b) = true
-is_staying r = false
-
 abbrev frame_there : Completion Name → Option (Frame Name)
 frame_there (stays b) = Some b
 frame_there r = None

@@ -25,6 +25,8 @@ use Rattle.herm_code_machine.specs.laws.StackLaws.{pushed_on}
 use Rattle.herm_translated.specs.Constants.{literals_among}
 use Rattle.herm_translated.specs.Fronts.{argument_by, arguments_of, pushed_by, atom_code, inputs_code}
 use Rattle.herm_translated.proofs.FoundConstants.{constant-found}
+use Rattle.herm_simulation.proofs.DoneFronts.{first-known, more-known}
+use Rattle.herm_simulation.proofs.PiecesBegin.{again-joined}
 
 -- one more argument among paths, by its mode
 abbrev with_argument : (Mode → Bool) → Mode → Atom → List Path → List Path
@@ -113,19 +115,6 @@ module _ (table : TypeTable) (variables : List ℕ) where
         ap (λ x. option_and_then (behind_operands c vars more) (pushed (constant_value x) stack)) (constant-found c.constants l (known l (inl refl)))
         ∙ ap (λ v. option_and_then (behind_operands c vars more) (pushed v stack)) is
     atom-pushed (Atom.path p) known w stack more is = ap (λ v. option_and_then (behind_operands c vars more) (pushed v stack)) is
-
-    first-known : (a : Atom) (atoms : List Atom) (l : Literal) → IsIn l (literals_among (a ∷ [])) → IsIn l (literals_among (a ∷ atoms))
-    first-known (Atom.literal m) atoms l (inl e) = inl e
-    first-known (Atom.literal m) atoms l (inr h) = absurd h
-    first-known (Atom.path p) atoms l h = absurd h
-
-    more-known : (a : Atom) (atoms : List Atom) (l : Literal) → IsIn l (literals_among atoms) → IsIn l (literals_among (a ∷ atoms))
-    more-known (Atom.literal m) atoms l h = inr h
-    more-known (Atom.path p) atoms l h = h
-
-    again-joined : (xs ys zs : List Instruction) → (xs ++ ys) ++ zs ≡ xs ++ (ys ++ zs)
-    again-joined [] ys zs = refl
-    again-joined (x ∷ xs) ys zs = ap (x ∷◌) (again-joined xs ys zs)
 
     pub inputs-pushed : (ps : List Parameter) (atoms : List Atom) → AreArguments table variables ps atoms → ((l : Literal) → IsIn l (literals_among atoms) → IsIn l c.constants) → (inputs : Parts ⊤) → inputs_of ps atoms vars ≡ Some inputs
         → (x : Instruction) → is_operand x ≡ false → (stack : List Value) → Inputs ps atoms inputs x stack

@@ -106,6 +106,16 @@ in-range f k (suc n) i (inr h) = let r = in-range f (suc k) n i h in (suc r.0, (
 got-range : {X : Type 0} (f : ℕ → X) (n i : ℕ) → IsIn i (range 0 n) → slice_get (map f (range 0 n)) i ≡ Some (f i)
 got-range f n i h = let r = in-range f 0 n i h in let same : r.0 ≡ i = (let q = r.1 in omega (arith, q)) in subst (λ j. slice_get (map f (range 0 n)) j ≡ Some (f i)) same r.2
 
+-- the literals of atoms, one by one
+pub first-known : (a : Atom) (keys : List Atom) (l : Literal) → IsIn l (literals_among (a ∷ [])) → IsIn l (literals_among (a ∷ keys))
+first-known (Atom.literal m) keys l (inl e) = inl e
+first-known (Atom.literal m) keys l (inr h) = absurd h
+first-known (Atom.path p) keys l h = absurd h
+
+pub more-known : (a : Atom) (keys : List Atom) (l : Literal) → IsIn l (literals_among keys) → IsIn l (literals_among (a ∷ keys))
+more-known (Atom.literal m) keys l h = inr h
+more-known (Atom.path p) keys l h = h
+
 module _ (name : Name → Name) (c : ReadyCode) (number : ℕ) (facts : List Fact) (first : ℕ) (exit_at : Outcome → ℕ) where
   abbrev types : TypeTable
   types = c.scope.types
@@ -300,15 +310,6 @@ module _ (name : Name → Name) (c : ReadyCode) (number : ℕ) (facts : List Fac
       ap (λ x. in_row (row_effect name c more) (pushing (constant_value x) stack b).stack (pushing (constant_value x) stack b).completion) (constant-found c.constants l (known l (inl refl)))
       ∙ ap (λ x. in_row (row_effect name c more) (pushing x stack b).stack (pushing x stack b).completion) is
   atom-row (Atom.path p) known v stack b more is = ap (λ x. in_row (row_effect name c more) (pushing x stack b).stack (pushing x stack b).completion) is
-
-  first-known : (a : Atom) (keys : List Atom) (l : Literal) → IsIn l (literals_among (a ∷ [])) → IsIn l (literals_among (a ∷ keys))
-  first-known (Atom.literal m) keys l (inl e) = inl e
-  first-known (Atom.literal m) keys l (inr h) = absurd h
-  first-known (Atom.path p) keys l h = absurd h
-
-  more-known : (a : Atom) (keys : List Atom) (l : Literal) → IsIn l (literals_among keys) → IsIn l (literals_among (a ∷ keys))
-  more-known (Atom.literal m) keys l h = inr h
-  more-known (Atom.path p) keys l h = h
 
   pushes : (keys : List Atom) → ((l : Literal) → IsIn l (literals_among keys) → IsIn l c.constants) → (stack : List Value) (b : Frame Name) (key : List Scalar) → key_values b.variables keys ≡ Some key → Pushes keys stack b key
   pushes [] known stack b key is = record { values = []; row = refl; scalars = is; many = refl }

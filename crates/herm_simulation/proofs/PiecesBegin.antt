@@ -29,6 +29,11 @@ IsFirst row code = (n : ℕ) (x : Instruction) → slice_get row n ≡ Some x �
 pub stand-dropped : (c : ReadyCode) (i : ℕ) (row : List Instruction) → StandFrom c i row → IsFirst row (drop i c.code.code)
 stand-dropped c i row h n x e = got-dropped i c.code.code n ∙ h n x e
 
+-- instructions joined twice
+pub again-joined : (xs ys zs : List Instruction) → (xs ++ ys) ++ zs ≡ xs ++ (ys ++ zs)
+again-joined [] ys zs = refl
+again-joined (x ∷ xs) ys zs = ap (x ∷◌) (again-joined xs ys zs)
+
 module _ (types : TypeTable) where
   -- a row without an action, in which not all are operands
   pub record IsLocalRow (row : List Instruction) : Type 0 where
@@ -116,10 +121,6 @@ module _ (types : TypeTable) where
   arrival-plain start (to_second_step n) = refl
   arrival-plain start to_end = refl
   arrival-plain start (to_end_by e) = refl
-
-  again-joined : (xs ys zs : List Instruction) → (xs ++ ys) ++ zs ≡ xs ++ (ys ++ zs)
-  again-joined [] ys zs = refl
-  again-joined (x ∷ xs) ys zs = ap (x ∷◌) (again-joined xs ys zs)
 
   pub edge-local : (start : ℕ → ℕ) (d : Departure) → IsLocalRow (edge_code start d)
   edge-local start d =
