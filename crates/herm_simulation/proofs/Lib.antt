@@ -21,6 +21,7 @@ pub mod Begun
 pub mod Indices
 pub mod Simulated
 pub mod RunsAlike
+pub mod CodeReported
 pub mod RightByRounds
 pub mod Nameless
 pub mod RightChecks

@@ -4,3 +4,4 @@ pub mod FrontLaws
 pub mod CheckLaws
 pub mod SimulationLaws
 pub mod DiarySimulation
+pub mod CodeReports

@@ -1,5 +1,6 @@
 // The machine of code beside the source machine.
 
+ghost use Rattle.herm_simulation.specs.laws.CodeReports.{CodeReportsDescribe, CodeRunsAreDescribed};
 ghost use Rattle.herm_simulation.specs.laws.DiarySimulation.{DiariesBack, DiariesForth, NamelessCodeIsJoined};
 ghost use Rattle.herm_simulation.specs.laws.SimulationLaws.{CodeIsJoined, CodeRoundsAsSource, CodeRunsAsSource, SourceRoundsAsCode, SourceRunsAsCode};
 
@@ -25,4 +26,11 @@ pub fn runs_look_alike()
 pub fn diaries_lead_alike()
     ensures forth { DiariesForth }
     ensures back { DiariesBack }
+{}
+
+/// Each run of the code to a final state, with its journal in order and a text as argument, is described by its report as a run of the checked program: a run of the source
+/// machine in which every state is sound and every statement finds what it needs, with this journal, these ends, queues, counts, status and text.
+pub fn reports_of_code_describe_runs()
+    ensures runs { CodeRunsAreDescribed }
+    ensures reports { CodeReportsDescribe }
 {}
