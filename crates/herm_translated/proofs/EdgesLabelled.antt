@@ -1,13 +1,13 @@
 -- The labels at the edges of blocks.
 use Rattle.std.proofs.Common.{◌≡◌, ℕ, zero, suc, ◌+◌, ◌<◌, length, List, [], ◌∷◌, ◌++◌, map, flat_map, Bool, true, false, cond, Option, Some, None, option_and_then, slice_get, ◌⊎◌, inl, inr, refl, sym, ap, ap₂, subst, ◌∙◌, arith, true≢false}
-use Rattle.herm_model.specs.Lists.{IsIn}
+use Rattle.herm_model.specs.Lists.{IsIn, total}
 use Rattle.herm_model.specs.Paths.{Path}
 use Rattle.herm_model.specs.Types.{TypeTable}
 use Rattle.herm_model.specs.Expressions.{Literal}
 use Rattle.herm_model.specs.Statements.{Form, Arm, Process}
 use Rattle.herm_model.specs.Outcomes.{Outcome, ok, is_true, is_false, turn, done, component, raised, exceptions, arms_from, outcomes}
 use Rattle.herm_model.specs.WellFormedTables.{IsWellFormedTable}
-use Rattle.herm_model.proofs.Options.{none-not_some}
+use Rattle.herm_model.proofs.Options.{some-injective, none-not_some}
 use Rattle.herm_model.proofs.Lists.{cons-head, in-append_cases, in-map, in-map_from}
 use Rattle.herm_model.proofs.FactTests.{got-IsIn}
 use Rattle.herm_instructions.specs.Instructions.{Instruction, Step, LoopNext}
@@ -18,15 +18,15 @@ use Rattle.herm_instructions.proofs.PlacesOfCode.{instruction-place, next-label}
 use Rattle.herm_translated.specs.Fronts.{front, front_length}
 use Rattle.herm_translated.specs.Departures.{Departure, edge_code, edge_length, second_step}
 use Rattle.herm_translated.specs.CodeBlocks.{CodeBlock, own_slot}
-use Rattle.herm_translated.specs.Layout.{edge_at, edges_at, exit_of}
-use Rattle.herm_translated.specs.BlockLabels.{label_with, listed_with, is_named, facts_after, comes_again, edge_slots, labels_within}
+use Rattle.herm_translated.specs.Layout.{edge_at, edges_at, exit_of, block_length, start_from}
+use Rattle.herm_translated.specs.BlockLabels.{label_with, listed_with, is_named, facts_after, comes_first, comes_again, edge_slots, labels_within}
 use Rattle.herm_translated.specs.laws.LayoutLaws.{module_of, start, IsInBlock}
 use Rattle.herm_translated.specs.laws.LabelsAlong.{handed_by, handed_on, label_where_left}
-use Rattle.herm_translated.specs.laws.LabelsAtEdges.{IsTypedBlock, EdgesAreLabelled}
+use Rattle.herm_translated.specs.laws.LabelsAtEdges.{IsHandedOn, AreReached, IsTypedBlock, AreTypedBlocks, FirstStepsAreLabelled, EdgesAreLabelled}
 use Rattle.herm_translated.proofs.Joined.{get-left, get-right, length-joined, got-within, place-in}
 use Rattle.herm_translated.proofs.Lengths.{front-long, edge-long}
 use Rattle.herm_translated.proofs.Addresses.{first-here, code-block, edges-there, outcome_of}
-use Rattle.herm_translated.proofs.LabelsStand.{label-where_listed, blocks-labelled}
+use Rattle.herm_translated.proofs.LabelsStand.{label-where_listed, blocks-labelled, first-led}
 use Rattle.herm_translated.proofs.Handing.{filter-all, fronts-hand_on, edges-hand_on, one-way, tested-way}
 use Rattle.herm_translated.proofs.FrontWays.{IsNoFor}
 use Rattle.herm_translated.proofs.ListedLabels.{listed-here, listed-on}
@@ -125,7 +125,8 @@ within-none types variables at again b form plain = refl
 other-form : (form : Form) → IsNoFor form → (r t : Path) → form ≡ Form.For r t → ⊥
 other-form form plain r t e = subst IsNoFor e plain
 
-module _ (count : ℕ) (types : TypeTable) (variables : List ℕ) (constants : List Literal) (processes : List Process) (entry : Departure) (blocks : List CodeBlock) (formed : IsWellFormedTable count types) (i : ℕ) where
+module _ (count : ℕ) (types : TypeTable) (variables : List ℕ) (constants : List Literal) (processes : List Process) (entry : Departure) (blocks : List CodeBlock) (formed : IsWellFormedTable count types) (i : ℕ)
+    (first : (b : CodeBlock) → slice_get blocks i ≡ Some b → label_at types constants (module_of types variables constants entry blocks) (start types variables constants entry blocks i) ≡ Some (label_with b.facts b.slots)) where
   abbrev m : CodeModule
   m = module_of types variables constants entry blocks
 
@@ -141,14 +142,22 @@ module _ (count : ℕ) (types : TypeTable) (variables : List ℕ) (constants : L
   abbrev exit : CodeBlock → Outcome → ℕ
   exit b o = exit_of types variables constants st b o
 
+  -- the edges of a block that has some are those of its form's outcomes
+  in-order : (b : CodeBlock) (j : ℕ) (d : Departure) → IsTypedHere b → slice_get b.departures j ≡ Some d → map outcome_of b.departures ≡ outcomes types variables b.form
+  in-order b j d h at-j = by b.onward refl
+    where
+      by : (t : Bool) → b.onward ≡ t → map outcome_of b.departures ≡ outcomes types variables b.form
+      by true e = none-not_some (sym (ap (λ ds. slice_get ds j) (h.goes_on e).0) ∙ at-j)
+      by false e = h.outcomes_in_order e
+
   outcome-in : (b : CodeBlock) (j : ℕ) (d : Departure) → IsTypedHere b → slice_get b.departures j ≡ Some d → IsIn d.outcome (outcomes types variables b.form)
-  outcome-in b j d h e = subst (IsIn d.outcome) h.outcomes_in_order (in-map outcome_of d b.departures (got-IsIn b.departures j d e))
+  outcome-in b j d h e = subst (IsIn d.outcome) (in-order b j d h e) (in-map outcome_of d b.departures (got-IsIn b.departures j d e))
 
   -- an unnamed outcome leads to the first edge
   first-exit : (b : CodeBlock) (j : ℕ) (d : Departure) → IsTypedHere b → slice_get b.departures j ≡ Some d → is_named d.outcome ≡ false → exit b d.outcome ≡ edges_at types variables constants st b
   first-exit b j d h e q =
       let f = first-unnamed types variables b.form d.outcome (outcome-in b j d h e) q in
-      by b.departures e (h.outcomes_in_order ∙ f.1)
+      by b.departures e (in-order b j d h e ∙ f.1)
     where
       by : (ds : List Departure) → slice_get ds j ≡ Some d → map outcome_of ds ≡ d.outcome ∷ (first-unnamed types variables b.form d.outcome (outcome-in b j d h e) q).0 → edge_at (edges_at types variables constants st b) ds d.outcome ≡ edges_at types variables constants st b
       by [] e same = none-not_some e
@@ -169,15 +178,14 @@ module _ (count : ℕ) (types : TypeTable) (variables : List ℕ) (constants : L
       → label_at types constants m (exit b d.outcome) ≡ Some (label_with (facts_after types variables b.form d.outcome b.facts) (edge_slots types variables b))
 
   -- the step and the front of a block, which is no `for`
-  others : (b : CodeBlock) → IsNoFor b.form → Claim b
-  others b plain j d at-i h at-j q =
-      ap (label_at types constants m) (first-exit b j d h at-j q ∙ sym at-end)
-      ∙ label-stretch types constants m (Step ∷ the_front) st (edge-begins b j d at-i h at-j).0 (Some (label_with b.facts b.slots)) there
-      (ap (slice_get m.code) (at-end ∙ sym (first-exit b j d h at-j q)) ∙ (edge-begins b j d at-i h at-j).1) none
-      ((blocks-labelled types variables constants entry blocks).first_label i b at-i)
+  pub front-handed : (b : CodeBlock) → IsNoFor b.form → slice_get blocks i ≡ Some b → IsTypedHere b → (o : Outcome) → IsIn o (outcomes types variables b.form) → is_named o ≡ false → (x : Instruction) → slice_get m.code (edges_at types variables constants st b) ≡ Some x
+      → listed_at m.labels (edges_at types variables constants st b) ≡ None → label_at types constants m (edges_at types variables constants st b) ≡ Some (label_with (facts_after types variables b.form o b.facts) (edge_slots types variables b))
+  front-handed b plain at-i h o in-o q x behind quiet =
+      ap (label_at types constants m) (sym at-end)
+      ∙ label-stretch types constants m (Step ∷ the_front) st x (Some (label_with b.facts b.slots)) there (ap (slice_get m.code) at-end ∙ behind) none (first b at-i)
       ∙ ap (handed_on types variables constants the_front) (ap (λ fs. Some (label_with fs b.slots)) (filter-all b.facts))
-      ∙ fronts-hand_on types variables constants count processes formed b.facts b.statement (st + 1) (exit b) b.slots b.form d.outcome h.typed h.known (outcome-in b j d h at-j) q (other-form b.form plain)
-      ∙ ap (λ own. Some (label_with (facts_after types variables b.form d.outcome b.facts) (own ++ b.slots))) (sym (own-none types variables b.statement b.form plain))
+      ∙ fronts-hand_on types variables constants count processes formed b.facts b.statement (st + 1) (exit b) b.slots b.form o h.typed h.known in-o q (other-form b.form plain)
+      ∙ ap (λ own. Some (label_with (facts_after types variables b.form o b.facts) (own ++ b.slots))) (sym (own-none types variables b.statement b.form plain))
     where
       the_front : List Instruction
       the_front = front types variables constants b.facts b.statement (st + 1) (exit b) b.form
@@ -202,12 +210,16 @@ module _ (count : ℕ) (types : TypeTable) (variables : List ℕ) (constants : L
           cases (inl x) =
               (blocks-labelled types variables constants entry blocks).within (st + suc k) i (suc k) b (at-i, omega (arith, x), refl) (omega arith) (omega (arith, x))
               ∙ ap (λ ls. listed_at ls (st + suc k)) (within-none types variables st (comes_again blocks i) b b.form plain)
-          cases (inr z) =
-              let e = z.1 in
-              let s = z.2 in
-              let x = first-exit b j d h at-j q in
-              ap (listed_at m.labels) (omega (arith, e, s, x))
-              ∙ (blocks-labelled types variables constants entry blocks).edges i j b d at-i at-j h.outcomes_differ ∙ ap (λ named. cond named (Some (label_with (facts_after types variables b.form d.outcome b.facts) (edge_slots types variables b))) None) q
+          cases (inr z) = let e = z.1 in let s = z.2 in ap (listed_at m.labels) (omega (arith, e, s)) ∙ quiet
+
+  others : (b : CodeBlock) → IsNoFor b.form → Claim b
+  others b plain j d at-i h at-j q =
+      ap (label_at types constants m) (first-exit b j d h at-j q)
+      ∙ front-handed b plain at-i h d.outcome (outcome-in b j d h at-j) q (edge-begins b j d at-i h at-j).0
+      (ap (slice_get m.code) (sym (first-exit b j d h at-j q)) ∙ (edge-begins b j d at-i h at-j).1)
+      (ap (listed_at m.labels) (sym (first-exit b j d h at-j q))
+      ∙ (blocks-labelled types variables constants entry blocks).edges i j b d at-i at-j h.outcomes_differ
+      ∙ ap (λ named. cond named (Some (label_with (facts_after types variables b.form d.outcome b.facts) (edge_slots types variables b))) None) q)
 
   -- the test of a `for`
   abbrev as_loop : CodeBlock → Path → Path → CodeBlock
@@ -307,8 +319,77 @@ module _ (count : ℕ) (types : TypeTable) (variables : List ℕ) (constants : L
       none : (k : ℕ) → k < length handed.0 → listed_at m.labels (exit b d.outcome + suc k) ≡ None
       none k low = let l = before-many in (blocks-labelled types variables constants entry blocks).along i j (suc k) b d at-i at-j h.outcomes_differ (omega arith) (omega (arith, low, l))
 
+-- the first index of the next block
+start-zero : (types : TypeTable) (variables : List ℕ) (constants : List Literal) (low : ℕ) (bs : List CodeBlock) → start_from types variables constants low bs 0 ≡ low
+start-zero types variables constants low [] = refl
+start-zero types variables constants low (b ∷ bs) = refl
+
+pub start-next : (types : TypeTable) (variables : List ℕ) (constants : List Literal) (low : ℕ) (bs : List CodeBlock) (i : ℕ) (b : CodeBlock) → slice_get bs i ≡ Some b
+    → start_from types variables constants low bs (suc i) ≡ start_from types variables constants low bs i + block_length types variables constants b
+start-next types variables constants low [] i b e = none-not_some e
+start-next types variables constants low (c ∷ bs) zero b e = start-zero types variables constants (low + block_length types variables constants c) bs ∙ ap (λ (c : CodeBlock). low + block_length types variables constants c) (some-injective e)
+start-next types variables constants low (c ∷ bs) (suc i) b e = start-next types variables constants (low + block_length types variables constants c) bs i b e
+
+-- a block that goes on ends where the next one begins
+pub onward-ends : (types : TypeTable) (variables : List ℕ) (constants : List Literal) (low : ℕ) (bs : List CodeBlock) (i : ℕ) (b : CodeBlock) → slice_get bs i ≡ Some b → b.departures ≡ []
+    → start_from types variables constants low bs (suc i) ≡ edges_at types variables constants (start_from types variables constants low bs i) b
+onward-ends types variables constants low bs i b at none =
+    let s = start-next types variables constants low bs i b at in
+    let t : total edge_length b.departures ≡ 0 = ap (total edge_length) none in
+    omega (arith, s, t)
+
+plain-only : (types : TypeTable) (variables : List ℕ) (form : Form) → outcomes types variables form ≡ ok ∷ [] → IsNoFor form
+plain-only types variables (Form.For r t) e = let k : ⊥ = cc in absurd k
+plain-only types variables form e = tt
+
+module _ (count : ℕ) (types : TypeTable) (variables : List ℕ) (constants : List Literal) (processes : List Process) (entry : Departure) (blocks : List CodeBlock) (formed : IsWellFormedTable count types)
+    (reached : AreReached types variables entry blocks) (typed : AreTypedBlocks types variables constants count processes blocks) where
+  abbrev the_start : ℕ → ℕ
+  the_start n = start types variables constants entry blocks n
+
+  abbrev IsFirstLabelled : ℕ → CodeBlock → Type 0
+  IsFirstLabelled i b = label_at types constants (module_of types variables constants entry blocks) (the_start i) ≡ Some (label_with b.facts b.slots)
+
+  -- behind a block that goes on
+  handed-first : (i : ℕ) → ((a : CodeBlock) → slice_get blocks i ≡ Some a → IsFirstLabelled i a) → (b a : CodeBlock) → slice_get blocks (suc i) ≡ Some b → comes_first entry blocks (suc i) ≡ false → slice_get blocks i ≡ Some a → a.onward ≡ true
+      → b.facts ≡ facts_after types variables a.form ok a.facts → b.slots ≡ edge_slots types variables a → IsFirstLabelled (suc i) b
+  handed-first i before b a at-b led at-a onward facts slots =
+      ap (label_at types constants (module_of types variables constants entry blocks)) ends
+      ∙ front-handed count types variables constants processes entry blocks formed i before a (plain-only types variables a.form goes.1) at-a (typed i a at-a) ok (subst (IsIn ok) (sym goes.1) (inl refl)) refl Step
+      (ap (slice_get (module_of types variables constants entry blocks).code) (sym ends) ∙ code-block types variables constants entry blocks (the_start (suc i)) (suc i) 0 b (at-b, omega arith, omega arith))
+      (ap (listed_at (module_of types variables constants entry blocks).labels) (sym ends) ∙ (blocks-labelled types variables constants entry blocks).first (suc i) b at-b ∙ ap (λ t. cond t (Some (label_with b.facts b.slots)) None) led)
+      ∙ ap₂ (λ fs ss. Some (label_with fs ss)) (sym facts) (sym slots)
+    where
+      goes : (a.departures ≡ []) × (outcomes types variables a.form ≡ ok ∷ [])
+      goes = (typed i a at-a).goes_on onward
+
+      ends : the_start (suc i) ≡ edges_at types variables constants (the_start i) a
+      ends = onward-ends types variables constants (edge_length entry) blocks i a at-a goes.0
+
+  first-labelled : (i : ℕ) (b : CodeBlock) → slice_get blocks i ≡ Some b → IsFirstLabelled i b
+  first-labelled zero b e = by (reached 0 b e)
+    where
+      by : (comes_first entry blocks 0 ≡ true) ⊎ IsHandedOn types variables blocks 0 b → IsFirstLabelled 0 b
+      by (inl led) = first-led types variables constants entry blocks 0 b e led
+      by (inr h) = let n = h.next in absurd (omega (arith, n))
+  first-labelled (suc i) b e = by (comes_first entry blocks (suc i)) refl (reached (suc i) b e) (first-labelled i)
+    where
+      by : (t : Bool) → comes_first entry blocks (suc i) ≡ t → (comes_first entry blocks (suc i) ≡ true) ⊎ IsHandedOn types variables blocks (suc i) b → ((a : CodeBlock) → slice_get blocks i ≡ Some a → IsFirstLabelled i a) → IsFirstLabelled (suc i) b
+      by true led r before = first-led types variables constants entry blocks (suc i) b e led
+      by false led (inl r) before = absurd (true≢false (sym r ∙ led))
+      by false led (inr h) before =
+          let n = h.next in
+          let same : h.before ≡ i = omega (arith, n) in
+          handed-first i before b h.block e led (ap (slice_get blocks) (sym same) ∙ h.there) h.onward h.facts h.slots
+
+pub first-steps_labelled : FirstStepsAreLabelled
+first-steps_labelled count types variables constants processes entry blocks formed reached typed i b e = first-labelled count types variables constants processes entry blocks formed reached typed i b e
+
 pub edges-are_labelled : EdgesAreLabelled
-edges-are_labelled count types variables constants processes entry blocks formed i j b d at-i h at-j = record {
-  before = edge-labelled count types variables constants processes entry blocks formed i b j d at-i h at-j;
-  at_last = last-labelled count types variables constants processes entry blocks formed i b j d at-i h at-j;
+edges-are_labelled count types variables constants processes entry blocks formed reached typed i j b d at-i at-j = record {
+  before = edge-labelled count types variables constants processes entry blocks formed i first b j d at-i (typed i b at-i) at-j;
+  at_last = last-labelled count types variables constants processes entry blocks formed i first b j d at-i (typed i b at-i) at-j;
 }
+  where
+    first : (c : CodeBlock) → slice_get blocks i ≡ Some c → label_at types constants (module_of types variables constants entry blocks) (start types variables constants entry blocks i) ≡ Some (label_with c.facts c.slots)
+    first c e = first-steps_labelled count types variables constants processes entry blocks formed reached typed i c e

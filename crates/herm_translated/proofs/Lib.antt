@@ -12,4 +12,6 @@ pub mod EdgesLabelled
 pub mod EachInstruction
 pub mod StructureKept
 pub mod NamedIndices
+pub mod PlainEdges
 pub mod LinkedProcess
+pub mod SettledFacts

@@ -1,5 +1,5 @@
 -- The blocks of a typed process are linked.
-use Rattle.std.proofs.Common.{◌≡◌, ℕ, zero, suc, ◌+◌, ◌<◌, ◌≤◌, length, List, [], ◌∷◌, map, Bool, true, false, cond, nat_eq, Option, Some, None, slice_get, ◌⊎◌, inl, inr, refl, sym, ap, subst, ◌∙◌, arith, true≢false}
+use Rattle.std.proofs.Common.{◌≡◌, ℕ, zero, suc, ◌+◌, ◌<◌, ◌≤◌, length, List, [], ◌∷◌, map, Bool, true, false, cond, not, nat_eq, Option, Some, None, slice_get, ◌⊎◌, inl, inr, refl, sym, ap, subst, ◌∙◌, arith, true≢false}
 use Rattle.std.proofs.lemmas.Bool.{eqb-true}
 use Rattle.herm_model.specs.Lists.{IsIn, any_pass, map_or, list_of, range}
 use Rattle.herm_model.specs.Paths.{Path, Fact}
@@ -18,7 +18,7 @@ use Rattle.herm_model.specs.TypedStatements.{IsTypedForm}
 use Rattle.herm_model.specs.TypedPrograms.{IsTypedProcess}
 use Rattle.herm_model.specs.laws.FlowLaws.{Rise, IsThere}
 use Rattle.herm_model.proofs.Options.{some-injective, none-not_some}
-use Rattle.herm_model.proofs.Lists.{length-map, in-append_cases, in-map, in-map_from}
+use Rattle.herm_model.proofs.Lists.{length-map, in-append_cases, in-map, in-map_from, and-both}
 use Rattle.herm_model.proofs.FactTests.{got-IsIn}
 use Rattle.herm_model.proofs.Deciding.{below-in}
 use Rattle.herm_model.proofs.TypedCalls.{shape-is}
@@ -30,13 +30,14 @@ use Rattle.herm_forms.specs.Modules.{Module, module_of}
 use Rattle.herm_instructions.specs.Labels.{Slot}
 use Rattle.herm_instructions.specs.Effects.{row_type}
 use Rattle.herm_translated.specs.Departures.{Arrival, to_block, to_second_step, Departure}
-use Rattle.herm_translated.specs.CodeBlocks.{CheckedModule, CodeBlock, own_slot, slots_within, first_list, further_lists, number_at, is_around, slots_among, slots_around, arrival_at, departure, departures_of, block_of, blocks_from, blocks_of, entry_edge}
+use Rattle.herm_translated.specs.CodeBlocks.{CheckedModule, CodeBlock, own_slot, slots_within, first_list, further_lists, number_at, is_around, slots_among, slots_around, arrival_at, departure, departures_of, edges_of, goes_onward, block_of, blocks_from, blocks_of, entry_edge}
 use Rattle.herm_translated.specs.laws.NamedComponents.{NamesAll}
 use Rattle.herm_translated.specs.laws.CheckedBlocks.{checked, HasLinkedBlocks, TypedProcessesAreLinked, TypedProcessesAreStructured}
 use Rattle.herm_translated.proofs.StructureKept.{linked-structured}
 use Rattle.herm_translated.proofs.Addresses.{outcome_of}
 use Rattle.herm_translated.proofs.EdgesLabelled.{got-some}
 use Rattle.herm_translated.proofs.NamedIndices.{any-from}
+use Rattle.herm_translated.proofs.PlainEdges.{one-plain}
 
 pub in-below : (k n i : ℕ) → IsIn i (range k n) → (k ≤ i) × (i < k + n)
 in-below k zero i h = absurd h
@@ -79,12 +80,12 @@ module _ (c : Module) where
   arrives-second slots end n e = none-not_some (ap second_in e)
   arrives-second slots (end_by x) n e = none-not_some (ap second_in e)
 
-  departure-arrives : (slots : List Slot) (o : Outcome) (t : Target) (drops : List Path) → (departure c slots o t drops).arrival ≡ arrival_at c slots t
+  pub departure-arrives : (slots : List Slot) (o : Outcome) (t : Target) (drops : List Path) → (departure c slots o t drops).arrival ≡ arrival_at c slots t
   departure-arrives slots o (node i) drops = refl
   departure-arrives slots o end drops = refl
   departure-arrives slots o (end_by e) drops = refl
 
-  departure-outcome : (slots : List Slot) (o : Outcome) (t : Target) (drops : List Path) → (departure c slots o t drops).outcome ≡ o
+  pub departure-outcome : (slots : List Slot) (o : Outcome) (t : Target) (drops : List Path) → (departure c slots o t drops).outcome ≡ o
   departure-outcome slots o (node i) drops = refl
   departure-outcome slots o end drops = refl
   departure-outcome slots o (end_by e) drops = refl
@@ -105,7 +106,7 @@ module _ (c : Module) where
   block-node k (n ∷ ns) facts drops b (inl e) = (n, k, first_list facts, first_list drops, inl refl, e)
   block-node k (n ∷ ns) facts drops b (inr h) = let r = block-node (suc k) ns (further_lists facts) (further_lists drops) b h in (r.0, r.1, r.2, r.3, inr r.4, r.5)
 
-  node-block : (k : ℕ) (ns : List Node) (facts : List (List Fact)) (drops : List (List (List Path))) (i : ℕ) (n : Node) → slice_get ns i ≡ Some n → (b : CodeBlock) × (slice_get (blocks_from c k ns facts drops) i ≡ Some b) × (b.form ≡ n.form)
+  pub node-block : (k : ℕ) (ns : List Node) (facts : List (List Fact)) (drops : List (List (List Path))) (i : ℕ) (n : Node) → slice_get ns i ≡ Some n → (b : CodeBlock) × (slice_get (blocks_from c k ns facts drops) i ≡ Some b) × (b.form ≡ n.form)
   node-block k [] facts drops i n e = none-not_some e
   node-block k (m ∷ ns) facts drops zero n e = (_, refl, ap (λ (n : Node). n.form) (some-injective e))
   node-block k (m ∷ ns) facts drops (suc i) n e = node-block (suc k) ns (further_lists facts) (further_lists drops) i n e
@@ -157,7 +158,7 @@ module _ (count : ℕ) (table : TypeTable) (processes : List Process) (p : Proce
   number-of : (n : ℕ) (x : Node) → slice_get (process_nodes p) n ≡ Some x → number_at c n ≡ x.number
   number-of n x e = ap (map_or 0 (λ (n : Node). n.number)) e
 
-  second-loop : (n : Node) (i k : ℕ) → IsIn n (process_nodes p) → IsThere (length (flow_of table p).points) (node k) → any_pass (λ (s : Slot). nat_eq s.number (number_at c k)) (slots_within table p.variables n.number n.form (slots_around c i)) ≡ true
+  pub second-loop : (n : Node) (i k : ℕ) → IsIn n (process_nodes p) → IsThere (length (flow_of table p).points) (node k) → any_pass (λ (s : Slot). nat_eq s.number (number_at c k)) (slots_within table p.variables n.number n.form (slots_around c i)) ≡ true
       → (b : CodeBlock) × (r t : Path) × (slice_get (blocks_of m) k ≡ Some b) × (b.form ≡ Form.For r t)
   second-loop n i k in-n there any =
       let low : k < length (process_nodes p) = (let many = nodes-many in omega (arith, there, many)) in
@@ -182,28 +183,80 @@ module _ (count : ℕ) (table : TypeTable) (processes : List Process) (p : Proce
       ))
   names-all form h = tt
 
-  outcomes-of : (b : CodeBlock) → IsIn b (blocks_of m) → map outcome_of b.departures ≡ outcomes table p.variables b.form
-  outcomes-of b h =
+  abbrev AtNode : CodeBlock → Type 0
+  AtNode b = (n : Node) × (i : ℕ) × (fs : List Fact) × (ds : List (List Path)) × IsIn n (process_nodes p) × (b ≡ block_of c i n fs ds)
+
+  abbrev goes : (b : CodeBlock) → AtNode b → Bool
+  goes b r = goes_onward c r.1 (edges_of c r.1 r.0 r.3)
+
+  all-outcomes : (i : ℕ) (n : Node) (ds : List (List Path)) → IsIn n (process_nodes p) → map outcome_of (edges_of c i n ds) ≡ outcomes table p.variables n.form
+  all-outcomes i n ds m = departures-outcomes c (slots_within table p.variables n.number n.form (slots_around c i)) (exits table p.variables n) ds ∙ exits-outcomes table p n typed.blocks m
+
+  onward-is : (b : CodeBlock) (r : AtNode b) (t : Bool) → b.onward ≡ t → goes b r ≡ t
+  onward-is b r t e = ap (λ (b : CodeBlock). b.onward) (sym r.5) ∙ e
+
+  departures-are : (b : CodeBlock) (r : AtNode b) (t : Bool) → goes b r ≡ t → b.departures ≡ cond t [] (edges_of c r.1 r.0 r.3)
+  departures-are b r t e = ap (λ (b : CodeBlock). b.departures) r.5 ∙ ap (λ t. cond t [] (edges_of c r.1 r.0 r.3)) e
+
+  outcomes-of : (b : CodeBlock) → IsIn b (blocks_of m) → b.onward ≡ false → map outcome_of b.departures ≡ outcomes table p.variables b.form
+  outcomes-of b h off =
       let r = block-is b h in
-      ap (λ (b : CodeBlock). map outcome_of b.departures) r.5
-      ∙ departures-outcomes c (slots_within table p.variables r.0.number r.0.form (slots_around c r.1)) (exits table p.variables r.0) r.3
-      ∙ exits-outcomes table p r.0 typed.blocks r.4
-      ∙ ap (λ (b : CodeBlock). outcomes table p.variables b.form) (sym r.5)
+      ap (map outcome_of) (departures-are b r false (onward-is b r false off)) ∙ all-outcomes r.1 r.0 r.3 r.4 ∙ ap (λ (b : CodeBlock). outcomes table p.variables b.form) (sym r.5)
+
+  goes-on : (b : CodeBlock) → IsIn b (blocks_of m) → b.onward ≡ true → (b.departures ≡ []) × (outcomes table p.variables b.form ≡ Outcomes.ok ∷ [])
+  goes-on b h on =
+      let r = block-is b h in
+      let q = onward-is b r true on in
+      let one = one-plain (suc r.1) (edges_of c r.1 r.0 r.3) (and-both _ _ q).0 in
+      (departures-are b r true q, ap (λ (b : CodeBlock). outcomes table p.variables b.form) r.5 ∙ sym (all-outcomes r.1 r.0 r.3 r.4) ∙ ap (map outcome_of) one.only ∙ ap (λ o. o ∷ []) one.outcome)
 
   edges-same : (form : Form) (xs : List Exit) → map (λ (e : Edge). e.outcome) (map (edge table p.variables form) xs) ≡ map (λ (x : Exit). x.outcome) xs
   edges-same form [] = refl
   edges-same form (x ∷ xs) = ap (x.outcome ∷◌) (edges-same form xs)
 
   outcomes-apart : (b : CodeBlock) → IsIn b (blocks_of m) → Differ (map outcome_of b.departures)
-  outcomes-apart b h =
-      let r = block-is b h in
-      let same : map outcome_of b.departures ≡ map (λ (e : Edge). e.outcome) (point table p.variables r.0).edges
-      = ap (λ (b : CodeBlock). map outcome_of b.departures) r.5 ∙ departures-outcomes c (slots_within table p.variables r.0.number r.0.form (slots_around c r.1)) (exits table p.variables r.0) r.3 ∙ sym (edges-same r.0.form (exits table p.variables r.0)) in
-      subst Differ (sym same) (process-EdgesDiffer table p typed.blocks (point table p.variables r.0) (in-map (point table p.variables) r.0 (process_nodes p) r.4))
+  outcomes-apart b h = by (goes b r) (departures-are b r (goes b r) refl)
+    where
+      r : AtNode b
+      r = block-is b h
 
-  leads-of : (b : CodeBlock) (d : Departure) → (r : (n : Node) × (i : ℕ) × (fs : List Fact) × (ds : List (List Path)) × IsIn n (process_nodes p) × (b ≡ block_of c i n fs ds)) → IsIn d b.departures
-      → (x : Exit) × IsIn x (exits table p.variables r.0) × (d.arrival ≡ arrival_at c (slots_within table p.variables r.0.number r.0.form (slots_around c r.1)) x.target)
-  leads-of b d r h = departure-exit c (slots_within table p.variables r.0.number r.0.form (slots_around c r.1)) (exits table p.variables r.0) r.3 d (subst (λ (b : CodeBlock). IsIn d b.departures) r.5 h)
+      all : Differ (map outcome_of (edges_of c r.1 r.0 r.3))
+      all =
+          let same : map outcome_of (edges_of c r.1 r.0 r.3) ≡ map (λ (e : Edge). e.outcome) (point table p.variables r.0).edges
+          = departures-outcomes c (slots_within table p.variables r.0.number r.0.form (slots_around c r.1)) (exits table p.variables r.0) r.3 ∙ sym (edges-same r.0.form (exits table p.variables r.0)) in
+          subst Differ (sym same) (process-EdgesDiffer table p typed.blocks (point table p.variables r.0) (in-map (point table p.variables) r.0 (process_nodes p) r.4))
+
+      by : (t : Bool) → b.departures ≡ cond t [] (edges_of c r.1 r.0 r.3) → Differ (map outcome_of b.departures)
+      by true e = subst (λ ds. Differ (map outcome_of ds)) (sym e) tt
+      by false e = subst (λ ds. Differ (map outcome_of ds)) (sym e) all
+
+  -- an edge of a block is one of its node's edges
+  chosen : (t : Bool) (ds : List Departure) (d : Departure) → IsIn d (cond t [] ds) → IsIn d ds
+  chosen true ds d h = absurd h
+  chosen false ds d h = h
+
+  leads-of : (b : CodeBlock) (d : Departure) → (r : AtNode b) → IsIn d b.departures → (x : Exit) × IsIn x (exits table p.variables r.0) × (d.arrival ≡ arrival_at c (slots_within table p.variables r.0.number r.0.form (slots_around c r.1)) x.target)
+  leads-of b d r h =
+      departure-exit c (slots_within table p.variables r.0.number r.0.form (slots_around c r.1)) (exits table p.variables r.0) r.3 d
+      (chosen (goes b r) (edges_of c r.1 r.0 r.3) d (subst (λ (b : CodeBlock). IsIn d b.departures) r.5 h))
+
+  -- the block at a place
+  pub block-place : (k : ℕ) (ns : List Node) (facts : List (List Fact)) (drops : List (List (List Path))) (i : ℕ) (b : CodeBlock) → slice_get (blocks_from c k ns facts drops) i ≡ Some b
+      → (n : Node) × (fs : List Fact) × (ds : List (List Path)) × (slice_get ns i ≡ Some n) × (b ≡ block_of c (k + i) n fs ds)
+  block-place k [] facts drops i b e = none-not_some e
+  block-place k (n ∷ ns) facts drops zero b e = (n, first_list facts, first_list drops, refl, sym (some-injective e) ∙ ap (λ j. block_of c j n (first_list facts) (first_list drops)) (omega arith))
+  block-place k (n ∷ ns) facts drops (suc i) b e =
+      let r = block-place (suc k) ns (further_lists facts) (further_lists drops) i b e in
+      (r.0, r.1, r.2, r.3, r.4 ∙ ap (λ j. block_of c j r.0 r.1 r.2) (omega arith))
+
+  next-there : (i : ℕ) (b : CodeBlock) → slice_get (blocks_of m) i ≡ Some b → b.onward ≡ true → (b : CodeBlock) × (slice_get (blocks_of m) (suc i) ≡ Some b)
+  next-there i b at on =
+      let r = block-place 0 (process_nodes p) facts drops i b at in
+      let q : goes_onward c i (edges_of c i r.0 r.2) ≡ true = ap (λ j. goes_onward c j (edges_of c j r.0 r.2)) (omega arith) ∙ ap (λ (b : CodeBlock). b.onward) (sym r.4) ∙ on in
+      let one = one-plain (suc i) (edges_of c i r.0 r.2) (and-both _ _ q).0 in
+      let x = departure-exit c (slots_within table p.variables r.0.number r.0.form (slots_around c i)) (exits table p.variables r.0) r.2 one.edge (subst (IsIn one.edge) (sym one.only) (inl refl)) in
+      let t = arrives-block c (slots_within table p.variables r.0.number r.0.form (slots_around c i)) x.0.target (suc i) (sym x.2 ∙ one.arrival) in
+      there-block (suc i) (subst (IsThere (length (flow_of table p).points)) t (exit-there r.0 (got-IsIn (process_nodes p) i r.0 r.3) x.0 x.1))
 
   entry-place : (n : ℕ) → (entry_edge m).arrival ≡ to_block n → (b : CodeBlock) × (slice_get (blocks_of m) n ≡ Some b)
   entry-place n e =
@@ -225,9 +278,11 @@ module _ (count : ℕ) (table : TypeTable) (processes : List Process) (p : Proce
           let x = leads-of b d r in-d in
           let t = arrives-second c (slots_within table p.variables r.0.number r.0.form (slots_around c r.1)) x.0.target n (sym x.2 ∙ e) in
           second-loop r.0 r.1 n r.4 (subst (IsThere (length (flow_of table p).points)) t.0 (exit-there r.0 r.4 x.0 x.1)) t.1);
+      onward = next-there;
       names = λ b in-b. (let r = block-is b in-b in subst (λ (b : CodeBlock). NamesAll table p.variables b.form) (sym r.5) (names-all r.0.form (typed.typed r.0 r.4)));
     };
     outcomes_in_order = outcomes-of;
+    goes_on = goes-on;
     outcomes_differ = outcomes-apart;
   }
 

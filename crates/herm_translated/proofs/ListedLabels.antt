@@ -124,47 +124,55 @@ module _ (types : TypeTable) (variables : List ℕ) where
     within-rises at again b (Raise e) = omega arith
     within-rises at again b Leave = omega arith
 
-    pub block-labels_rise : (at : ℕ) (again : Bool) (b : CodeBlock) → RiseWithin at (at + block_length types variables constants b) (block_labels types variables constants at again b)
-    block-labels_rise at again b = (
-      omega arith,
-      within-joined (suc at) (edges_at types variables constants at b) (at + block_length types variables constants b) (labels_within types variables at again b b.form) _ (within-rises at again b b.form)
-          (within-to (edges_at types variables constants at b) (edges_at types variables constants at b + total edge_length b.departures) (at + block_length types variables constants b) (edge_labels types variables (edges_at types variables constants at b) b b.departures) (omega arith) (edge-labels_rise (edges_at types variables constants at b) b b.departures)),
-    )
+    behind-rises : (at : ℕ) (again : Bool) (b : CodeBlock) → RiseWithin (suc at) (at + block_length types variables constants b) (labels_within types variables at again b b.form ++ edge_labels types variables (edges_at types variables constants at b) b b.departures)
+    behind-rises at again b =
+        within-joined (suc at) (edges_at types variables constants at b) (at + block_length types variables constants b) (labels_within types variables at again b b.form) _ (within-rises at again b b.form)
+        (within-to (edges_at types variables constants at b) (edges_at types variables constants at b + total edge_length b.departures) (at + block_length types variables constants b) (edge_labels types variables (edges_at types variables constants at b) b b.departures) (omega arith) (edge-labels_rise (edges_at types variables constants at b) b b.departures))
 
-    pub labels-rise : (again : ℕ → Bool) (i at : ℕ) (bs : List CodeBlock) → RiseWithin at (at + total (block_length types variables constants) bs) (labels_from types variables constants again i at bs)
-    labels-rise again i at [] = omega arith
-    labels-rise again i at (b ∷ bs) =
-        within-joined at (at + block_length types variables constants b) (at + total (block_length types variables constants) (b ∷ bs)) (block_labels types variables constants at (again i) b) _ (block-labels_rise at (again i) b)
-        (within-to (at + block_length types variables constants b) (at + block_length types variables constants b + total (block_length types variables constants) bs) (at + total (block_length types variables constants) (b ∷ bs)) (labels_from types variables constants again (suc i) (at + block_length types variables constants b) bs) (omega arith) (labels-rise again (suc i) (at + block_length types variables constants b) bs))
+    pub block-labels_rise : (at : ℕ) (first again : Bool) (b : CodeBlock) → RiseWithin at (at + block_length types variables constants b) (block_labels types variables constants at first again b)
+    block-labels_rise at true again b = (omega arith, behind-rises at again b)
+    block-labels_rise at false again b = within-from (suc at) at (at + block_length types variables constants b) _ (omega arith) (behind-rises at again b)
+
+    pub labels-rise : (first again : ℕ → Bool) (i at : ℕ) (bs : List CodeBlock) → RiseWithin at (at + total (block_length types variables constants) bs) (labels_from types variables constants first again i at bs)
+    labels-rise first again i at [] = omega arith
+    labels-rise first again i at (b ∷ bs) =
+        within-joined at (at + block_length types variables constants b) (at + total (block_length types variables constants) (b ∷ bs)) (block_labels types variables constants at (first i) (again i) b) _ (block-labels_rise at (first i) (again i) b)
+        (within-to (at + block_length types variables constants b) (at + block_length types variables constants b + total (block_length types variables constants) bs) (at + total (block_length types variables constants) (b ∷ bs)) (labels_from types variables constants first again (suc i) (at + block_length types variables constants b) bs) (omega arith) (labels-rise first again (suc i) (at + block_length types variables constants b) bs))
 
     -- an index of a block is looked up among the labels of the block
-    pub listed-in_block : (again : ℕ → Bool) (j at : ℕ) (bs : List CodeBlock) (i k : ℕ) (b : CodeBlock) (n : ℕ) → slice_get bs i ≡ Some b → k < block_length types variables constants b → n ≡ start_from types variables constants at bs i + k
-        → listed_at (labels_from types variables constants again j at bs) n ≡ listed_at (block_labels types variables constants (start_from types variables constants at bs i) (again (j + i)) b) n
-    listed-in_block again j at [] i k b n e h m = none-not_some e
-    listed-in_block again j at (c ∷ bs) zero k b n e h m =
+    pub listed-in_block : (first again : ℕ → Bool) (j at : ℕ) (bs : List CodeBlock) (i k : ℕ) (b : CodeBlock) (n : ℕ) → slice_get bs i ≡ Some b → k < block_length types variables constants b → n ≡ start_from types variables constants at bs i + k
+        → listed_at (labels_from types variables constants first again j at bs) n ≡ listed_at (block_labels types variables constants (start_from types variables constants at bs i) (first (j + i)) (again (j + i)) b) n
+    listed-in_block first again j at [] i k b n e h m = none-not_some e
+    listed-in_block first again j at (c ∷ bs) zero k b n e h m =
         let same : c ≡ b = some-injective e in
         let long : block_length types variables constants c ≡ block_length types variables constants b = ap (block_length types variables constants) same in
-        listed-left (at + block_length types variables constants c) (at + block_length types variables constants c + total (block_length types variables constants) bs) (block_labels types variables constants at (again j) c) _ (labels-rise again (suc j) (at + block_length types variables constants c) bs) n (omega (arith, m, h, long))
-        ∙ ap (λ (x : CodeBlock). listed_at (block_labels types variables constants at (again j) x) n) same
-        ∙ ap (λ y. listed_at (block_labels types variables constants at (again y) b) n) (omega arith)
-    listed-in_block again j at (c ∷ bs) (suc i) k b n e h m =
+        listed-left (at + block_length types variables constants c) (at + block_length types variables constants c + total (block_length types variables constants) bs) (block_labels types variables constants at (first j) (again j) c) _ (labels-rise first again (suc j) (at + block_length types variables constants c) bs) n (omega (arith, m, h, long))
+        ∙ ap (λ (x : CodeBlock). listed_at (block_labels types variables constants at (first j) (again j) x) n) same
+        ∙ ap (λ y. listed_at (block_labels types variables constants at (first y) (again y) b) n) (omega arith)
+    listed-in_block first again j at (c ∷ bs) (suc i) k b n e h m =
         let behind = starts-behind types variables constants (at + block_length types variables constants c) bs i in
-        listed-right at (at + block_length types variables constants c) (block_labels types variables constants at (again j) c) _ (block-labels_rise at (again j) c) n (omega (arith, m, behind))
-        ∙ listed-in_block again (suc j) (at + block_length types variables constants c) bs i k b n e h m
-        ∙ ap (λ y. listed_at (block_labels types variables constants (start_from types variables constants (at + block_length types variables constants c) bs i) (again y) b) n) (omega arith)
+        listed-right at (at + block_length types variables constants c) (block_labels types variables constants at (first j) (again j) c) _ (block-labels_rise at (first j) (again j) c) n (omega (arith, m, behind))
+        ∙ listed-in_block first again (suc j) (at + block_length types variables constants c) bs i k b n e h m
+        ∙ ap (λ y. listed_at (block_labels types variables constants (start_from types variables constants (at + block_length types variables constants c) bs i) (first y) (again y) b) n) (omega arith)
 
-    -- at its first index a block is labelled as its node is
-    pub listed-first : (at : ℕ) (again : Bool) (b : CodeBlock) → listed_at (block_labels types variables constants at again b) at ≡ Some (label_with b.facts b.slots)
-    listed-first at again b = listed-here (listed_with at b.facts b.slots) _ at refl
+    -- at its first index a block is labelled as its node is, where an edge leads there
+    pub listed-first : (at : ℕ) (first again : Bool) (b : CodeBlock) → listed_at (block_labels types variables constants at first again b) at ≡ cond first (Some (label_with b.facts b.slots)) None
+    listed-first at true again b = listed-here (listed_with at b.facts b.slots) _ at refl
+    listed-first at false again b = none-below (suc at) (at + block_length types variables constants b) _ (behind-rises at again b) at (omega arith)
+
+    -- behind it, that label says nothing
+    past-first : (at : ℕ) (first again : Bool) (b : CodeBlock) (n : ℕ) → at < n → listed_at (block_labels types variables constants at first again b) n ≡ listed_at (labels_within types variables at again b b.form ++ edge_labels types variables (edges_at types variables constants at b) b b.departures) n
+    past-first at true again b n low = listed-on (listed_with at b.facts b.slots) _ n (λ e. absurd (omega (arith, e, low)))
+    past-first at false again b n low = refl
 
     -- within its front there are the labels of a `for` alone
-    pub listed-within : (at : ℕ) (again : Bool) (b : CodeBlock) (n : ℕ) → at < n → n < edges_at types variables constants at b → listed_at (block_labels types variables constants at again b) n ≡ listed_at (labels_within types variables at again b b.form) n
-    listed-within at again b n low high =
-        listed-on (listed_with at b.facts b.slots) _ n (λ e. absurd (omega (arith, e, low)))
+    pub listed-within : (at : ℕ) (first again : Bool) (b : CodeBlock) (n : ℕ) → at < n → n < edges_at types variables constants at b → listed_at (block_labels types variables constants at first again b) n ≡ listed_at (labels_within types variables at again b b.form) n
+    listed-within at first again b n low high =
+        past-first at first again b n low
         ∙ listed-left (edges_at types variables constants at b) (edges_at types variables constants at b + total edge_length b.departures) (labels_within types variables at again b b.form) _ (edge-labels_rise (edges_at types variables constants at b) b b.departures) n high
 
     -- from its edges on there are the labels of the edges
-    pub listed-edges : (at : ℕ) (again : Bool) (b : CodeBlock) (n : ℕ) → edges_at types variables constants at b ≤ n → listed_at (block_labels types variables constants at again b) n ≡ listed_at (edge_labels types variables (edges_at types variables constants at b) b b.departures) n
-    listed-edges at again b n low =
-        listed-on (listed_with at b.facts b.slots) _ n (λ e. absurd (omega (arith, e, low)))
+    pub listed-edges : (at : ℕ) (first again : Bool) (b : CodeBlock) (n : ℕ) → edges_at types variables constants at b ≤ n → listed_at (block_labels types variables constants at first again b) n ≡ listed_at (edge_labels types variables (edges_at types variables constants at b) b b.departures) n
+    listed-edges at first again b n low =
+        past-first at first again b n (omega (arith, low))
         ∙ listed-right (suc at) (edges_at types variables constants at b) (labels_within types variables at again b b.form) _ (within-rises at again b b.form) n low

@@ -20,7 +20,7 @@ use Rattle.herm_translated.specs.Fronts.{front}
 use Rattle.herm_translated.specs.Departures.{Arrival, to_block, to_second_step, to_end, to_end_by, Departure, second_step, arrive_by, edge_code, edge_length}
 use Rattle.herm_translated.specs.CodeBlocks.{CodeBlock}
 use Rattle.herm_translated.specs.Layout.{edge_at, landings_by, edges_at, exit_of, block_length, block_code, start_from}
-use Rattle.herm_translated.specs.BlockLabels.{label_with, listed_with, is_named, facts_after, comes_again, goes_to_second, edge_slots, labels_within, edge_labels, block_labels, labels_from}
+use Rattle.herm_translated.specs.BlockLabels.{label_with, listed_with, is_named, facts_after, goes_to_first, comes_first, comes_again, goes_to_second, edge_slots, labels_within, edge_labels, block_labels, labels_from}
 use Rattle.herm_translated.specs.laws.LayoutLaws.{start, IsInBlock}
 use Rattle.herm_translated.specs.laws.GoodStructure.{AreComplete, code_module, CompleteBlocksAreListed}
 use Rattle.herm_translated.proofs.Joined.{get-left, get-right, map-joined, got-within}
@@ -30,7 +30,7 @@ use Rattle.herm_translated.proofs.ListedLabels.{listed-here, listed-on}
 use Rattle.herm_translated.proofs.LabelsStand.{blocks-labelled}
 use Rattle.herm_translated.proofs.FrontWays.{LeadsToExit, JumpsWithin, front-ways}
 use Rattle.herm_translated.proofs.NamedOutcomes.{outcome-named}
-use Rattle.herm_translated.proofs.StructureKept.{Stands, on_entry, at_step, in_front, on_edges, stands, second-listed, first-step, edge-leads, within-later, comes, LeadsOn, IsListedStep}
+use Rattle.herm_translated.proofs.StructureKept.{Stands, on_entry, at_step, in_front, on_edges, stands, second-listed, first-step, led-entry, led-edge, edge-leads, within-later, comes, LeadsOn, IsListedStep}
 
 abbrev indices : List ListedLabel → List ℕ
 indices ls = map (λ (x : ListedLabel). x.index) ls
@@ -92,19 +92,19 @@ module _ (types : TypeTable) (variables : List ℕ) where
   within-index_from at again b form n h = absurd h
 
   module _ (constants : List Literal) where
-    labels-index_from : (again : ℕ → Bool) (j at : ℕ) (bs : List CodeBlock) (n : ℕ) → IsIn n (indices (labels_from types variables constants again j at bs))
-        → (i : ℕ) × (b : CodeBlock) × (slice_get bs i ≡ Some b) × IsIn n (indices (block_labels types variables constants (start_from types variables constants at bs i) (again (j + i)) b))
-    labels-index_from again j at [] n h = absurd h
-    labels-index_from again j at (c ∷ bs) n h = by (index-joined (block_labels types variables constants at (again j) c) _ n h) (labels-index_from again (suc j) (at + block_length types variables constants c) bs n)
+    labels-index_from : (first again : ℕ → Bool) (j at : ℕ) (bs : List CodeBlock) (n : ℕ) → IsIn n (indices (labels_from types variables constants first again j at bs))
+        → (i : ℕ) × (b : CodeBlock) × (slice_get bs i ≡ Some b) × IsIn n (indices (block_labels types variables constants (start_from types variables constants at bs i) (first (j + i)) (again (j + i)) b))
+    labels-index_from first again j at [] n h = absurd h
+    labels-index_from first again j at (c ∷ bs) n h = by (index-joined (block_labels types variables constants at (first j) (again j) c) _ n h) (labels-index_from first again (suc j) (at + block_length types variables constants c) bs n)
       where
-        by : IsIn n (indices (block_labels types variables constants at (again j) c)) ⊎ IsIn n (indices (labels_from types variables constants again (suc j) (at + block_length types variables constants c) bs))
-            → (IsIn n (indices (labels_from types variables constants again (suc j) (at + block_length types variables constants c) bs))
-            → (i : ℕ) × (b : CodeBlock) × (slice_get bs i ≡ Some b) × IsIn n (indices (block_labels types variables constants (start_from types variables constants (at + block_length types variables constants c) bs i) (again (suc j + i)) b)))
-            → (i : ℕ) × (b : CodeBlock) × (slice_get (c ∷ bs) i ≡ Some b) × IsIn n (indices (block_labels types variables constants (start_from types variables constants at (c ∷ bs) i) (again (j + i)) b))
-        by (inl a) next = (0, c, refl, subst (λ y. IsIn n (indices (block_labels types variables constants at (again y) c))) (omega arith) a)
+        by : IsIn n (indices (block_labels types variables constants at (first j) (again j) c)) ⊎ IsIn n (indices (labels_from types variables constants first again (suc j) (at + block_length types variables constants c) bs))
+            → (IsIn n (indices (labels_from types variables constants first again (suc j) (at + block_length types variables constants c) bs))
+            → (i : ℕ) × (b : CodeBlock) × (slice_get bs i ≡ Some b) × IsIn n (indices (block_labels types variables constants (start_from types variables constants (at + block_length types variables constants c) bs i) (first (suc j + i)) (again (suc j + i)) b)))
+            → (i : ℕ) × (b : CodeBlock) × (slice_get (c ∷ bs) i ≡ Some b) × IsIn n (indices (block_labels types variables constants (start_from types variables constants at (c ∷ bs) i) (first (j + i)) (again (j + i)) b))
+        by (inl a) next = (0, c, refl, subst (λ y. IsIn n (indices (block_labels types variables constants at (first y) (again y) c))) (omega arith) a)
         by (inr k) next =
             let r = next k in
-            (suc r.0, r.1, r.2, subst (λ y. IsIn n (indices (block_labels types variables constants (start_from types variables constants (at + block_length types variables constants c) bs r.0) (again y) r.1))) (omega arith) r.3)
+            (suc r.0, r.1, r.2, subst (λ y. IsIn n (indices (block_labels types variables constants (start_from types variables constants (at + block_length types variables constants c) bs r.0) (first y) (again y) r.1))) (omega arith) r.3)
 
 module _ (count : ℕ) (image : Image) (variables : List ℕ) (entry : Departure) (blocks : List CodeBlock) (complete : AreComplete image.types variables entry blocks) where
   abbrev m : CodeModule
@@ -149,13 +149,27 @@ module _ (count : ℕ) (image : Image) (variables : List ℕ) (entry : Departure
       let l = last-of st entry in
       jump-named l.0 (arrive_by st entry.arrival) ((laid-out image.types variables image.constants entry blocks).entry_first l.0 l.1 ∙ l.2) w h
 
+  first-index : (n : ℕ) (a : Arrival) → goes_to_first n a ≡ true → a ≡ to_block n
+  first-index n (to_block k) e = ap to_block (eqb-true k n e)
+  first-index n (to_second_step k) e = absurd (true≢false (sym e))
+  first-index n to_end e = absurd (true≢false (sym e))
+  first-index n (to_end_by k) e = absurd (true≢false (sym e))
+
   -- a block is named by an edge that leads to it
-  block-named : (n : ℕ) (c : CodeBlock) → slice_get blocks n ≡ Some c → IsNamed (st n)
-  block-named n c at-n = by (complete.reached n c at-n)
+  block-named : (n : ℕ) → comes_first entry blocks n ≡ true → IsNamed (st n)
+  block-named n e = by (or-either (goes_to_first n entry.arrival) _ e)
     where
-      by : (entry.arrival ≡ to_block n) ⊎ ((i j : ℕ) × (b : CodeBlock) × (d : Departure) × (slice_get blocks i ≡ Some b) × (slice_get b.departures j ≡ Some d) × (d.arrival ≡ to_block n)) → IsNamed (st n)
-      by (inl e) = entry-named (record { outcome = ok; index = st n }) (subst (λ a. IsIn (record { outcome = ok; index = st n }) (jumps (arrive_by st a))) (sym e) (inl refl))
-      by (inr r) = edge-named r.0 r.1 r.2 r.3 r.4 r.5 (record { outcome = ok; index = st n }) (subst (λ a. IsIn (record { outcome = ok; index = st n }) (jumps (arrive_by st a))) (sym r.6) (inl refl))
+      to-first : (a : Arrival) → goes_to_first n a ≡ true → IsIn (record { outcome = ok; index = st n }) (jumps (arrive_by st a))
+      to-first a e = subst (λ a. IsIn (record { outcome = ok; index = st n }) (jumps (arrive_by st a))) (sym (first-index n a e)) (inl refl)
+
+      by : IsTrue (goes_to_first n entry.arrival) ⊎ IsTrue (any_pass (λ (b : CodeBlock). any_pass (λ (d : Departure). goes_to_first n d.arrival) b.departures) blocks) → IsNamed (st n)
+      by (inl x) = entry-named (record { outcome = ok; index = st n }) (to-first entry.arrival x)
+      by (inr x) =
+          let b = any-from (λ (b : CodeBlock). any_pass (λ (d : Departure). goes_to_first n d.arrival) b.departures) blocks x in
+          let d = any-from (λ (d : Departure). goes_to_first n d.arrival) b.0.departures b.2 in
+          let i = placed b.0 blocks b.1 in
+          let j = placed d.0 b.0.departures d.1 in
+          edge-named i.0 j.0 b.0 d.0 i.1 j.1 (record { outcome = ok; index = st n }) (to-first d.0.arrival d.2)
 
   second-index : (n : ℕ) (a : Arrival) → goes_to_second n a ≡ true → a ≡ to_second_step n
   second-index n (to_block k) e = absurd (true≢false (sym e))
@@ -180,11 +194,31 @@ module _ (count : ℕ) (image : Image) (variables : List ℕ) (entry : Departure
       (code-block image.types variables image.constants entry blocks (st n + 2) n 2 (record c { form = Form.For r t }) (at-n ∙ ap (λ f. Some (record c { form = f })) e, omega arith, refl))
       (record { outcome = ok; index = st n + 1 + 3 }) (inl refl))
 
+  -- the edges of a block that has some are those of its form's outcomes
+  in-order : (b : CodeBlock) (d : Departure) (j : ℕ) → IsIn b blocks → slice_get b.departures j ≡ Some d → map outcome_of b.departures ≡ outcomes image.types variables b.form
+  in-order b d j in-b at-j = by b.onward refl
+    where
+      by : (t : Bool) → b.onward ≡ t → map outcome_of b.departures ≡ outcomes image.types variables b.form
+      by true e = none-not_some (sym (ap (λ ds. slice_get ds j) (complete.goes_on b in-b e).0) ∙ at-j)
+      by false e = complete.outcomes_in_order b in-b e
+
+  -- and so are those of a block that has a named outcome
+  named-order : (b : CodeBlock) (o : Outcome) → IsIn b blocks → IsIn o (outcomes image.types variables b.form) → is_named o ≡ true → map outcome_of b.departures ≡ outcomes image.types variables b.form
+  named-order b o in-b in-o named = by b.onward refl
+    where
+      only : IsIn o (ok ∷ []) → map outcome_of b.departures ≡ outcomes image.types variables b.form
+      only (inl e) = absurd (true≢false (sym named ∙ ap is_named e))
+      only (inr k) = absurd k
+
+      by : (t : Bool) → b.onward ≡ t → map outcome_of b.departures ≡ outcomes image.types variables b.form
+      by true e = only (subst (IsIn o) (complete.goes_on b in-b e).1 in-o)
+      by false e = complete.outcomes_in_order b in-b e
+
   -- an outcome's edge is named in its front
   outcome-listed : (i j : ℕ) (b : CodeBlock) (d : Departure) → slice_get blocks i ≡ Some b → slice_get b.departures j ≡ Some d → is_named d.outcome ≡ true → IsNamed (exit i b d.outcome)
   outcome-listed i j b d at-i at-j q =
       let in-b = got-IsIn blocks i b at-i in
-      let in-o : IsIn d.outcome (outcomes image.types variables b.form) = subst (IsIn d.outcome) (complete.outcomes_in_order b in-b) (in-map outcome_of d b.departures (got-IsIn b.departures j d at-j)) in
+      let in-o : IsIn d.outcome (outcomes image.types variables b.form) = subst (IsIn d.outcome) (in-order b d j in-b at-j) (in-map outcome_of d b.departures (got-IsIn b.departures j d at-j)) in
       let r = outcome-named image.types variables image.constants (exit i b) b.facts b.statement (st i + 1) b.form (complete.linked.names b in-b) d.outcome in-o q in
       let k = placed r.0 (front image.types variables image.constants b.facts b.statement (st i + 1) (exit i b) b.form) r.1 in
       let low = got-within (front image.types variables image.constants b.facts b.statement (st i + 1) (exit i b) b.form) k.0 r.0 k.1 in
@@ -204,7 +238,7 @@ module _ (count : ℕ) (image : Image) (variables : List ℕ) (entry : Departure
 
   listed-named : (n : ℕ) → IsListed n → IsNamed n
   listed-named n h =
-      let r = labels-index_from image.types variables image.constants (comes_again blocks) 0 (edge_length entry) blocks n h in
+      let r = labels-index_from image.types variables image.constants (comes_first entry blocks) (comes_again blocks) 0 (edge_length entry) blocks n h in
       block-index r.0 r.1 r.2 r.3
     where
       rest-index : (i : ℕ) (b : CodeBlock) → slice_get blocks i ≡ Some b → (again : Bool) → again ≡ comes_again blocks i
@@ -221,20 +255,27 @@ module _ (count : ℕ) (image : Image) (variables : List ℕ) (entry : Departure
           let e = edge-index_from image.types variables (edges_at image.types variables image.constants (st i) b) b b.departures (complete.outcomes_differ b (got-IsIn blocks i b at-i)) n x in
           subst IsNamed (sym e.4) (outcome-listed i e.0 b e.1 at-i e.2 e.3)
 
-      block-index : (i : ℕ) (b : CodeBlock) → slice_get blocks i ≡ Some b → IsIn n (indices (block_labels image.types variables image.constants (st i) (comes_again blocks (0 + i)) b)) → IsNamed n
-      block-index i b at-i (inl e) = subst IsNamed (sym e) (block-named i b at-i)
-      block-index i b at-i (inr k) = rest-index i b at-i (comes_again blocks (0 + i)) (ap (comes_again blocks) (omega arith)) (index-joined (labels_within image.types variables (st i) (comes_again blocks (0 + i)) b b.form) _ n k)
+      block-index : (i : ℕ) (b : CodeBlock) → slice_get blocks i ≡ Some b → IsIn n (indices (block_labels image.types variables image.constants (st i) (comes_first entry blocks (0 + i)) (comes_again blocks (0 + i)) b)) → IsNamed n
+      block-index i b at-i k = by (comes_first entry blocks (0 + i)) (ap (comes_first entry blocks) (omega arith)) k
+        where
+          behind : IsIn n (indices (labels_within image.types variables (st i) (comes_again blocks (0 + i)) b b.form ++ edge_labels image.types variables (edges_at image.types variables image.constants (st i) b) b b.departures)) → IsNamed n
+          behind k = rest-index i b at-i (comes_again blocks (0 + i)) (ap (comes_again blocks) (omega arith)) (index-joined (labels_within image.types variables (st i) (comes_again blocks (0 + i)) b b.form) _ n k)
+
+          by : (first : Bool) → first ≡ comes_first entry blocks i → IsIn n (indices (block_labels image.types variables image.constants (st i) first (comes_again blocks (0 + i)) b)) → IsNamed n
+          by true q (inl e) = subst IsNamed (sym e) (block-named i (sym q))
+          by true q (inr k) = behind k
+          by false q k = behind k
 
   -- what is named is listed
   step-listed : (n : ℕ) → IsListedStep count image variables entry blocks n → IsListed n
   step-listed n s = found-index m.labels n s.0 s.2
 
-  leads-listed : (ds : List Departure) (w : Way) → LeadsOn count image variables entry blocks ds w → ((d : Departure) (n : ℕ) → IsIn d ds → d.arrival ≡ to_block n → (c : CodeBlock) × (slice_get blocks n ≡ Some c))
+  leads-listed : (ds : List Departure) (w : Way) → LeadsOn count image variables entry blocks ds w → ((d : Departure) (n : ℕ) → IsIn d ds → d.arrival ≡ to_block n → (comes_first entry blocks n ≡ true) × (c : CodeBlock) × (slice_get blocks n ≡ Some c))
       → ((d : Departure) (n : ℕ) → IsIn d ds → d.arrival ≡ to_second_step n → IsListedStep count image variables entry blocks (st n + second_step)) → IsListed w.index
   leads-listed ds w l there again = by l.3
     where
       by : ((l.0.arrival ≡ to_block l.1) × (w.index ≡ st l.1)) ⊎ ((l.0.arrival ≡ to_second_step l.1) × (w.index ≡ st l.1 + second_step)) → IsListed w.index
-      by (inl x) = let c = there l.0 l.1 l.2 x.0 in subst IsListed (sym x.1) (step-listed (st l.1) (first-step count image variables entry blocks l.1 c.0 c.1))
+      by (inl x) = let c = there l.0 l.1 l.2 x.0 in subst IsListed (sym x.1) (step-listed (st l.1) (first-step count image variables entry blocks l.1 c.1 c.0 c.2))
       by (inr x) = subst IsListed (sym x.1) (step-listed (st l.1 + second_step) (again l.0 l.1 l.2 x.0))
 
   outcome-place : (os : List Outcome) (ds : List Departure) (o : Outcome) → map outcome_of ds ≡ os → IsIn o os → (j : ℕ) × (d : Departure) × (slice_get ds j ≡ Some d) × (o ≡ d.outcome)
@@ -246,7 +287,7 @@ module _ (count : ℕ) (image : Image) (variables : List ℕ) (entry : Departure
   way-listed : (p : Place) → Stands count image variables entry blocks p → (w : Way) → IsIn w (named_ways p) → IsListed w.index
   way-listed p (on_entry h e) w k =
       leads-listed (entry ∷ []) w (edge-leads count image variables entry blocks (λ o. 0) (entry ∷ []) p.instruction h w (subst (λ ls. IsIn w (jumps p.instruction ++ landing_ways ls)) e k))
-      (λ d n i a. complete.linked.begins n (only d i ∙ a)) (λ d n i a. absurd (complete.linked.begins_first n (only d i ∙ a)))
+      (λ d n i a. (let c = complete.linked.begins n (only d i ∙ a) in (led-entry count image variables entry blocks n (only d i ∙ a), c.0, c.1))) (λ d n i a. absurd (complete.linked.begins_first n (only d i ∙ a)))
     where
       only : (d : Departure) → IsIn d (entry ∷ []) → entry.arrival ≡ d.arrival
       only d (inl x) = ap (λ (d : Departure). d.arrival) (sym x)
@@ -277,7 +318,7 @@ module _ (count : ℕ) (image : Image) (variables : List ℕ) (entry : Departure
 
       by : LeadsToExit image.types variables image.constants (exit i b) b.form w ⊎ JumpsWithin image.types variables image.constants (exit i b) b.facts b.statement (st i + 1) k b.form w → IsListed w.index
       by (inl x) =
-          let d = outcome-place (outcomes image.types variables b.form) b.departures x.0 (complete.outcomes_in_order b in-b) x.1 in
+          let d = outcome-place (outcomes image.types variables b.form) b.departures x.0 (named-order b x.0 in-b x.1 x.2) x.1 in
           subst IsListed (sym (x.3 ∙ ap (exit i b) d.3))
           (found-index m.labels (exit i b d.1.outcome) (label_with (facts_after image.types variables b.form d.1.outcome b.facts) (edge_slots image.types variables b))
           ((blocks-labelled image.types variables image.constants entry blocks).edges i d.0 b d.1 at-i d.2 (complete.outcomes_differ b in-b)
@@ -289,7 +330,7 @@ module _ (count : ℕ) (image : Image) (variables : List ℕ) (entry : Departure
           subst IsListed (omega (arith, there)) (found-index m.labels (st i + (second_step + 1)) (label_with b.facts (edge_slots image.types variables (record b { form = Form.For f.0 f.1 }))) (loop-listed f.0 f.1 f.2))
   way-listed p (on_edges i b at-i h e) w k =
       leads-listed b.departures w (edge-leads count image variables entry blocks (exit i b) b.departures p.instruction h w (subst (λ ls. IsIn w (jumps p.instruction ++ landing_ways ls)) e k))
-      (λ d n j a. complete.linked.there b d n (got-IsIn blocks i b at-i) j a)
+      (λ d n j a. (let c = complete.linked.there b d n (got-IsIn blocks i b at-i) j a in (led-edge count image variables entry blocks b d n (got-IsIn blocks i b at-i) j a, c.0, c.1)))
       (λ d n j a. (let c = complete.linked.again b d n (got-IsIn blocks i b at-i) j a in second-listed count image variables entry blocks n c.0 c.1 c.2 (comes count image variables entry blocks complete.linked b d n (got-IsIn blocks i b at-i) j a) c.3 c.4))
 
   named-listed : (n : ℕ) → IsNamed n → IsListed n

@@ -1,5 +1,5 @@
 -- Laid out code keeps the rules of good code that look at no facts.
-use Rattle.std.proofs.Common.{◌≡◌, ℕ, zero, suc, ◌+◌, ◌<◌, ◌≤◌, length, List, [], ◌∷◌, ◌++◌, map, flat_map, Bool, true, Option, Some, option_map, slice_get, ◌⊎◌, inl, inr, refl, sym, ap, subst, ◌∙◌, arith}
+use Rattle.std.proofs.Common.{◌≡◌, ℕ, zero, suc, ◌+◌, ◌<◌, ◌≤◌, length, List, [], ◌∷◌, ◌++◌, map, flat_map, Bool, true, cond, Option, Some, None, option_map, slice_get, ◌⊎◌, inl, inr, refl, sym, ap, subst, ◌∙◌, arith}
 use Rattle.herm_model.specs.Lists.{IsIn, any_pass, map_or, list_of, range}
 use Rattle.herm_model.specs.Paths.{Path, Fact}
 use Rattle.herm_model.specs.Statements.{Form, Differ}
@@ -23,7 +23,7 @@ use Rattle.herm_translated.specs.Fronts.{expression_code, atom_code, inputs_code
 use Rattle.herm_translated.specs.Departures.{Arrival, to_block, to_second_step, to_end, to_end_by, Departure, second_step, arrive_by, edge_code, edge_length}
 use Rattle.herm_translated.specs.CodeBlocks.{CodeBlock}
 use Rattle.herm_translated.specs.Layout.{landings_by, edges_at, exit_of, block_code}
-use Rattle.herm_translated.specs.BlockLabels.{label_with, listed_with, comes_again, goes_to_second, edge_slots, labels_within}
+use Rattle.herm_translated.specs.BlockLabels.{label_with, listed_with, goes_to_first, comes_first, comes_again, goes_to_second, edge_slots, labels_within}
 use Rattle.herm_translated.specs.laws.LayoutLaws.{start, IsInBlock}
 use Rattle.herm_translated.specs.laws.GoodStructure.{AreLinked, code_module, HasGoodStructure, LinkedBlocksAreStructured}
 use Rattle.herm_translated.proofs.Joined.{get-left, get-right, place-in, got-within}
@@ -236,9 +236,13 @@ module _ (count : ℕ) (image : Image) (variables : List ℕ) (entry : Departure
   abbrev pub IsListedStep : ℕ → Type 0
   IsListedStep n = (l : Label) × (slice_get m.code n ≡ Some Step) × (listed_at m.labels n ≡ Some l) × (l.stack ≡ [])
 
-  pub first-step : (n : ℕ) (c : CodeBlock) → slice_get blocks n ≡ Some c → IsListedStep (st n)
-  first-step n c at-n =
-      (label_with c.facts c.slots, code-block image.types variables image.constants entry blocks (st n) n 0 c (at-n, omega arith, omega arith), (blocks-labelled image.types variables image.constants entry blocks).first n c at-n, refl)
+  pub first-step : (n : ℕ) (c : CodeBlock) → comes_first entry blocks n ≡ true → slice_get blocks n ≡ Some c → IsListedStep (st n)
+  first-step n c led at-n = (
+    label_with c.facts c.slots,
+    code-block image.types variables image.constants entry blocks (st n) n 0 c (at-n, omega arith, omega arith),
+    (blocks-labelled image.types variables image.constants entry blocks).first n c at-n ∙ ap (λ b. cond b (Some (label_with c.facts c.slots)) None) led,
+    refl,
+  )
 
   pub any-in : {X : Type 0} (test : X → Bool) (x : X) (xs : List X) → IsIn x xs → test x ≡ true → any_pass test xs ≡ true
   any-in test x [] h e = absurd h
@@ -262,6 +266,15 @@ module _ (count : ℕ) (image : Image) (variables : List ℕ) (entry : Departure
   within-later exit_at facts number here k (Form.For r t) w h = h
   within-later exit_at facts number here k form w h = absurd h
 
+  pub led-entry : (n : ℕ) → entry.arrival ≡ to_block n → comes_first entry blocks n ≡ true
+  led-entry n e = or-left (goes_to_first n entry.arrival) _ (ap (goes_to_first n) e ∙ eq-eqb n n refl)
+
+  pub led-edge : (b : CodeBlock) (d : Departure) (n : ℕ) → IsIn b blocks → IsIn d b.departures → d.arrival ≡ to_block n → comes_first entry blocks n ≡ true
+  led-edge b d n in-b in-d e =
+      or-right (goes_to_first n entry.arrival) _
+      (any-in (λ (b : CodeBlock). any_pass (λ (d : Departure). goes_to_first n d.arrival) b.departures) b blocks in-b
+      (any-in (λ (d : Departure). goes_to_first n d.arrival) d b.departures in-d (ap (goes_to_first n) e ∙ eq-eqb n n refl)))
+
   module _ (linked : AreLinked image.types variables entry blocks) where
     pub comes : (b : CodeBlock) (d : Departure) (n : ℕ) → IsIn b blocks → IsIn d b.departures → d.arrival ≡ to_second_step n → comes_again blocks n ≡ true
     comes b d n in-b in-d e =
@@ -282,7 +295,7 @@ module _ (count : ℕ) (image : Image) (variables : List ℕ) (entry : Departure
             is a x = sym (ap (λ (d : Departure). d.arrival) (only l.0 l.2)) ∙ x
 
             side : ((l.0.arrival ≡ to_block l.1) × (w.index ≡ st l.1)) ⊎ ((l.0.arrival ≡ to_second_step l.1) × (w.index ≡ st l.1 + second_step)) → IsListedStep w.index
-            side (inl x) = let c = linked.begins l.1 (is (to_block l.1) x.0) in subst IsListedStep (sym x.1) (first-step l.1 c.0 c.1)
+            side (inl x) = let c = linked.begins l.1 (is (to_block l.1) x.0) in subst IsListedStep (sym x.1) (first-step l.1 c.0 (led-entry l.1 (is (to_block l.1) x.0)) c.1)
             side (inr x) = absurd (linked.begins_first l.1 (is (to_second_step l.1) x.0))
     goes-back p (at_step i b at-i s e) w k low = none-named (exit i b) p.instruction Step s refl w (subst (λ ls. IsIn w (jumps p.instruction ++ landing_ways ls)) e k)
     goes-back p (in_front i k b at-i short at code e) w h low =
@@ -304,7 +317,7 @@ module _ (count : ℕ) (image : Image) (variables : List ℕ) (entry : Departure
         by l = side l.3
           where
             side : ((l.0.arrival ≡ to_block l.1) × (w.index ≡ st l.1)) ⊎ ((l.0.arrival ≡ to_second_step l.1) × (w.index ≡ st l.1 + second_step)) → IsListedStep w.index
-            side (inl x) = let c = linked.there b l.0 l.1 (got-IsIn blocks i b at-i) l.2 x.0 in subst IsListedStep (sym x.1) (first-step l.1 c.0 c.1)
+            side (inl x) = let c = linked.there b l.0 l.1 (got-IsIn blocks i b at-i) l.2 x.0 in subst IsListedStep (sym x.1) (first-step l.1 c.0 (led-edge b l.0 l.1 (got-IsIn blocks i b at-i) l.2 x.0) c.1)
             side (inr x) =
                 let c = linked.again b l.0 l.1 (got-IsIn blocks i b at-i) l.2 x.0 in
                 subst IsListedStep (sym x.1) (second-listed l.1 c.0 c.1 c.2 (comes b l.0 l.1 (got-IsIn blocks i b at-i) l.2 x.0) c.3 c.4)

@@ -1,5 +1,5 @@
 -- Labels of blocks: what is there at each index that a jump or a landing names.
-use Rattle.std.specs.Prelude.{ℕ, suc, ◌+◌, List, [], ◌∷◌, ◌++◌, filter, Bool, true, false, not, cond, nat_eq}
+use Rattle.std.specs.Prelude.{ℕ, suc, ◌+◌, List, [], ◌∷◌, ◌++◌, filter, Bool, true, false, not, ◌||◌, cond, nat_eq}
 use Rattle.herm_model.specs.Lists.{any_pass}
 use Rattle.herm_model.specs.Paths.{Fact, path_of, is_at_or_below}
 use Rattle.herm_model.specs.Types.{TypeTable}
@@ -46,6 +46,17 @@ goes_to_second i (to_end_by e) = false
 abbrev pub comes_again : List CodeBlock → (node : ℕ) → Bool
 comes_again blocks i = any_pass (λ (b : CodeBlock). any_pass (λ (d : Departure). goes_to_second i d.arrival) b.departures) blocks
 
+-- the edge arrives at the first step of this node's block
+abbrev pub goes_to_first : (node : ℕ) → Arrival → Bool
+goes_to_first i (to_block n) = nat_eq n i
+goes_to_first i (to_second_step n) = false
+goes_to_first i to_end = false
+goes_to_first i (to_end_by e) = false
+
+-- some edge arrives there, or that to where the process begins
+abbrev pub comes_first : Departure → List CodeBlock → (node : ℕ) → Bool
+comes_first entry blocks i = goes_to_first i entry.arrival || any_pass (λ (b : CodeBlock). any_pass (λ (d : Departure). goes_to_first i d.arrival) b.departures) blocks
+
 module _ (types : TypeTable) (variables : List ℕ) where
   -- the slots of a block's edges
   abbrev pub edge_slots : CodeBlock → List Slot
@@ -64,13 +75,13 @@ module _ (types : TypeTable) (variables : List ℕ) where
       cond (is_named d.outcome) (listed_with at (facts_after types variables b.form d.outcome b.facts) (edge_slots b) ∷ []) [] ++ edge_labels (at + edge_length d) b ds
 
   module _ (constants : List Literal) where
-    -- The labels of a block that begins at an index: of its first step those of its node, and of its edges what is behind their
-    -- outcomes. Code reference, "Labels".
-    abbrev pub block_labels : (at : ℕ) → (again : Bool) → CodeBlock → List ListedLabel
-    block_labels at again b =
-        listed_with at b.facts b.slots ∷ (labels_within at again b b.form ++ edge_labels (edges_at types variables constants at b) b b.departures)
+    -- The labels of a block that begins at an index: of its first step those of its node, where an edge leads there, and of its edges what is behind
+    -- their outcomes. Code reference, "Labels".
+    abbrev pub block_labels : (at : ℕ) → (first again : Bool) → CodeBlock → List ListedLabel
+    block_labels at first again b =
+        cond first (listed_with at b.facts b.slots ∷ []) [] ++ (labels_within at again b b.form ++ edge_labels (edges_at types variables constants at b) b b.departures)
 
     -- the labels of blocks from a place and an index on
-    abbrev pub labels_from : (again : ℕ → Bool) → (place at : ℕ) → List CodeBlock → List ListedLabel
-    labels_from again i at [] = []
-    labels_from again i at (b ∷ bs) = block_labels at (again i) b ++ labels_from again (suc i) (at + block_length types variables constants b) bs
+    abbrev pub labels_from : (first again : ℕ → Bool) → (place at : ℕ) → List CodeBlock → List ListedLabel
+    labels_from first again i at [] = []
+    labels_from first again i at (b ∷ bs) = block_labels at (first i) (again i) b ++ labels_from first again (suc i) (at + block_length types variables constants b) bs

@@ -1,5 +1,5 @@
 -- Blocks: what becomes of each node of a process, before its code has indices.
-use Rattle.std.specs.Prelude.{ℕ, suc, List, [], ◌∷◌, ◌++◌, map, filter, Bool, not, ◌&&◌, cond, nat_eq, slice_get}
+use Rattle.std.specs.Prelude.{ℕ, suc, List, [], ◌∷◌, ◌++◌, map, filter, Bool, true, false, not, ◌&&◌, cond, nat_eq, slice_get}
 use Rattle.herm_model.specs.Lists.{map_or, list_of, any_pass}
 use Rattle.herm_model.specs.Paths.{Path, Fact}
 use Rattle.herm_model.specs.Types.{TypeTable}
@@ -23,14 +23,30 @@ pub record CheckedModule : Type 0 where
   pub entry_drops : List Path
   pub drops : List (List (List Path))
 
--- A node's part of the code: its statement's number and form, the facts and slots at its first step, and its edges.
--- Code reference, "Blocks".
+-- A node's part of the code: its statement's number and form, the facts and slots at its first step, whether control goes on from its front to the
+-- next block, and otherwise its edges. Code reference, "Blocks".
 pub record CodeBlock : Type 0 where
   pub statement : ℕ
   pub form : Form
   pub facts : List Fact
   pub slots : List Slot
+  pub onward : Bool
   pub departures : List Departure
+
+abbrev pub is_for : Form → Bool
+is_for (For r t) = true
+is_for form = false
+
+-- an edge by `ok` to the block of this node, which drops nothing
+abbrev pub is_plain_edge : (next : ℕ) → Outcome → (drops : List Path) → (slots : List ℕ) → Arrival → Bool
+is_plain_edge next ok [] [] (to_block n) = nat_eq n next
+is_plain_edge next o drops slots arrival = false
+
+-- there is one edge, and it is such
+abbrev pub is_one_plain : (next : ℕ) → List Departure → Bool
+is_one_plain next [] = false
+is_one_plain next (d ∷ []) = is_plain_edge next d.outcome d.drops d.slots d.arrival
+is_one_plain next (d ∷ e ∷ ds) = false
 
 -- the slot of a `for`, which has its statement's number
 abbrev pub own_slot : TypeTable → (variables : List ℕ) → (number : ℕ) → Form → List Slot
@@ -87,6 +103,18 @@ module _ (c : Module) where
   departures_of slots [] drops = []
   departures_of slots (x ∷ xs) drops = departure slots x.outcome x.target (first_list drops) ∷ departures_of slots xs (further_lists drops)
 
+  -- the edges of the node at a place, one for each exit
+  abbrev pub edges_of : (place : ℕ) → Node → (drops : List (List Path)) → List Departure
+  edges_of i n drops = departures_of (slots_within c.types c.variables n.number n.form (slots_around i)) (exits c.types c.variables n) drops
+
+  abbrev pub is_for_at : (place : ℕ) → Bool
+  is_for_at i = map_or false (λ (n : Node). is_for n.form) (slice_get c.nodes i)
+
+  -- Control goes on from a front to the next block, with no jump, where the only edge leads there and drops nothing, and there is no `for`.
+  -- Code reference, "Blocks".
+  abbrev pub goes_onward : (place : ℕ) → List Departure → Bool
+  goes_onward i edges = is_one_plain (suc i) edges && not (is_for_at (suc i))
+
   -- the block of the node at a place
   abbrev pub block_of : (place : ℕ) → Node → List Fact → (drops : List (List Path)) → CodeBlock
   block_of i n facts drops = record {
@@ -94,7 +122,8 @@ module _ (c : Module) where
     form = n.form;
     facts = facts;
     slots = slots_around i;
-    departures = departures_of (slots_within c.types c.variables n.number n.form (slots_around i)) (exits c.types c.variables n) drops;
+    onward = goes_onward i (edges_of i n drops);
+    departures = cond (goes_onward i (edges_of i n drops)) [] (edges_of i n drops);
   }
 
   -- the blocks of nodes from a place on

@@ -4,6 +4,7 @@ pub mod Departures
 pub mod CodeBlocks
 pub mod Layout
 pub mod BlockLabels
+pub mod Settled
 pub mod Translated
 pub mod laws
 pub mod examples

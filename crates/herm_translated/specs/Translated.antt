@@ -9,7 +9,8 @@ use Rattle.herm_translated.specs.Constants.{constants_of}
 use Rattle.herm_translated.specs.Departures.{Departure, edge_length}
 use Rattle.herm_translated.specs.CodeBlocks.{CheckedModule, CodeBlock, blocks_of, entry_edge}
 use Rattle.herm_translated.specs.Layout.{Line, lines_of}
-use Rattle.herm_translated.specs.BlockLabels.{comes_again, labels_from}
+use Rattle.herm_translated.specs.BlockLabels.{comes_first, comes_again, labels_from}
+use Rattle.herm_translated.specs.Settled.{settled}
 
 -- The code module of an edge to where the process begins, and of blocks. Code reference, "Blocks".
 abbrev pub laid_out : TypeTable → (variables : List ℕ) → List Literal → Departure → List CodeBlock → CodeModule
@@ -17,12 +18,12 @@ laid_out types variables constants entry blocks = record {
   variables = variables;
   code = map (λ (l : Line). l.instruction) (lines_of types variables constants entry blocks);
   landings = map (λ (l : Line). l.landings) (lines_of types variables constants entry blocks);
-  labels = labels_from types variables constants (comes_again blocks) 0 (edge_length entry) blocks;
+  labels = labels_from types variables constants (comes_first entry blocks) (comes_again blocks) 0 (edge_length entry) blocks;
 }
 
 -- The code of a process, over these constants. Code reference, "Blocks".
 abbrev pub code_of : List Literal → CheckedModule → CodeModule
-code_of constants m = laid_out m.code.types m.code.variables constants (entry_edge m) (blocks_of m)
+code_of constants m = laid_out m.code.types m.code.variables constants (entry_edge m) (blocks_of (settled m))
 
 -- the forms of modules, in order
 abbrev pub forms_in : List CheckedModule → List Form

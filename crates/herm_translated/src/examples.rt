@@ -22,10 +22,10 @@ pub fn images_are_good()
 /// The code of small programs is what is written by hand.
 pub fn code_is_as_by_hand()
     ensures greeting { HasLines (image_by 2 greeting) 0 greeting_lines }
-    ensures greeting_labels { ListsIndices (image_by 2 greeting) 0 (1 ∷ 4 ∷ 8 ∷ 11 ∷ []) }
+    ensures greeting_labels { ListsIndices (image_by 2 greeting) 0 (1 ∷ 9 ∷ []) }
     ensures loop_left { HasLines (image_by 3 left_loop) 0 left_loop_lines }
-    ensures loop_labels { ListsIndices (image_by 3 left_loop) 0 (1 ∷ 4 ∷ 7 ∷ 10 ∷ 14 ∷ 17 ∷ 18 ∷ 19 ∷ 22 ∷ 26 ∷ 29 ∷ 30 ∷ 31 ∷ 35 ∷ 37 ∷ 38 ∷ 43 ∷ 46 ∷ 47 ∷ []) }
+    ensures loop_labels { ListsIndices (image_by 3 left_loop) 0 (1 ∷ 13 ∷ 14 ∷ 15 ∷ 23 ∷ 24 ∷ 25 ∷ 29 ∷ 31 ∷ 32 ∷ 39 ∷ 40 ∷ []) }
     ensures nested { HasLines (image_by 3 nested_loops) 0 nested_loops_lines }
     ensures sender { HasLines (image_by 3 (two_senders 2)) 0 sender_lines }
-    ensures sender_labels { ListsIndices (image_by 3 (two_senders 2)) 0 (1 ∷ 4 ∷ 8 ∷ 14 ∷ 15 ∷ 18 ∷ 22 ∷ 26 ∷ 29 ∷ 30 ∷ 36 ∷ []) }
+    ensures sender_labels { ListsIndices (image_by 3 (two_senders 2)) 0 (1 ∷ 6 ∷ 12 ∷ 13 ∷ 24 ∷ 25 ∷ 31 ∷ []) }
 {}

@@ -2,7 +2,7 @@
 
 ghost use Rattle.herm_translated.specs.laws.LayoutLaws.{CodeIsLaidOut, EdgesStandAtExits};
 ghost use Rattle.herm_translated.specs.laws.LabelsOfBlocks.{BlocksAreLabelled};
-ghost use Rattle.herm_translated.specs.laws.LabelsAtEdges.{EdgesAreLabelled};
+ghost use Rattle.herm_translated.specs.laws.LabelsAtEdges.{FirstStepsAreLabelled, EdgesAreLabelled};
 ghost use Rattle.herm_translated.specs.laws.LabelsAlong.{ExpressionsPushTheirType, FrontsHandOn, EdgesHandOn};
 ghost use Rattle.std.specs.Prelude.{ℕ, List};
 ghost use Rattle.herm_model.specs.Types.{TypeTable};
@@ -15,7 +15,7 @@ pub fn blocks_are_in_order()
     ensures edges { EdgesStandAtExits }
 {}
 
-/// Labels are listed by rising index: at each block that of its node with the empty stack, and at each edge that is named what is held behind its
+/// Labels are listed by rising index: at each block that an edge leads to that of its node with the empty stack, and at each edge that is named what is held behind its
 /// outcome.
 pub fn blocks_are_labelled()
     ensures { BlocksAreLabelled }
@@ -29,7 +29,9 @@ pub fn labels_are_handed_on()
     ensures edges { (types : TypeTable) → (variables : List ℕ) → (constants : List Literal) → EdgesHandOn types variables constants }
 {}
 
-/// Before each edge of a typed block stands what is held behind its outcome, and before its last instruction what it has not dropped.
+/// At the first step of each typed block stand its facts and slots, also where no edge leads there and the block before hands them on. Before each edge stands
+/// what is held behind its outcome, and before its last instruction what it has not dropped.
 pub fn edges_are_labelled()
-    ensures { EdgesAreLabelled }
+    ensures first_steps { FirstStepsAreLabelled }
+    ensures edges { EdgesAreLabelled }
 {}

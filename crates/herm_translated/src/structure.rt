@@ -1,6 +1,6 @@
 // Laws of the structure of laid out code.
 
-ghost use Rattle.herm_translated.specs.laws.CheckedBlocks.{TypedProcessesAreLinked, TypedProcessesAreStructured};
+ghost use Rattle.herm_translated.specs.laws.CheckedBlocks.{SettledFactsAreListed, TypedProcessesAreLinked, TypedProcessesAreStructured};
 ghost use Rattle.herm_translated.specs.laws.GoodStructure.{CompleteBlocksAreListed, LinkedBlocksAreStructured};
 
 /// Where edges lead to blocks that are there, laid out code keeps the rules of good code that look at neither facts nor operands: there is code, each
@@ -14,9 +14,14 @@ pub fn complete_blocks_are_listed()
     ensures { CompleteBlocksAreListed }
 {}
 
-/// The blocks of a typed process are linked, and each has an edge for each outcome of its form; so its code keeps the rules of
+/// The blocks of a typed process are linked, and each has an edge for each outcome of its form, or goes on by its only one; so its code keeps the rules of
 /// `linked_blocks_are_structured`.
 pub fn typed_processes_are_linked()
     ensures linked { TypedProcessesAreLinked }
     ensures structured { TypedProcessesAreStructured }
+{}
+
+/// Where the facts of each node are those of its exact label, so are those that each block has at its first step.
+pub fn settled_facts_are_listed()
+    ensures { SettledFactsAreListed }
 {}
