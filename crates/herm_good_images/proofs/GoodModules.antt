@@ -18,7 +18,7 @@ use Rattle.herm_instructions.specs.GoodCode.{Arrives, module_places, IsGoodModul
 use Rattle.herm_translated.specs.Departures.{Departure, edge_code, edge_length}
 use Rattle.herm_translated.specs.CodeBlocks.{CodeBlock}
 use Rattle.herm_translated.specs.Layout.{edges_at, block_length}
-use Rattle.herm_translated.specs.BlockLabels.{listed_with, is_named, facts_after, comes_again, edge_slots, labels_within, edge_labels, block_labels, labels_from}
+use Rattle.herm_translated.specs.BlockLabels.{listed_with, is_named, facts_after, comes_first, comes_again, edge_slots, labels_within, edge_labels, block_labels, labels_from}
 use Rattle.herm_translated.specs.laws.GoodStructure.{AreComplete, HasGoodStructure}
 use Rattle.herm_translated.proofs.Addresses.{laid-out}
 use Rattle.herm_translated.proofs.LabelsStand.{blocks-labelled}
@@ -58,19 +58,23 @@ module _ (count : ℕ) (image : Image) (variables : List ℕ) (entry : Departure
       by false (inl k) again = absurd k
       by named (inr k) again = let r = again k in (r.0, inr r.1, r.2)
 
-  listed-facts : (again : ℕ → Bool) (place at : ℕ) (bs : List CodeBlock) (l : ListedLabel) → IsIn l (labels_from image.types variables image.constants again place at bs) → IsOfBlock bs l.label.facts
-  listed-facts again place at [] l k = absurd k
-  listed-facts again place at (b ∷ bs) l k =
-      by (in-append_cases l (block_labels image.types variables image.constants at (again place) b) _ k) (listed-facts again (suc place) (at + block_length image.types variables image.constants b) bs l)
+  listed-facts : (first again : ℕ → Bool) (place at : ℕ) (bs : List CodeBlock) (l : ListedLabel) → IsIn l (labels_from image.types variables image.constants first again place at bs) → IsOfBlock bs l.label.facts
+  listed-facts first again place at [] l k = absurd k
+  listed-facts first again place at (b ∷ bs) l k =
+      by (in-append_cases l (block_labels image.types variables image.constants at (first place) (again place) b) _ k) (listed-facts first again (suc place) (at + block_length image.types variables image.constants b) bs l)
     where
       rest : IsIn l (labels_within image.types variables at (again place) b b.form) ⊎ IsIn l (edge_labels image.types variables (edges_at image.types variables image.constants at b) b b.departures) → IsOfBlock (b ∷ bs) l.label.facts
       rest (inl a) = (b, inl refl, inl (within-facts at (again place) b b.form l a))
       rest (inr e) = (b, inl refl, inr (edge-facts (edges_at image.types variables image.constants at b) b b.departures l e))
 
-      by : IsIn l (block_labels image.types variables image.constants at (again place) b) ⊎ IsIn l (labels_from image.types variables image.constants again (suc place) (at + block_length image.types variables image.constants b) bs)
-          → (IsIn l (labels_from image.types variables image.constants again (suc place) (at + block_length image.types variables image.constants b) bs) → IsOfBlock bs l.label.facts) → IsOfBlock (b ∷ bs) l.label.facts
-      by (inl (inl e)) next = (b, inl refl, inl (ap (λ (l : ListedLabel). l.label.facts) e))
-      by (inl (inr a)) next = rest (in-append_cases l (labels_within image.types variables at (again place) b b.form) _ a)
+      here : (t : Bool) → IsIn l (block_labels image.types variables image.constants at t (again place) b) → IsOfBlock (b ∷ bs) l.label.facts
+      here true (inl e) = (b, inl refl, inl (ap (λ (l : ListedLabel). l.label.facts) e))
+      here true (inr a) = rest (in-append_cases l (labels_within image.types variables at (again place) b b.form) _ a)
+      here false a = rest (in-append_cases l (labels_within image.types variables at (again place) b b.form) _ a)
+
+      by : IsIn l (block_labels image.types variables image.constants at (first place) (again place) b) ⊎ IsIn l (labels_from image.types variables image.constants first again (suc place) (at + block_length image.types variables image.constants b) bs)
+          → (IsIn l (labels_from image.types variables image.constants first again (suc place) (at + block_length image.types variables image.constants b) bs) → IsOfBlock bs l.label.facts) → IsOfBlock (b ∷ bs) l.label.facts
+      by (inl a) next = here (first place) a
       by (inr a) next = let r = next a in (r.0, inr r.1, r.2)
 
   -- labels are listed within the code
@@ -80,7 +84,7 @@ module _ (count : ℕ) (image : Image) (variables : List ℕ) (entry : Departure
       by : (b : Bool) → nat_le (edge_length entry + total (block_length image.types variables image.constants) blocks) n ≡ b → n < length m.code
       by true q =
           none-not_some
-          (sym (none-above (edge_length entry) (edge_length entry + total (block_length image.types variables image.constants) blocks) m.labels (labels-rise image.types variables image.constants (comes_again blocks) 0 (edge_length entry) blocks) n
+          (sym (none-above (edge_length entry) (edge_length entry + total (block_length image.types variables image.constants) blocks) m.labels (labels-rise image.types variables image.constants (comes_first entry blocks) (comes_again blocks) 0 (edge_length entry) blocks) n
           ((at_most-decides (edge_length entry + total (block_length image.types variables image.constants) blocks) n).0 q)) ∙ e)
       by false q = let many = (laid-out image.types variables image.constants entry blocks).many in let h = not-at_most (edge_length entry + total (block_length image.types variables image.constants) blocks) n q in omega (arith, many, h)
         where
@@ -103,7 +107,7 @@ module _ (count : ℕ) (image : Image) (variables : List ℕ) (entry : Departure
   module _ (formed : IsWellFormedTable count image.types) (complete : AreComplete image.types variables entry blocks) (sound : (i : ℕ) (b : CodeBlock) → slice_get blocks i ≡ Some b → IsSoundBlock count image variables entry blocks i b)
       (entry-good : AreGoodHere count image variables entry blocks (λ o. 0) (edge_code (places.st count image variables entry blocks) entry) (Some label_at_start)) where
     at-place : (p : Place) (l : Label) → IsIn p (module_places count image m) → p.label ≡ Some l → IsSoundPlace count image variables entry blocks p l
-    at-place p l member e = place-sound count image variables entry blocks formed sound entry-good p l member e
+    at-place p l member e = place-sound count image variables entry blocks formed complete.reached sound entry-good p l member e
 
     go-way : (o : Option Outcome) (n : ℕ) (w : Way) → IsIn w (map (λ o. record { outcome = o; index = n }) (list_of (λ o. o ∷ []) o)) → (x : Outcome) × (o ≡ Some x) × (w ≡ record { outcome = x; index = n })
     go-way None n w k = absurd k
@@ -136,7 +140,7 @@ module _ (count : ℕ) (image : Image) (variables : List ℕ) (entry : Departure
       landings_listed = structure.landings_listed;
       labels_rise = structure.labels_rise;
       labels_listed = complete-listed count image variables entry blocks complete;
-      labels_closed = λ l k. closed-label l (listed-facts (comes_again blocks) 0 (edge_length entry) blocks l k);
+      labels_closed = λ l k. closed-label l (listed-facts (comes_first entry blocks) (comes_again blocks) 0 (edge_length entry) blocks l k);
       typed = λ p l k e. (at-place p l k e).good.typed;
       stack = λ p l k e. (at-place p l k e).good.stack;
       facts = λ p l k e. (at-place p l k e).good.facts;

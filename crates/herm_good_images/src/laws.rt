@@ -10,7 +10,7 @@ pub fn loops_are_entered_at_their_heads()
     ensures slots { EdgesKeepSlots }
 {}
 
-/// Each block of a typed process is led to by an edge to its first step, and has an edge for each outcome of its form; so labels are listed for exactly the
+/// Each block of a typed process is led to by an edge to its first step, or by the block before it, and has an edge for each outcome of its form, or goes on by its only one; so labels are listed for exactly the
 /// indices that jumps and landings name.
 pub fn typed_blocks_are_complete()
     ensures { TypedBlocksAreComplete }

@@ -122,7 +122,7 @@ pub within-none : (types : TypeTable) (variables : List ℕ) (at : ℕ) (again :
 within-none types variables at again b (Form.For r t) plain = absurd plain
 within-none types variables at again b form plain = refl
 
-other-form : (form : Form) → IsNoFor form → (r t : Path) → form ≡ Form.For r t → ⊥
+pub other-form : (form : Form) → IsNoFor form → (r t : Path) → form ≡ Form.For r t → ⊥
 other-form form plain r t e = subst IsNoFor e plain
 
 module _ (count : ℕ) (types : TypeTable) (variables : List ℕ) (constants : List Literal) (processes : List Process) (entry : Departure) (blocks : List CodeBlock) (formed : IsWellFormedTable count types) (i : ℕ)

@@ -62,7 +62,7 @@ second_in (to_second_step n) = Some n
 second_in a = None
 
 module _ (c : Module) where
-  arrives-block : (slots : List Slot) (t : Target) (n : ℕ) → arrival_at c slots t ≡ to_block n → t ≡ node n
+  pub arrives-block : (slots : List Slot) (t : Target) (n : ℕ) → arrival_at c slots t ≡ to_block n → t ≡ node n
   arrives-block slots (node i) n e = by (any_pass (λ (s : Slot). nat_eq s.number (number_at c i)) slots) e
     where
       by : (b : Bool) → cond b (to_second_step i) (to_block i) ≡ to_block n → node i ≡ node n

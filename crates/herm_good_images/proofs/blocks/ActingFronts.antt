@@ -223,7 +223,7 @@ module _ (count : ℕ) (image : Image) (variables : List ℕ) (entry : Departure
       by (inr b) = last (in-append_cases i (map LoopDrop d.slots) _ b)
 
   pub acts-at_once : (p : Place) → IsIn p ps → ActsAtOnce image.types ps p
-  acts-at_once p member action comes = by (located count image variables entry blocks processes formed typed p member)
+  acts-at_once p member action comes = by (located count image variables entry blocks processes formed complete.reached typed p member)
     where
       none : is_action image.types p.instruction ≡ false → ⊥
       none e = true≢false (sym action ∙ e)

@@ -24,14 +24,14 @@ use Rattle.herm_translated.specs.BlockLabels.{label_with, listed_with, comes_aga
 use Rattle.herm_translated.specs.laws.LayoutLaws.{start, IsInBlock}
 use Rattle.herm_translated.specs.laws.GoodStructure.{code_module}
 use Rattle.herm_translated.specs.laws.LabelsAlong.{handed_by}
-use Rattle.herm_translated.specs.laws.LabelsAtEdges.{IsTypedBlock}
+use Rattle.herm_translated.specs.laws.LabelsAtEdges.{AreReached, IsTypedBlock}
 use Rattle.herm_translated.proofs.Joined.{get-left, place-in, got-within}
 use Rattle.herm_translated.proofs.Lengths.{front-long, edge-long}
 use Rattle.herm_translated.proofs.Addresses.{outcome_of, first-here, further, code-block, edges-there, laid-out}
 use Rattle.herm_translated.proofs.LabelsStand.{label-where_listed, blocks-labelled}
 use Rattle.herm_translated.proofs.ListedLabels.{listed-here, listed-on}
 use Rattle.herm_translated.proofs.FrontWays.{IsNoFor}
-use Rattle.herm_translated.proofs.EdgesLabelled.{label-stretch, within-none, got-some, edges-are_labelled}
+use Rattle.herm_translated.proofs.EdgesLabelled.{label-stretch, within-none, got-some, first-steps_labelled, edges-are_labelled}
 use Rattle.herm_good_images.proofs.fronts.GoodInstructions.{handed_to}
 
 -- the edge at a place among edges
@@ -145,14 +145,14 @@ module _ (count : ℕ) (image : Image) (variables : List ℕ) (entry : Departure
     on_test : (i : ℕ) (b : CodeBlock) (r t : Path) → slice_get blocks i ≡ Some (as_loop b r t) → IsOn (st i + 4) (test_row i b r t) (exit i (as_loop b r t)) (Some (in_loop b r t)) p → Located p
     on_edge : (i j : ℕ) (b : CodeBlock) (d : Departure) → slice_get blocks i ≡ Some b → slice_get b.departures j ≡ Some d → IsOn (exit i b d.outcome) (edge_code st d) (exit i b) (Some (label_with (facts_after image.types variables b.form d.outcome b.facts) (edge_slots image.types variables b))) p → Located p
 
-  module _ (processes : List Process) (formed : IsWellFormedTable count image.types) (each : (i : ℕ) (b : CodeBlock) → slice_get blocks i ≡ Some b → IsTypedBlock image.types variables image.constants count processes b) where
+  module _ (processes : List Process) (formed : IsWellFormedTable count image.types) (reached : AreReached image.types variables entry blocks) (each : (i : ℕ) (b : CodeBlock) → slice_get blocks i ≡ Some b → IsTypedBlock image.types variables image.constants count processes b) where
     edge-row : (i j : ℕ) (b : CodeBlock) (d : Departure) → slice_get blocks i ≡ Some b → slice_get b.departures j ≡ Some d → IsRow (exit i b d.outcome) (edge_code st d) (Some (label_with (facts_after image.types variables b.form d.outcome b.facts) (edge_slots image.types variables b)))
     edge-row i j b d at-i at-j = record {
       there = λ k x e.
           (let w = got-within (edge_code st d) k x e in let l = edge-long st d in
           edges-there image.types variables image.constants entry blocks i j k b d at-i at-j (each i b at-i).outcomes_differ (omega (arith, w, l)) ∙ e);
       none = λ k low. (let l = edge-long st d in (blocks-labelled image.types variables image.constants entry blocks).along i j (suc k) b d at-i at-j (each i b at-i).outcomes_differ (omega arith) (omega (arith, low, l)));
-      here = (edges-are_labelled count image.types variables image.constants processes entry blocks formed i j b d at-i (each i b at-i) at-j).before;
+      here = (edges-are_labelled count image.types variables image.constants processes entry blocks formed reached each i j b d at-i at-j).before;
     }
 
     front-row : (i : ℕ) (b : CodeBlock) → slice_get blocks i ≡ Some b → IsNoFor b.form → IsRow (st i) (Step ∷ the_front i b) (Some (label_with b.facts b.slots))
@@ -166,7 +166,7 @@ module _ (count : ℕ) (image : Image) (variables : List ℕ) (entry : Departure
           (let l = front-many in
           (blocks-labelled image.types variables image.constants entry blocks).within (st i + suc k) i (suc k) b (at-i, omega (arith, low, l), refl) (omega arith) (omega (arith, low, l))
           ∙ ap (λ ls. listed_at ls (st i + suc k)) (within-none image.types variables (st i) (comes_again blocks i) b b.form plain));
-      here = (blocks-labelled image.types variables image.constants entry blocks).first_label i b at-i;
+      here = first-steps_labelled count image.types variables image.constants processes entry blocks formed reached each i b at-i;
     }
       where
         front-many : length (the_front i b) ≡ front_length image.types variables image.constants b.form
@@ -237,7 +237,7 @@ module _ (count : ℕ) (image : Image) (variables : List ℕ) (entry : Departure
             code-block image.types variables image.constants entry blocks (st i + k) i k (as_loop b r t) (in-front k (omega (arith, w)))
             ∙ get-left (first_row i b r t) (Step ∷ (test_row i b r t ++ flat_map (edge_code st) b.departures)) k w ∙ e);
         none = λ k low. none-before k (omega (arith, low));
-        here = (blocks-labelled image.types variables image.constants entry blocks).first_label i (as_loop b r t) at-i;
+        here = first-steps_labelled count image.types variables image.constants processes entry blocks formed reached each i (as_loop b r t) at-i;
       }
 
       at-turn : slice_get m.code (st i + 3) ≡ Some Step

@@ -1,5 +1,5 @@
 -- Blocks that are sound make code that keeps the rules of good code which look at labels.
-use Rattle.std.proofs.Common.{◌≡◌, ℕ, zero, suc, ◌+◌, ◌<◌, length, List, [], ◌∷◌, ◌++◌, map, true, false, cond, Option, Some, None, slice_get, ◌⊎◌, inl, inr, refl, sym, ap, subst, ◌∙◌, append_assoc, arith}
+use Rattle.std.proofs.Common.{◌≡◌, ℕ, zero, suc, ◌+◌, ◌<◌, length, List, [], ◌∷◌, ◌++◌, map, Bool, true, false, cond, Option, Some, None, option_and_then, slice_get, ◌⊎◌, inl, inr, refl, sym, ap, ap₂, subst, ◌∙◌, append_assoc, true≢false, arith}
 use Rattle.herm_model.specs.Lists.{IsIn, list_of}
 use Rattle.herm_model.specs.Paths.{Path, Fact}
 use Rattle.herm_model.specs.Types.{rows}
@@ -18,19 +18,20 @@ use Rattle.herm_instructions.specs.Effects.{row_type, label_behind}
 use Rattle.herm_instructions.specs.Places.{Way, Place, goes_on, label_at_start}
 use Rattle.herm_instructions.specs.GoodCode.{Arrives, module_places, processes_of}
 use Rattle.herm_translated.specs.Fronts.{front}
-use Rattle.herm_translated.specs.Departures.{Arrival, to_block, to_second_step, to_end, to_end_by, Departure, edge_code, arrive_by}
+use Rattle.herm_translated.specs.Departures.{Arrival, to_block, to_second_step, to_end, to_end_by, Departure, edge_code, edge_length, arrive_by}
 use Rattle.herm_translated.specs.CodeBlocks.{CodeBlock, own_slot}
 use Rattle.herm_translated.specs.Layout.{landings_by, edges_at, edge_at}
-use Rattle.herm_translated.specs.BlockLabels.{label_with, is_named, facts_after, edge_slots}
-use Rattle.herm_translated.specs.laws.LabelsAtEdges.{IsTypedBlock}
+use Rattle.herm_translated.specs.BlockLabels.{label_with, is_named, facts_after, comes_first, edge_slots}
+use Rattle.herm_translated.specs.laws.LabelsAlong.{handed_by, handed_on}
+use Rattle.herm_translated.specs.laws.LabelsAtEdges.{AreReached, IsTypedBlock}
 use Rattle.herm_translated.specs.laws.NamedComponents.{NamesAll}
 use Rattle.herm_translated.proofs.Joined.{get-right, got-within, length-joined}
 use Rattle.herm_translated.proofs.Lengths.{front-long, edge-long}
-use Rattle.herm_translated.proofs.Addresses.{outcome_of, first-here, edges-there}
+use Rattle.herm_translated.proofs.Addresses.{outcome_of, first-here, code-block, edges-there}
 use Rattle.herm_translated.proofs.LabelsStand.{blocks-labelled}
 use Rattle.herm_translated.proofs.FrontWays.{IsNoFor}
-use Rattle.herm_translated.proofs.Handing.{filter-all}
-use Rattle.herm_translated.proofs.EdgesLabelled.{got-some, own-none}
+use Rattle.herm_translated.proofs.Handing.{filter-all, fronts-hand_on}
+use Rattle.herm_translated.proofs.EdgesLabelled.{got-some, own-none, other-form, onward-ends}
 use Rattle.herm_good_images.proofs.blocks.BlockOfNode.{in-got}
 use Rattle.herm_good_images.proofs.fronts.GoodInstructions.{closed-more, AreGood, good-at, good-one, good-more, lands-more, handed_to, IsGoodAt}
 use Rattle.herm_good_images.proofs.fronts.GoodOperands.{LandsAtExit}
@@ -77,13 +78,15 @@ module _ (count : ℕ) (image : Image) (variables : List ℕ) (entry : Departure
   abbrev pub AreGoodHere : (Outcome → ℕ) → List Instruction → Option Label → Type 0
   AreGoodHere exit_at code a = AreGood image.types variables image.constants (IsGoodHere exit_at) code a
 
-  -- A block is sound: it is typed, its facts are closed and have what its form needs, its own slot is not yet there, and its edges keep the rules.
+  -- A block is sound: it is typed, its facts are closed and have what its form needs, its own slot is not yet there, its edges keep the rules, and where control goes
+  -- on to the next block what is held arrives at what is there.
   pub record IsSoundBlock (i : ℕ) (b : CodeBlock) : Type 0 where
     pub typed : IsTypedBlock image.types variables image.constants count processes b
     pub names : NamesAll image.types variables b.form
     pub arm : HasArm b.form
     pub needed : (f : Fact) → IsIn f (needs image.types variables b.form) → IsIn f b.facts
     pub own : (r t : Path) → b.form ≡ Form.For r t → IsIn b.statement (map (λ (s : Slot). s.number) b.slots) → ⊥
+    pub onward : b.onward ≡ true → (next : CodeBlock) × (slice_get blocks (suc i) ≡ Some next) × Arrives (label_with (facts_after image.types variables b.form ok b.facts) (edge_slots image.types variables b)) (label_with next.facts next.slots)
     pub edges : (j : ℕ) (d : Departure) → slice_get b.departures j ≡ Some d → AreGoodHere (exit i b) (edge_code st d) (Some (label_with (facts_after image.types variables b.form d.outcome b.facts) (edge_slots image.types variables b)))
 
   -- what is asked of the way to the next instruction
@@ -97,7 +100,7 @@ module _ (count : ℕ) (image : Image) (variables : List ℕ) (entry : Departure
     pub good : IsGoodHere exit_at p.instruction l
     pub onward : GoesOnWell p.index p.instruction l
 
-  module _ (formed : IsWellFormedTable count image.types) (sound : (i : ℕ) (b : CodeBlock) → slice_get blocks i ≡ Some b → IsSoundBlock i b) (entry-good : AreGoodHere (λ o. 0) (edge_code st entry) (Some label_at_start)) where
+  module _ (formed : IsWellFormedTable count image.types) (reached : AreReached image.types variables entry blocks) (sound : (i : ℕ) (b : CodeBlock) → slice_get blocks i ≡ Some b → IsSoundBlock i b) (entry-good : AreGoodHere (λ o. 0) (edge_code st entry) (Some label_at_start)) where
     typed-here : (i : ℕ) (b : CodeBlock) → slice_get blocks i ≡ Some b → IsTypedBlock image.types variables image.constants count processes b
     typed-here i b at-i = (sound i b at-i).typed
 
@@ -149,11 +152,23 @@ module _ (count : ℕ) (image : Image) (variables : List ℕ) (entry : Departure
     ends-well : (n : ℕ) (i : Instruction) (l : Label) → goes_on i ≡ None → GoesOnWell n i l
     ends-well n i l none o e = none-not_some (sym none ∙ e)
 
+    -- a block with a named outcome has edges
+    stays : (i : ℕ) (b : CodeBlock) (o : Outcome) → slice_get blocks i ≡ Some b → IsIn o (outcomes image.types variables b.form) → is_named o ≡ true → b.onward ≡ false
+    stays i b o at-i in-o named = by b.onward refl
+      where
+        only : IsIn o (ok ∷ []) → ⊥
+        only (inl e) = true≢false (sym named ∙ ap is_named e)
+        only (inr k) = k
+
+        by : (t : Bool) → b.onward ≡ t → b.onward ≡ false
+        by false e = e
+        by true e = absurd (only (subst (IsIn o) ((typed-here i b at-i).goes_on e).1 in-o))
+
     -- where an outcome's edge is named, its label is listed
     outcome-listed : (i : ℕ) (b : CodeBlock) (o : Outcome) → slice_get blocks i ≡ Some b → IsIn o (outcomes image.types variables b.form) → is_named o ≡ true
         → listed_at m.labels (exit i b o) ≡ Some (label_with (facts_after image.types variables b.form o b.facts) (edge_slots image.types variables b))
     outcome-listed i b o at-i in-o named =
-        let d = in-map_from outcome_of o b.departures (subst (IsIn o) (sym (typed-here i b at-i).outcomes_in_order) in-o) in
+        let d = in-map_from outcome_of o b.departures (subst (IsIn o) (sym ((typed-here i b at-i).outcomes_in_order (stays i b o at-i in-o named))) in-o) in
         let j = in-got d.0 b.departures d.1 in
         ap (λ o. listed_at m.labels (exit i b o)) d.2
         ∙ (blocks-labelled image.types variables image.constants entry blocks).edges i j.0 b d.0 at-i j.1 (typed-here i b at-i).outcomes_differ
@@ -161,9 +176,9 @@ module _ (count : ℕ) (image : Image) (variables : List ℕ) (entry : Departure
         ∙ ap (λ o. Some (label_with (facts_after image.types variables b.form o b.facts) (edge_slots image.types variables b))) (sym d.2)
 
     -- behind a front whose first edge is not named nothing is listed, and there is an instruction
-    first-edge : (i : ℕ) (b : CodeBlock) (o : Outcome) (rest : List Outcome) → slice_get blocks i ≡ Some b → outcomes image.types variables b.form ≡ o ∷ rest → is_named o ≡ false
+    first-edge : (i : ℕ) (b : CodeBlock) (o : Outcome) (rest : List Outcome) → slice_get blocks i ≡ Some b → b.onward ≡ false → outcomes image.types variables b.form ≡ o ∷ rest → is_named o ≡ false
         → (listed_at m.labels (edges_at image.types variables image.constants (st i) b) ≡ None) × (edges_at image.types variables image.constants (st i) b < length m.code)
-    first-edge i b o rest at-i e named = by b.departures refl ((typed-here i b at-i).outcomes_in_order ∙ e)
+    first-edge i b o rest at-i off e named = by b.departures refl ((typed-here i b at-i).outcomes_in_order off ∙ e)
       where
         by : (ds : List Departure) → b.departures ≡ ds → map outcome_of ds ≡ o ∷ rest → (listed_at m.labels (edges_at image.types variables image.constants (st i) b) ≡ None) × (edges_at image.types variables image.constants (st i) b < length m.code)
         by [] q s = let k : ⊥ = cc in absurd k
@@ -184,6 +199,34 @@ module _ (count : ℕ) (image : Image) (variables : List ℕ) (entry : Departure
             first : exit i b d.outcome ≡ edges_at image.types variables image.constants (st i) b
             first = ap (λ ds. edge_at (edges_at image.types variables image.constants (st i) b) ds d.outcome) q ∙ first-here (edges_at image.types variables image.constants (st i) b) d ds
 
+    -- behind the front of a block that goes on, the next block begins
+    next-first : (i : ℕ) (b : CodeBlock) → slice_get blocks i ≡ Some b → b.onward ≡ true
+        → ((next : Label) → listed_at m.labels (edges_at image.types variables image.constants (st i) b) ≡ Some next → Arrives (label_with (facts_after image.types variables b.form ok b.facts) (edge_slots image.types variables b)) next) × (edges_at image.types variables image.constants (st i) b < length m.code)
+    next-first i b at-i on = (
+      λ next listed. by (comes_first entry blocks (suc i)) next (sym ((blocks-labelled image.types variables image.constants entry blocks).first (suc i) c.0 c.1) ∙ ap (listed_at m.labels) ends ∙ listed),
+      subst (λ n. n < length m.code) ends
+          (got-within m.code (st (suc i)) Step (code-block image.types variables image.constants entry blocks (st (suc i)) (suc i) 0 c.0 (c.1, omega arith, omega arith))),
+    )
+      where
+        c : (next : CodeBlock) × (slice_get blocks (suc i) ≡ Some next) × Arrives (label_with (facts_after image.types variables b.form ok b.facts) (edge_slots image.types variables b)) (label_with next.facts next.slots)
+        c = (sound i b at-i).onward on
+
+        ends : st (suc i) ≡ edges_at image.types variables image.constants (st i) b
+        ends = onward-ends image.types variables image.constants (edge_length entry) blocks i b at-i ((typed-here i b at-i).goes_on on).0
+
+        by : (t : Bool) (next : Label) → cond t (Some (label_with c.0.facts c.0.slots)) None ≡ Some next → Arrives (label_with (facts_after image.types variables b.form ok b.facts) (edge_slots image.types variables b)) next
+        by true next e = subst (Arrives (label_with (facts_after image.types variables b.form ok b.facts) (edge_slots image.types variables b))) (some-injective e) c.2
+        by false next e = none-not_some e
+
+    -- what the last instruction of a row hands on is what the row does
+    handed-last : (code : List Instruction) (k : ℕ) (a : Option Label) (i : Instruction) (l : Label) (o : Outcome) → suc k ≡ length code → slice_get code k ≡ Some i → handed_to image.types variables image.constants code k a ≡ Some l → goes_on i ≡ Some o
+        → handed_on image.types variables image.constants code a ≡ Some (label_behind image.types variables image.constants i o l)
+    handed-last [] k a i l o long e h q = none-not_some e
+    handed-last (x ∷ []) zero a i l o long e h q =
+        ap₂ (λ j b. handed_by image.types variables image.constants j b) (some-injective e) h ∙ ap (option_and_then (λ o. Some (label_behind image.types variables image.constants i o l))) q
+    handed-last (x ∷ y ∷ code) zero a i l o long e h q = absurd (omega (arith, long))
+    handed-last (x ∷ code) (suc k) a i l o long e h q = handed-last code k (handed_by image.types variables image.constants x a) i l o (omega (arith, long)) e h q
+
     -- a front that goes on at its end goes on to an edge that is not named
     goes-first : (b : CodeBlock) (at : ℕ) (exit_at : Outcome → ℕ) (form : Form) → IsNoFor form → (k : ℕ) (i : Instruction) → suc k ≡ length (Step ∷ front image.types variables image.constants b.facts b.statement at exit_at form)
         → slice_get (Step ∷ front image.types variables image.constants b.facts b.statement at exit_at form) k ≡ Some i → (o : Outcome) → goes_on i ≡ Some o → (first : Outcome) × (rest : List Outcome) × (outcomes image.types variables form ≡ first ∷ rest) × (is_named first ≡ false)
@@ -197,6 +240,34 @@ module _ (count : ℕ) (image : Image) (variables : List ℕ) (entry : Departure
     goes-first b at exit_at (Form.If x) plain k i long e o q = (is_true, is_false ∷ map raised (exceptions image.types variables (Form.If x)), refl, refl)
     goes-first b at exit_at (Form.While x) plain k i long e o q = (is_true, is_false ∷ map raised (exceptions image.types variables (Form.While x)), refl, refl)
     goes-first b at exit_at form plain k i long e o q = (ok, map raised (exceptions image.types variables form), refl, refl)
+
+    -- the way on from the last instruction of a front
+    front-onward : (i : ℕ) (b : CodeBlock) → slice_get blocks i ≡ Some b → IsNoFor b.form → (n : ℕ) (x : Instruction) (l : Label) (o : Outcome) → suc n ≡ edges_at image.types variables image.constants (st i) b
+        → ((first : Outcome) × (rest : List Outcome) × (outcomes image.types variables b.form ≡ first ∷ rest) × (is_named first ≡ false))
+        → (k : ℕ) → suc k ≡ length (Step ∷ places.the_front count image variables entry blocks i b) → slice_get (Step ∷ places.the_front count image variables entry blocks i b) k ≡ Some x
+        → handed_to image.types variables image.constants (Step ∷ places.the_front count image variables entry blocks i b) k (Some (label_with b.facts b.slots)) ≡ Some l → goes_on x ≡ Some o
+        → (suc n < length m.code) × ((next : Label) → listed_at m.labels (suc n) ≡ Some next → Arrives (label_behind image.types variables image.constants x o l) next)
+    front-onward i b at-i plain n x l o here f k long there handed q = by b.onward refl
+      where
+        the_row : List Instruction
+        the_row = Step ∷ places.the_front count image variables entry blocks i b
+
+        behind : b.onward ≡ true → label_with (facts_after image.types variables b.form ok b.facts) (edge_slots image.types variables b) ≡ label_behind image.types variables image.constants x o l
+        behind on =
+            some-injective
+            (ap (λ own. Some (label_with (facts_after image.types variables b.form ok b.facts) (own ++ b.slots))) (own-none image.types variables b.statement b.form plain)
+            ∙ sym (fronts-hand_on image.types variables image.constants count processes formed b.facts b.statement (st i + 1) (exit i b) b.slots b.form ok (typed-here i b at-i).typed (typed-here i b at-i).known
+            (subst (IsIn ok) (sym ((typed-here i b at-i).goes_on on).1) (inl refl)) refl (other-form b.form plain))
+            ∙ sym (ap (λ fs. handed_on image.types variables image.constants (places.the_front count image variables entry blocks i b) (Some (label_with fs b.slots))) (filter-all b.facts))
+            ∙ handed-last (Step ∷ places.the_front count image variables entry blocks i b) k (Some (label_with b.facts b.slots)) x l o long there handed q)
+
+        by : (t : Bool) → b.onward ≡ t → (suc n < length m.code) × ((next : Label) → listed_at m.labels (suc n) ≡ Some next → Arrives (label_behind image.types variables image.constants x o l) next)
+        by true on =
+            let z = next-first i b at-i on in
+            (subst (λ n. n < length m.code) (sym here) z.1, λ next listed. subst (λ (y : Label). Arrives y next) (behind on) (z.0 next (ap (listed_at m.labels) (sym here) ∙ listed)))
+        by false off =
+            let z = first-edge i b f.0 f.1 at-i off f.2 f.3 in
+            (subst (λ n. n < length m.code) (sym here) z.1, λ next listed. none-not_some (sym (ap (listed_at m.labels) here ∙ z.0) ∙ listed))
 
     step-good : (exit_at : Outcome → ℕ) (l : Label) → IsGoodHere exit_at Step l
     step-good exit_at l = record { typed = tt; stack = (l.stack, refl); facts = λ f k. absurd k; slots = tt; trims = tt; leads = λ w k. absurd k }
@@ -249,7 +320,7 @@ module _ (count : ℕ) (image : Image) (variables : List ℕ) (entry : Departure
           way w (inl e) =
               subst (λ (w : Way). LandsListed w (label_behind image.types variables image.constants (Jump (st i + 1 + 3)) w.outcome (in_loop b r t))) (sym e) (
                 in_loop b r t,
-                ap (listed_at m.labels) (omega arith) ∙ test-listed count image variables entry blocks processes formed typed-here i b r t at-i,
+                ap (listed_at m.labels) (omega arith) ∙ test-listed count image variables entry blocks processes formed reached typed-here i b r t at-i,
                 subst (λ fs. Arrives (label_with fs (edge_slots image.types variables (as_loop b r t))) (in_loop b r t)) (sym (filter-all b.facts)) (arrives-itself _),
               )
           way w (inr k) = absurd k
@@ -282,7 +353,7 @@ module _ (count : ℕ) (image : Image) (variables : List ℕ) (entry : Departure
 
     -- each instruction with a label keeps the rules
     pub place-sound : (p : Place) (l : Label) → IsIn p (module_places count image m) → p.label ≡ Some l → IsSoundPlace p l
-    place-sound p l member e = by (located count image variables entry blocks processes formed typed-here p member)
+    place-sound p l member e = by (located count image variables entry blocks processes formed reached typed-here p member)
       where
         by : Located count image variables entry blocks p → IsSoundPlace p l
         by (on_entry on) = on-row 0 (edge_code st entry) (λ o. 0) (Some label_at_start) p l on e entry-good (λ k long at there handed. ends-well p.index p.instruction l (edge-ends entry k p.instruction long there))
@@ -291,10 +362,9 @@ module _ (count : ℕ) (image : Image) (variables : List ℕ) (entry : Departure
             on-row (st i) (Step ∷ places.the_front count image variables entry blocks i b) (exit i b) _ p l on e (front-row_good i b at-i plain)
             (λ k long at there handed o q. (
             let f = goes-first b (st i + 1) (exit i b) b.form plain k p.instruction long there o q in
-            let x = first-edge i b f.0 f.1 at-i f.2 f.3 in
             let lf = front-long image.types variables image.constants b.facts b.statement (st i + 1) (exit i b) b.form in
             let here : suc p.index ≡ edges_at image.types variables image.constants (st i) b = omega (arith, at, long, lf) in
-            (subst (λ n. n < length m.code) (sym here) x.1, λ next listed. none-not_some (sym (ap (listed_at m.labels) here ∙ x.0) ∙ listed))))
+            front-onward i b at-i plain p.index p.instruction l o here f k long there handed q))
         by (on_loop i b r t at-i on) =
             on-row (st i) (first_row i b r t) (exit i (as_loop b r t)) _ p l on e (loop-row_good i b r t at-i)
             (λ k long at there handed. ends-well p.index p.instruction l (let two : k ≡ 2 = omega (arith, long) in sym (ap goes_on (some-injective (ap (slice_get (first_row i b r t)) (sym two) ∙ there)))))
@@ -306,10 +376,10 @@ module _ (count : ℕ) (image : Image) (variables : List ℕ) (entry : Departure
         }
           where
             listed-next : listed_at m.labels (suc p.index) ≡ Some (in_loop b r t)
-            listed-next = ap (listed_at m.labels) (omega (arith, at)) ∙ test-listed count image variables entry blocks processes formed typed-here i b r t at-i
+            listed-next = ap (listed_at m.labels) (omega (arith, at)) ∙ test-listed count image variables entry blocks processes formed reached typed-here i b r t at-i
 
             next-there : suc p.index < length m.code
-            next-there = (let w = test-within count image variables entry blocks processes formed typed-here i b r t at-i in omega (arith, at, w))
+            next-there = (let w = test-within count image variables entry blocks processes formed reached typed-here i b r t at-i in omega (arith, at, w))
 
             next-arrives : (o : Outcome) → Some ok ≡ Some o → (next : Label) → listed_at m.labels (suc p.index) ≡ Some next → Arrives (label_behind image.types variables image.constants Step o l) next
             next-arrives o q next listed =
@@ -321,6 +391,6 @@ module _ (count : ℕ) (image : Image) (variables : List ℕ) (entry : Departure
             on-row (st i + 4) (test_row i b r t) (exit i (as_loop b r t)) _ p l on e
             (good-one image.types variables image.constants (IsGoodHere (exit i (as_loop b r t))) _ _ (test-good i b r t at-i))
             (λ k long at there handed o q. (
-            let x = first-edge i (as_loop b r t) turn (done ∷ []) at-i refl refl in
+            let x = first-edge i (as_loop b r t) turn (done ∷ []) at-i (stays i (as_loop b r t) done at-i (inr (inl refl)) refl) refl refl in
             let here : suc p.index ≡ edges_at image.types variables image.constants (st i) (as_loop b r t) = omega (arith, at, long) in
             (subst (λ n. n < length m.code) (sym here) x.1, λ next listed. none-not_some (sym (ap (listed_at m.labels) here ∙ x.0) ∙ listed))))

@@ -26,36 +26,7 @@ use Rattle.herm_model.proofs.DifferentOutcomes.{process-EdgesDiffer}
 use Rattle.herm_model.proofs.ThereFacts.{held-facts}
 use Rattle.herm_translated.specs.BlockLabels.{facts_after}
 use Rattle.herm_translated.proofs.Joined.{got-within}
-
--- what is held behind an edge, by a test for what is held before it, is listed behind it by a list of the latter
-pub listed-behind : (types : TypeTable) (variables : List ℕ) (n : Node) (x : Exit) (facts : List Fact) (before : Fact → Bool) → ((f : Fact) → IsIn f facts ↔ (before f ≡ true)) → (f : Fact)
-    → IsIn f (facts_after types variables n.form x.outcome facts) ↔ (held_after_edge (edge types variables n.form x) f (before f) ≡ true)
-listed-behind types variables n x facts before listed f = (λ m. into (in-append_cases f made _ m), λ h. from (any_pass (same_fact f) made) refl (gone f) refl h)
-  where
-    made : List Fact
-    made = makes types variables n.form x.outcome
-
-    gone : Fact → Bool
-    gone g = any_pass (λ p. is_at_or_below p (path_of g)) (kills types variables n.form x.outcome)
-
-    un-not : (b : Bool) → not b ≡ true → b ≡ false
-    un-not true e = absurd (true≢false (sym e))
-    un-not false e = refl
-
-    whatever : (a : Bool) → cond a true true ≡ true
-    whatever true = refl
-    whatever false = refl
-
-    into : IsIn f made ⊎ IsIn f (filter (λ g. not (gone g)) facts) → cond (any_pass (same_fact f) made) true (cond (gone f) false (before f)) ≡ true
-    into (inl a) = ap (λ b. cond b true (cond (gone f) false (before f))) (IsIn-listed f made a)
-    into (inr b) =
-        let r = in-filter_from (λ g. not (gone g)) f facts b in
-        ap (λ g. cond (any_pass (same_fact f) made) true (cond g false (before f))) (un-not (gone f) r.1) ∙ ap (cond (any_pass (same_fact f) made) true) ((listed f).0 r.0) ∙ whatever (any_pass (same_fact f) made)
-
-    from : (a : Bool) → any_pass (same_fact f) made ≡ a → (g : Bool) → gone f ≡ g → cond a true (cond g false (before f)) ≡ true → IsIn f (made ++ filter (λ g. not (gone g)) facts)
-    from true e g q h = in-append_left f made _ (listed-IsIn f made e)
-    from false e true q h = absurd (true≢false (sym h))
-    from false e false q h = in-append_right f made _ (in-filter (λ g. not (gone g)) f facts ((listed f).1 h) (ap not q))
+pub use Rattle.herm_translated.proofs.SettledFacts.{listed-behind}
 
 module _ (count : ℕ) (table : TypeTable) (processes : List Process) (p : Process) (labels : Labels) (typed : IsTypedProcess count table processes p) (formed : IsWellFormedTable count table) (exact : AreExact (flow_of table p) labels) where
   abbrev flow : Flow
