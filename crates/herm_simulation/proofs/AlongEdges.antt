@@ -84,17 +84,22 @@ module _ (name : Name → Name) (c : ReadyCode) (m : Module) (scope : c.scope �
   abbrev Leads : ℕ → ℕ → Target → Frame Name → Type 0
   Leads k i t b = LeadsTo name c (state_at k i [] b) (record { module_number = k; position = arrived_at start (arrival_at m slots t); stack = []; frame = arrive m t b })
 
+  -- what an edge to a node drops is what the source drops
+  pub arrive-drops : (n : ℕ) (drops : List Path) (b : Frame Name) → drops ≡ excess m.types m.variables (has_value b.variables) (keeps m (node n)) → AreListsOf slots b.loops → drop_loops (slots_left m slots (node n)) (drop drops b) ≡ arrive m (node n) b
+  arrive-drops n drops b is lists =
+      let numbers : slots_left m slots (node n) ≡ filter (λ s. not (keeps_loop m (node n) s)) (statements (drop drops b).loops) =
+      numbers-passed (λ s. not (keeps_loop m (node n) s)) slots ∙ ap (filter (λ s. not (keeps_loop m (node n) s))) (sym lists.0 ∙ ap statements (sym (drop-loops drops b))) in
+      let left : drop_loops (slots_left m slots (node n)) (drop drops b) ≡ leave_loops (keeps_loop m (node n)) (drop drops b) =
+      ap (λ ss. drop_loops ss (drop drops b)) numbers ∙ all-left (keeps_loop m (node n)) (drop drops b) (subst (λ ls. Differ (statements ls)) (sym (drop-loops drops b)) lists.1) in
+      left ∙ ap (λ ps. leave_loops (keeps_loop m (node n)) (drop ps b)) is
+
   -- an edge to a node
   to-node : (n : ℕ) (drops : List Path) (k i : ℕ) (b : Frame Name) → StandFrom c i (edge_code start (departure m slots o (node n) drops)) → drops ≡ excess m.types m.variables (has_value b.variables) (keeps m (node n)) → AreListsOf slots b.loops → Leads k i (node n) b
   to-node n drops k i b h is lists =
       let d = departure m slots o (node n) drops in
       let r = along-edge name c k i start d b h in
       let at = i + length drops + length d.slots in
-      let numbers : slots_left m slots (node n) ≡ filter (λ s. not (keeps_loop m (node n) s)) (statements (drop drops b).loops) =
-      numbers-passed (λ s. not (keeps_loop m (node n) s)) slots ∙ ap (filter (λ s. not (keeps_loop m (node n) s))) (sym lists.0 ∙ ap statements (sym (drop-loops drops b))) in
-      let left : drop_loops d.slots (drop drops b) ≡ leave_loops (keeps_loop m (node n)) (drop drops b) =
-      ap (λ ss. drop_loops ss (drop drops b)) numbers ∙ all-left (keeps_loop m (node n)) (drop drops b) (subst (λ ls. Differ (statements ls)) (sym (drop-loops drops b)) lists.1) in
-      let same : drop_loops d.slots (drop drops b) ≡ arrive m (node n) b = left ∙ ap (λ ps. leave_loops (keeps_loop m (node n)) (drop ps b)) is in
+      let same : drop_loops d.slots (drop drops b) ≡ arrive m (node n) b = arrive-drops n drops b is lists in
       let there : CodeState Name = record { module_number = k; position = arrived_at start (arrival_at m slots (node n)); stack = []; frame = drop_loops d.slots (drop drops b) } in
       leads-then name c (state_at k i [] b) there (record there { frame = arrive m (node n) b })
       (leads-then name c (state_at k i [] b) (state_at k at [] (drop_loops d.slots (drop drops b))) there r.0 (last at (drop_loops d.slots (drop drops b)) r.1))

@@ -9,7 +9,8 @@ use Rattle.herm_model.specs.Nodes.{Node}
 use Rattle.herm_model.specs.Outcomes.{Outcome, same_outcome, outcomes}
 use Rattle.herm_model.specs.Statements.{For}
 use Rattle.herm_model.specs.Targets.{Target, node, end, end_by}
-use Rattle.herm_model.specs.Values.{Name}
+use Rattle.herm_model.specs.Values.{Name, has_value}
+use Rattle.herm_model.specs.Finalising.{excess}
 use Rattle.herm_model.proofs.Reached.{same_outcome-is}
 use Rattle.herm_model.proofs.ExcessOrder.{values-excess}
 use Rattle.herm_model.proofs.FactTests.{got-IsIn}
@@ -18,7 +19,7 @@ use Rattle.herm_model.proofs.NodeExits.{exits-outcomes}
 use Rattle.herm_model.proofs.Options.{none-not_some, some-injective, map-some}
 use Rattle.herm_forms.specs.Acts.{leads_to}
 use Rattle.herm_forms.specs.EdgeFinalising.{keeps, arrive}
-use Rattle.herm_forms.specs.Frames.{Frame}
+use Rattle.herm_forms.specs.Frames.{Frame, drop}
 use Rattle.herm_forms.specs.laws.EdgeLaws.{AreSound, held_after}
 use Rattle.herm_instructions.specs.Images.{instruction_at}
 use Rattle.herm_instructions.specs.Instructions.{Step}
@@ -33,8 +34,11 @@ use Rattle.herm_simulation.specs.Checks.{list_at}
 use Rattle.herm_simulation.specs.Leading.{state_at, LeadsTo, arrived_at}
 use Rattle.herm_simulation.specs.Standing.{IsAtPoint}
 use Rattle.herm_simulation.specs.laws.EdgeLaws.{AreListsOf}
-use Rattle.herm_simulation.proofs.AlongEdges.{edges-do_arrivals}
-use Rattle.herm_simulation.proofs.InPlace.{Coded, types, variables, constants, source_code, checked_code, blocks, entry, code, ready, nodes, begins_at, block, slots_of, exit, linked, in-blocks, departure-at, edge-stands}
+use Rattle.herm_code_machine.specs.CodeStates.{at_index}
+use Rattle.herm_simulation.proofs.AlongEdges.{arrive-drops, edges-do_arrivals}
+use Rattle.herm_simulation.proofs.Leading.{leads-from}
+use Rattle.herm_simulation.proofs.LoopsLeft.{drop_loops}
+use Rattle.herm_simulation.proofs.InPlace.{Coded, types, variables, constants, source_code, checked_code, blocks, entry, code, ready, nodes, begins_at, block, slots_of, exit, linked, in-blocks, is_onward, goes-on, departure-at, edge-stands}
 
 -- what is found stands at a place
 found-place : {X : Type 0} (test : X → Bool) (xs : List X) (x : X) → find test xs ≡ Some x → (j : ℕ) × (slice_get xs j ≡ Some x) × (test x ≡ true)
@@ -102,10 +106,20 @@ module _ (k : Coded) where
         ((there.0, there.3, inr (refl, again, there.1, there.2, there.4)), (Step, second-at q there.0 there.1 there.2 there.3 there.4, refl))
 
     pub arrival-stands : (o : Outcome) (t : Target) → leads_to (source_code k) n o ≡ Some t → Arrives t
-    arrival-stands o (node q) e =
-        let x = exit-of_outcome n o (node q) e in
-        let d = departure (source_code k) (slots_of k i n) o (node q) (list_at (list_at k.drops i) x.0) in
-        to-node q d (got-IsIn (block k i n).departures x.0 d (departure-at k i n at x.0 (record { outcome = o; target = node q }) x.1)) (any_pass (λ (s : Slot). nat_eq s.number (number_at (source_code k) q)) (slots_of k i n)) refl
+    arrival-stands o (node q) e = by (is_onward k i n at) refl
+      where
+        x : (j : ℕ) × (slice_get (exits (types k) (variables k) n) j ≡ Some (record { outcome = o; target = node q }))
+        x = exit-of_outcome n o (node q) e
+
+        by : (t : Bool) → is_onward k i n at ≡ t → Arrives (node q)
+        by false off =
+            let d = departure (source_code k) (slots_of k i n) o (node q) (list_at (list_at k.drops i) x.0) in
+            to-node q d (got-IsIn (block k i n).departures x.0 d (departure-at k i n at off x.0 (record { outcome = o; target = node q }) x.1)) (any_pass (λ (s : Slot). nat_eq s.number (number_at (source_code k) q)) (slots_of k i n)) refl
+        by true on =
+            let g = goes-on k i n at on x.0 (record { outcome = o; target = node q }) x.1 in
+            subst Arrives (sym g.leads)
+            (subst (λ a. (let p = arrived_at (begins_at k) a in IsAtPoint (constants k) (checked_code k) None p (node (suc i)) × IsAtPiece (ready k) p)) (sym g.arrival)
+            ((g.next.0, g.next.1, inl refl), (Step, step-at (suc i) g.next.0 g.next.1, refl)))
     arrival-stands o end e = (tt, tt)
     arrival-stands o (end_by x) e = (refl, tt)
 
@@ -113,10 +127,23 @@ module _ (k : Coded) where
     pub outcome-leads : (name : Name → Name) (q : ℕ) (o : Outcome) (t : Target) (b : Frame Name) → leads_to (source_code k) n o ≡ Some t → AreSound (source_code k) (held_after (types k) (variables k) n.form o (k.labels i)) b.variables
         → AreListsOf (slots_of k i n) b.loops
         → LeadsTo name (ready k) (state_at q (exit k i n o) [] b) (record { module_number = q; position = arrived_at (begins_at k) (arrival_at (source_code k) (slots_of k i n) t); stack = []; frame = arrive (source_code k) t b })
-    outcome-leads name q o t b e sound lists =
-        let x = exit-of_outcome n o t e in
-        let has : Fact → Bool = held_after (types k) (variables k) n.form o (k.labels i) in
-        edges-do_arrivals name (ready k) (source_code k) refl (begins_at k) (slots_of k i n) o t (list_at (list_at k.drops i) x.0) q (exit k i n o) b
-        (edge-stands k i n at x.0 (record { outcome = o; target = t }) x.1)
-        ((k.right).drops i x.0 n (record { outcome = o; target = t }) at x.1 ∙ sym (values-excess (types k) (variables k) has b.variables (keeps (source_code k) t) sound.facts))
-        lists
+    outcome-leads name q o t b e sound lists = by (is_onward k i n at) refl
+      where
+        x : (j : ℕ) × (slice_get (exits (types k) (variables k) n) j ≡ Some (record { outcome = o; target = t }))
+        x = exit-of_outcome n o t e
+
+        right : list_at (list_at k.drops i) x.0 ≡ excess (types k) (variables k) (has_value b.variables) (keeps (source_code k) t)
+        right = (k.right).drops i x.0 n (record { outcome = o; target = t }) at x.1 ∙ sym (values-excess (types k) (variables k) (held_after (types k) (variables k) n.form o (k.labels i)) b.variables (keeps (source_code k) t) sound.facts)
+
+        by : (u : Bool) → is_onward k i n at ≡ u → LeadsTo name (ready k) (state_at q (exit k i n o) [] b) (record { module_number = q; position = arrived_at (begins_at k) (arrival_at (source_code k) (slots_of k i n) t); stack = []; frame = arrive (source_code k) t b })
+        by false off =
+            edges-do_arrivals name (ready k) (source_code k) refl (begins_at k) (slots_of k i n) o t (list_at (list_at k.drops i) x.0) q (exit k i n o) b
+            (edge-stands k i n at off x.0 (record { outcome = o; target = t }) x.1) right lists
+        by true on =
+            let g = goes-on k i n at on x.0 (record { outcome = o; target = t }) x.1 in
+            let to_next = subst (λ t. list_at (list_at k.drops i) x.0 ≡ excess (types k) (variables k) (has_value b.variables) (keeps (source_code k) t)) g.leads right in
+            let frame : b ≡ arrive (source_code k) (node (suc i)) b =
+            ap₂ (λ ss ps. drop_loops ss (drop ps b)) (sym g.slots) (sym g.drops) ∙ arrive-drops name (ready k) (source_code k) refl (begins_at k) (slots_of k i n) o (suc i) (list_at (list_at k.drops i) x.0) b to_next lists in
+            subst (λ t. LeadsTo name (ready k) (state_at q (exit k i n o) [] b) (record { module_number = q; position = arrived_at (begins_at k) (arrival_at (source_code k) (slots_of k i n) t); stack = []; frame = arrive (source_code k) t b })) (sym g.leads)
+            (leads-from name (ready k) (state_at q (exit k i n o) [] b) (record { module_number = q; position = arrived_at (begins_at k) (arrival_at (source_code k) (slots_of k i n) (node (suc i))); stack = []; frame = arrive (source_code k) (node (suc i)) b })
+            (ap₂ (λ p (b : Frame Name). record { module_number = q; position = p; stack = []; frame = b }) (ap at_index (g.ends o) ∙ sym (ap (arrived_at (begins_at k)) g.arrival)) frame))

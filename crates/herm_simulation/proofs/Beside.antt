@@ -25,7 +25,7 @@ use Rattle.herm_translated.proofs.LabelsStand.{label-where_listed, blocks-labell
 use Rattle.herm_simulation.specs.Standing.{IsWithin, IsAtPoint}
 use Rattle.herm_simulation.specs.laws.EdgeLaws.{AreListsOf}
 use Rattle.herm_simulation.proofs.Arrivals.{second-at}
-use Rattle.herm_simulation.proofs.InPlace.{Coded, types, variables, constants, source_code, checked_code, blocks, entry, code, ready, nodes, begins_at, block, slots_of, block-here}
+use Rattle.herm_simulation.proofs.InPlace.{Coded, types, variables, constants, source_code, checked_code, blocks, entry, code, ready, nodes, begins_at, block, slots_of, first-labelled, block-here}
 
 module _ (k : Coded) where
   -- It runs the module of the same number, within the block of the point's node, with an empty stack and an equal frame; and in an open
@@ -75,7 +75,7 @@ module _ (k : Coded) where
     pub lists-first : y.position ≡ at_index (begins_at k i) → AreListsOf (slots_around (source_code k) i) y.frame.loops
     lists-first position =
         listed-slots y (begins_at k i) (label_with (block k i n).facts (slots_around (source_code k) i)) position idle sound
-        ((blocks-labelled (types k) (variables k) (constants k) (entry k) (blocks k)).first_label i (block k i n) (block-here k i n at))
+        (first-labelled k i (block k i n) (block-here k i n at))
 
     -- at the second step of a `for`
     second-listed : (b : CodeBlock) (r t : Path) → slice_get (blocks k) i ≡ Some (record b { form = For r t }) → comes_again (blocks k) i ≡ true

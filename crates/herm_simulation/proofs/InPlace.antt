@@ -9,10 +9,11 @@ use Rattle.herm_model.specs.Exits.{Exit, exits}
 use Rattle.herm_model.specs.Expressions.{Literal}
 use Rattle.herm_model.specs.Labels.{Labels}
 use Rattle.herm_model.specs.Nodes.{Node, process_nodes}
-use Rattle.herm_model.specs.Outcomes.{Outcome, raised, outcomes}
+use Rattle.herm_model.specs.Outcomes.{Outcome, ok, raised, outcomes}
 use Rattle.herm_model.specs.Statements.{Process}
+use Rattle.herm_model.specs.TypedStatements.{IsTypedForm}
 use Rattle.herm_model.specs.Targets.{Target, node, end, end_by}
-use Rattle.herm_model.proofs.Lists.{cons-not_nil, cons-head}
+use Rattle.herm_model.proofs.Lists.{cons-not_nil, cons-head, and-both}
 use Rattle.herm_model.proofs.FactTests.{got-IsIn}
 use Rattle.herm_model.proofs.Options.{none-not_some, some-injective}
 use Rattle.herm_forms.specs.Modules.{Module, module_of}
@@ -21,20 +22,25 @@ use Rattle.herm_instructions.specs.Effects.{exceptions_of}
 use Rattle.herm_instructions.specs.Images.{Landing, CodeModule, Image}
 use Rattle.herm_instructions.specs.Instructions.{Instruction, Step}
 use Rattle.herm_instructions.specs.Labels.{Slot}
+use Rattle.herm_instructions.specs.Places.{label_at}
 use Rattle.herm_code_machine.specs.ReadyCode.{ReadyCode}
 use Rattle.herm_code_machine.specs.laws.GoodImageLaws.{IsGoodOver, labelled_code}
 use Rattle.herm_translated.specs.Constants.{literals_in}
-use Rattle.herm_translated.specs.CodeBlocks.{CheckedModule, CodeBlock, block_of, blocks_from, blocks_of, entry_edge, slots_within, slots_around, departure, departures_of, first_list, further_lists}
-use Rattle.herm_translated.specs.Departures.{Departure, edge_code, edge_length}
+use Rattle.herm_translated.specs.BlockLabels.{label_with}
+use Rattle.herm_translated.specs.CodeBlocks.{CheckedModule, CodeBlock, block_of, blocks_from, blocks_of, entry_edge, slots_within, slots_around, departure, departures_of, edges_of, goes_onward, arrival_at, slots_left, first_list, further_lists}
+use Rattle.herm_translated.specs.Departures.{Arrival, to_block, to_second_step, to_end, to_end_by, Departure, edge_code, edge_length}
 use Rattle.herm_translated.specs.Fronts.{front}
 use Rattle.herm_translated.specs.Layout.{landings_by, edge_at, edges_at, exit_of, block_code}
-use Rattle.herm_translated.specs.Translated.{code_of}
+use Rattle.herm_translated.specs.Translated.{laid_out}
 use Rattle.herm_translated.specs.laws.CheckedBlocks.{checked, HasLinkedBlocks}
 use Rattle.herm_translated.specs.laws.LayoutLaws.{start, IsInBlock}
+use Rattle.herm_translated.specs.laws.LabelsAtEdges.{IsTypedBlock, AreReached, AreTypedBlocks}
 use Rattle.herm_translated.proofs.Addresses.{outcome_of, first-here, laid-out, edges-there}
 use Rattle.herm_translated.proofs.Joined.{got-within}
 use Rattle.herm_translated.proofs.Lengths.{block-long, edge-long}
-use Rattle.herm_translated.proofs.LinkedProcess.{linked-blocks}
+use Rattle.herm_translated.proofs.EdgesLabelled.{first-steps_labelled, onward-ends}
+use Rattle.herm_translated.proofs.PlainEdges.{IsOnePlain, one-plain}
+use Rattle.herm_translated.proofs.LinkedProcess.{arrives-block, block-place, linked-blocks}
 use Rattle.herm_simulation.specs.Checks.{list_at, IsRight}
 use Rattle.herm_simulation.specs.FrontsInPlace.{LandFrom, IsFrontAt}
 use Rattle.herm_simulation.specs.Leading.{StandFrom}
@@ -55,7 +61,8 @@ pub record Coded : Type 0 where
   pub right : IsRight (checked image.types process labels facts entry_drops drops)
   pub known : (n : Node) → IsIn n (process_nodes process) → (l : Literal) → IsIn l (literals_in n.form) → IsIn l image.constants
   pub good : IsGoodOver exceptions image
-  pub in_image : IsIn (code_of image.constants (checked image.types process labels facts entry_drops drops)) image.modules
+  pub reached : AreReached image.types process.variables (entry_edge (checked image.types process labels facts entry_drops drops)) (blocks_of (checked image.types process labels facts entry_drops drops))
+  pub in_image : IsIn (laid_out image.types process.variables image.constants (entry_edge (checked image.types process labels facts entry_drops drops)) (blocks_of (checked image.types process labels facts entry_drops drops))) image.modules
 
 -- the landing of an exception
 land-found : (exit_at : Outcome → ℕ) (es : List ℕ) (e : ℕ) → IsIn e es → option_map (λ (l : Landing). l.index) (find (λ (l : Landing). nat_eq l.exception e) (map (λ e. record { exception = e; index = exit_at (raised e) }) es)) ≡ Some (exit_at (raised e))
@@ -94,7 +101,7 @@ module _ (k : Coded) where
   entry = entry_edge checked_code
 
   abbrev pub code : CodeModule
-  code = code_of constants checked_code
+  code = laid_out types variables constants entry blocks
 
   abbrev pub ready : ReadyCode
   ready = labelled_code k.image code
@@ -117,6 +124,22 @@ module _ (k : Coded) where
 
   pub linked : HasLinkedBlocks types k.process checked_code
   linked = linked-blocks k.exceptions types k.processes k.process k.labels k.facts k.entry_drops k.drops k.sound.typed
+
+  typed-blocks : AreTypedBlocks types variables constants k.exceptions k.processes blocks
+  typed-blocks i b e =
+      let r = block-place k.exceptions types k.processes k.process k.labels k.facts k.entry_drops k.drops k.sound.typed 0 nodes k.facts k.drops i b e in
+      let in-n = got-IsIn nodes i r.0 r.3 in
+      record {
+        typed = subst (λ (b : CodeBlock). IsTypedForm types variables k.exceptions k.processes b.form) (sym r.4) (k.sound.typed.typed r.0 in-n);
+        known = λ l m. k.known r.0 in-n l (subst (λ (b : CodeBlock). IsIn l (literals_in b.form)) r.4 m);
+        outcomes_in_order = linked.outcomes_in_order b (got-IsIn blocks i b e);
+        goes_on = linked.goes_on b (got-IsIn blocks i b e);
+        outcomes_differ = linked.outcomes_differ b (got-IsIn blocks i b e);
+      }
+
+  -- the label at the first step of a block
+  pub first-labelled : (i : ℕ) (b : CodeBlock) → slice_get blocks i ≡ Some b → label_at types constants code (begins_at i) ≡ Some (label_with b.facts b.slots)
+  first-labelled i b e = first-steps_labelled k.exceptions types variables constants k.processes entry blocks k.sound.well k.reached typed-blocks i b e
 
   -- the block of the node at a place
   first-list : {X : Type 0} (lists : List (List X)) → first_list lists ≡ list_at lists 0
@@ -194,35 +217,97 @@ module _ (k : Coded) where
     same-front : lines ≡ Step ∷ (front_here ++ edges_code)
     same-front = let same : begins_at i + 1 ≡ suc (begins_at i) = omega arith in ap (λ q. Step ∷ (front types variables constants (list_at k.facts i) n.number q (exit i n) n.form ++ edges_code)) same
 
-    pub outcomes-here : map outcome_of (block i n).departures ≡ outcomes types variables n.form
-    outcomes-here = linked.outcomes_in_order (block i n) in-blocks
+    -- the edges of the node, and whether its block goes on to the next one
+    abbrev pub the_edges : List Departure
+    the_edges = edges_of source_code i n (list_at k.drops i)
+
+    abbrev pub is_onward : Bool
+    is_onward = goes_onward source_code i the_edges
+
+    outcomes-here : is_onward ≡ false → map outcome_of (block i n).departures ≡ outcomes types variables n.form
+    outcomes-here off = linked.outcomes_in_order (block i n) in-blocks off
 
     first-behind : (ds : List Departure) (o : Outcome) (rest : List Outcome) → map outcome_of ds ≡ o ∷ rest → (q : ℕ) → edge_at q ds o ≡ q
     first-behind [] o rest e q = cons-not_nil o rest (sym e)
     first-behind (d ∷ ds) o rest e q = subst (λ o. edge_at q (d ∷ ds) o ≡ q) (cons-head e) (first-here q d ds)
+
+    first-exit : (o : Outcome) (rest : List Outcome) → outcomes types variables n.form ≡ o ∷ rest → edge_at (edges_at types variables constants (begins_at i) (block i n)) (block i n).departures o ≡ edges_at types variables constants (begins_at i) (block i n)
+    first-exit o rest e = by is_onward refl
+      where
+        by : (t : Bool) → is_onward ≡ t → edge_at (edges_at types variables constants (begins_at i) (block i n)) (block i n).departures o ≡ edges_at types variables constants (begins_at i) (block i n)
+        by true on = ap (λ t. edge_at (edges_at types variables constants (begins_at i) (block i n)) (cond t [] the_edges) o) on
+        by false off = first-behind (block i n).departures o rest (outcomes-here off ∙ e) (edges_at types variables constants (begins_at i) (block i n))
 
     -- the front of a node stands behind its first step
     pub front-stands : IsFrontAt ready (list_at k.facts i) n.number n.form (suc (begins_at i)) (exit i n)
     front-stands = record {
       stands = stand-left ready (suc (begins_at i)) front_here edges_code (stand-rest ready (begins_at i) Step (front_here ++ edges_code) (subst (StandFrom ready (begins_at i)) same-front block-stands));
       lands = land-left ready (exit i n) (suc (begins_at i)) front_here edges_code (land-rest ready (exit i n) (begins_at i) Step (front_here ++ edges_code) (subst (LandFrom ready (exit i n) (begins_at i)) same-front block-lands));
-      behind = λ o rest e. first-behind (block i n).departures o rest (outcomes-here ∙ e) (edges_at types variables constants (begins_at i) (block i n)) ∙ omega arith;
+      behind = λ o rest e. first-exit o rest e ∙ omega arith;
       names = linked.linked.names (block i n) in-blocks;
       known = k.known n (got-IsIn nodes i n at);
     }
 
     -- the edge of an exit
-    pub departure-at : (j : ℕ) (x : Exit) → slice_get (exits types variables n) j ≡ Some x → slice_get (block i n).departures j ≡ Some (departure source_code (slots_of i n) x.outcome x.target (list_at (list_at k.drops i) j))
-    departure-at j x e = among-departures (slots_of i n) (exits types variables n) (list_at k.drops i) j x e
+    edge-at : (j : ℕ) (x : Exit) → slice_get (exits types variables n) j ≡ Some x → slice_get the_edges j ≡ Some (departure source_code (slots_of i n) x.outcome x.target (list_at (list_at k.drops i) j))
+    edge-at j x e = among-departures (slots_of i n) (exits types variables n) (list_at k.drops i) j x e
+
+    pub departure-at : is_onward ≡ false → (j : ℕ) (x : Exit) → slice_get (exits types variables n) j ≡ Some x → slice_get (block i n).departures j ≡ Some (departure source_code (slots_of i n) x.outcome x.target (list_at (list_at k.drops i) j))
+    departure-at off j x e = ap (λ t. slice_get (cond t [] the_edges) j) off ∙ edge-at j x e
 
     -- an edge stands where its outcome leads
-    pub edge-stands : (j : ℕ) (x : Exit) → slice_get (exits types variables n) j ≡ Some x
+    pub edge-stands : is_onward ≡ false → (j : ℕ) (x : Exit) → slice_get (exits types variables n) j ≡ Some x
         → StandFrom ready (exit i n x.outcome) (edge_code begins_at (departure source_code (slots_of i n) x.outcome x.target (list_at (list_at k.drops i) j)))
-    edge-stands j x at-j q y e =
+    edge-stands off j x at-j q y e =
         let d = departure source_code (slots_of i n) x.outcome x.target (list_at (list_at k.drops i) j) in
         let o = departure-outcome (slots_of i n) x.outcome x.target (list_at (list_at k.drops i) j) in
-        let there : slice_get (block i n).departures j ≡ Some d = departure-at j x at-j in
+        let there : slice_get (block i n).departures j ≡ Some d = departure-at off j x at-j in
         let low : q < edge_length d = (let w = got-within (edge_code begins_at d) q y e in let l = edge-long begins_at d in omega (arith, w, l)) in
         ap (λ o. slice_get code.code (exit i n o + q)) (sym o)
         ∙ edges-there types variables constants entry blocks i j q (block i n) d here there (linked.outcomes_differ (block i n) in-blocks) low
         ∙ e
+
+    -- Where the block goes on, its only exit leads to the next node, and nothing is dropped.
+    pub record GoesOn (j : ℕ) (x : Exit) : Type 0 where
+      pub leads : x.target ≡ node (suc i)
+      pub arrival : arrival_at source_code (slots_of i n) (node (suc i)) ≡ to_block (suc i)
+      pub drops : list_at (list_at k.drops i) j ≡ []
+      pub slots : slots_left source_code (slots_of i n) (node (suc i)) ≡ []
+      pub next : (c : CodeBlock) × (slice_get blocks (suc i) ≡ Some c)
+      pub ends : (o : Outcome) → exit i n o ≡ begins_at (suc i)
+
+    only-one : (ds : List Departure) (e d : Departure) (j : ℕ) → ds ≡ e ∷ [] → slice_get ds j ≡ Some d → d ≡ e
+    only-one ds e d j only got = side j (ap (λ ds. slice_get ds j) (sym only) ∙ got)
+      where
+        side : (j : ℕ) → slice_get (e ∷ []) j ≡ Some d → d ≡ e
+        side zero g = sym (some-injective g)
+        side (suc j) g = none-not_some g
+
+    pub goes-on : is_onward ≡ true → (j : ℕ) (x : Exit) → slice_get (exits types variables n) j ≡ Some x → GoesOn j x
+    goes-on on j x at-j = record {
+      leads = leads;
+      arrival = ap (λ (d : Departure). d.arrival) to-next ∙ one.arrival;
+      drops = ap (λ (d : Departure). d.drops) to-next ∙ one.drops;
+      slots = ap (λ (d : Departure). d.slots) to-next ∙ one.slots;
+      next = linked.linked.onward i (block i n) here on;
+      ends = λ o.
+          ap (λ t. edge_at (edges_at types variables constants (begins_at i) (block i n)) (cond t [] the_edges) o) on
+          ∙ sym (onward-ends types variables constants (edge_length entry) blocks i (block i n) here (linked.goes_on (block i n) in-blocks on).0);
+    }
+      where
+        one : IsOnePlain (suc i) the_edges
+        one = one-plain (suc i) the_edges (and-both _ _ on).0
+
+        is-edge : departure source_code (slots_of i n) x.outcome x.target (list_at (list_at k.drops i) j) ≡ one.edge
+        is-edge = only-one the_edges one.edge (departure source_code (slots_of i n) x.outcome x.target (list_at (list_at k.drops i) j)) j one.only (edge-at j x at-j)
+
+        arrives : (t : Target) → (departure source_code (slots_of i n) x.outcome t (list_at (list_at k.drops i) j)).arrival ≡ arrival_at source_code (slots_of i n) t
+        arrives (node q) = refl
+        arrives end = refl
+        arrives (end_by e) = refl
+
+        leads : x.target ≡ node (suc i)
+        leads = arrives-block source_code (slots_of i n) x.target (suc i) (sym (arrives x.target) ∙ ap (λ (d : Departure). d.arrival) is-edge ∙ one.arrival)
+
+        to-next : departure source_code (slots_of i n) x.outcome (node (suc i)) (list_at (list_at k.drops i) j) ≡ one.edge
+        to-next = ap (λ t. departure source_code (slots_of i n) x.outcome t (list_at (list_at k.drops i) j)) (sym leads) ∙ is-edge

@@ -4,6 +4,7 @@ use Rattle.std.specs.Prelude.{⊤, drop}
 use Rattle.herm_model.specs.Lists.{IsIn}
 use Rattle.herm_model.specs.Paths.{Path}
 use Rattle.herm_model.specs.Nodes.{Node}
+use Rattle.herm_model.specs.Exits.{exits}
 use Rattle.herm_model.specs.Outcomes.{Outcome, ok, done, outcomes}
 use Rattle.herm_model.specs.Statements.{Form, For, Leave}
 use Rattle.herm_model.specs.Targets.{Target}
@@ -39,7 +40,7 @@ use Rattle.herm_simulation.specs.laws.EdgeLaws.{AreListsOf}
 use Rattle.herm_simulation.proofs.Arrivals.{exit-of_outcome, outcome-among, arrival-stands, outcome-leads, step-at, second-at}
 use Rattle.herm_simulation.proofs.Beside.{Beside, AtNode, at-node, lists-first, lists-second, next-at_step}
 use Rattle.herm_simulation.proofs.DoneFronts.{fronts-do_forms, same-outcome}
-use Rattle.herm_simulation.proofs.InPlace.{Coded, types, variables, constants, source_code, checked_code, blocks, code, ready, nodes, begins_at, block, slots_of, exit, block-here, front_here, front-stands, edge-stands}
+use Rattle.herm_simulation.proofs.InPlace.{Coded, types, variables, constants, source_code, checked_code, blocks, code, ready, nodes, begins_at, block, slots_of, exit, block-here, front_here, front-stands, is_onward, goes-on, edge-stands}
 use Rattle.herm_simulation.proofs.Leading.{leads-then, leads-one}
 use Rattle.herm_simulation.proofs.LocalForms.{IsLeave, front-leads, front-local}
 use Rattle.herm_simulation.proofs.PiecesBegin.{no-action, stand-dropped, edge-local}
@@ -134,13 +135,7 @@ module _ (k : Coded) where
           let row = front-local own_name (ready k) n.number n.form other (list_at k.facts i) (suc (begins_at k i)) (exit k i n) (counted_step x.frame) b o acts-code in
           no-action (types k) (front_here k i n here.there) (drop (suc (begins_at k i)) (code k).code) (suc (begins_at k i))
           (stand-dropped (ready k) (suc (begins_at k i)) (front_here k i n here.there) (front-stands k i n here.there).stands) row.local row.other row.in_row row.no_operand
-      quiet-first t leads (inl leave) =
-          let e = exit-of_outcome k n o t leads in
-          let d = departure (source_code k) (slots_of k i n) o t (list_at (list_at k.drops i) e.0) in
-          let row = edge-local (types k) (begins_at k) d in
-          let edge = edge-stands k i n here.there e.0 (record { outcome = o; target = t }) e.1 in
-          no-action (types k) (edge_code (begins_at k) d) (drop (suc (begins_at k i)) (code k).code) (suc (begins_at k i))
-          (stand-dropped (ready k) (suc (begins_at k i)) (edge_code (begins_at k) d) (subst (λ j. StandFrom (ready k) j (edge_code (begins_at k) d)) (behind n.form refl leave acts) edge)) row.local row.other row.in_row row.no_operand
+      quiet-first t leads (inl leave) = by (is_onward k i n here.there) refl
         where
           behind : (form : Form) → n.form ≡ form → IsLeave form → act own_name (source_code k) n.number n.form (counted_step x.frame) ≡ goes o b → exit k i n o ≡ suc (begins_at k i)
           behind Leave same leave is =
@@ -149,6 +144,34 @@ module _ (k : Coded) where
               let long : front_length (types k) (variables k) (constants k) n.form ≡ 0 = ap (front_length (types k) (variables k) (constants k)) same in
               ap (exit k i n) (sym only) ∙ (front-stands k i n here.there).behind ok [] outs ∙ ap (λ m. suc (begins_at k i) + m) long ∙ omega arith
           behind form same leave is = absurd leave
+
+          e : (j : ℕ) × (slice_get (exits (types k) (variables k) n) j ≡ Some (record { outcome = o; target = t }))
+          e = exit-of_outcome k n o t leads
+
+          at-first : exit k i n o ≡ suc (begins_at k i)
+          at-first = behind n.form refl leave acts
+
+          by : (u : Bool) → is_onward k i n here.there ≡ u → action_from (types k) (drop (suc (begins_at k i)) (code k).code) (suc (begins_at k i)) ≡ None
+          by false off =
+              let d = departure (source_code k) (slots_of k i n) o t (list_at (list_at k.drops i) e.0) in
+              let row = edge-local (types k) (begins_at k) d in
+              let edge = edge-stands k i n here.there off e.0 (record { outcome = o; target = t }) e.1 in
+              no-action (types k) (edge_code (begins_at k) d) (drop (suc (begins_at k i)) (code k).code) (suc (begins_at k i))
+              (stand-dropped (ready k) (suc (begins_at k i)) (edge_code (begins_at k) d) (subst (λ j. StandFrom (ready k) j (edge_code (begins_at k) d)) at-first edge)) row.local row.other row.in_row row.no_operand
+          by true on =
+              let g = goes-on k i n here.there on e.0 (record { outcome = o; target = t }) e.1 in
+              no-action (types k) (Step ∷ []) (drop (suc (begins_at k i)) (code k).code) (suc (begins_at k i))
+              (stand-dropped (ready k) (suc (begins_at k i)) (Step ∷ [])
+              (only-step (suc (begins_at k i)) (subst (λ j. instruction_at (code k) j ≡ Some Step) (sym (g.ends o) ∙ at-first) (step-at k (suc i) g.next.0 g.next.1))))
+              only-local Step (inl refl) refl
+            where
+              only-step : (j : ℕ) → instruction_at (code k) j ≡ Some Step → StandFrom (ready k) j (Step ∷ [])
+              only-step j e zero w is = let same : j + 0 ≡ j = omega arith in subst (λ a. instruction_at (code k) a ≡ Some w) (sym same) (e ∙ is)
+              only-step j e (suc m) w is = none-not_some is
+
+              only-local : (w : Instruction) → IsIn w (Step ∷ []) → instruction_acts (types k) w ≡ false
+              only-local w (inl same) = ap (instruction_acts (types k)) same
+              only-local w (inr m) = absurd m
 
       -- the piece at a step is local: its run leads to the edge of the outcome
       pub record Runs (t : Target) : Type 0 where

@@ -2,6 +2,7 @@
 use Rattle.std.proofs.Common.{◌≡◌, inl, inr, ℕ, List, [], ◌∷◌, map, length, Bool, true, false, Option, Some, None, option_map, option_and_then, slice_get, refl, sym, ap, subst, ◌∙◌}
 use Rattle.std.specs.Prelude.{filter, flat_map, not}
 use Rattle.herm_model.specs.Lists.{IsIn}
+use Rattle.herm_model.specs.Paths.{Fact}
 use Rattle.herm_model.specs.Expressions.{Literal}
 use Rattle.herm_model.specs.Nodes.{Node, process_nodes}
 use Rattle.herm_model.specs.Values.{Name, an_inport, Cell, cell, no_parts}
@@ -40,11 +41,15 @@ use Rattle.herm_code_machine.proofs.sound.ItemSteps.{answers-sound}
 use Rattle.herm_code_machine.proofs.sound.Processes.{steps-sound}
 use Rattle.herm_translation.specs.StandsFor.{BelongsTo, MayStandAt, AreCodesFor}
 use Rattle.herm_translation.proofs.Looks.{standing-looks}
-use Rattle.herm_translated.specs.CodeBlocks.{CheckedModule, slots_around}
+use Rattle.herm_translated.specs.BlockLabels.{comes_first}
+use Rattle.herm_translated.specs.CodeBlocks.{CheckedModule, slots_around, blocks_of, entry_edge}
+use Rattle.herm_translated.specs.Settled.{settled_from, settled}
 use Rattle.herm_translated.specs.Constants.{same_literal, literals_in, once}
 use Rattle.herm_translated.specs.Translated.{code_of, forms_in, image_for}
 use Rattle.herm_translated.specs.laws.CheckedBlocks.{checked as checked_by}
 use Rattle.herm_translated.proofs.FoundConstants.{same_literal-is}
+use Rattle.herm_translated.proofs.SettledFacts.{settled-listed_all}
+use Rattle.herm_good_images.proofs.blocks.BlocksReached.{blocks-complete}
 use Rattle.herm_simulation.specs.Checks.{IsRight}
 use Rattle.herm_simulation.specs.Simulating.{IsTranslated, node_at_index, its_constants, ready_image, nodes_of_indices, Simulates}
 use Rattle.herm_simulation.specs.Standing.{IsAtPoint}
@@ -117,10 +122,10 @@ module _ (exceptions : ℕ) (program : Program) (modules : Modules) (checked : L
     same-code : m.code ≡ module_of program.types in-module.process in-module.labels
     same-code = some-injective (sym (code-found x.module_number m found) ∙ in-module.coded)
 
-    abbrev checked_in : CheckedModule
-    checked_in = checked_by program.types in-module.process in-module.labels m.facts m.entry_drops m.drops
+    abbrev pub raw_in : CheckedModule
+    raw_in = checked_by program.types in-module.process in-module.labels m.facts m.entry_drops m.drops
 
-    pub same-module : m ≡ checked_in
+    pub same-module : m ≡ raw_in
     same-module = ap (λ c. record { code = c; facts = m.facts; entry_drops = m.entry_drops; drops = m.drops }) same-code
 
     pub in-checked : IsIn m checked
@@ -132,6 +137,19 @@ module _ (exceptions : ℕ) (program : Program) (modules : Modules) (checked : L
         let form : IsIn n.form (forms_in checked) = in-flat_map (λ (m : CheckedModule). map (λ (n : Node). n.form) m.code.nodes) m n.form checked in-checked (in-map (λ (n : Node). n.form) n m.code.nodes nodes) in
         once-in (flat_map literals_in (forms_in checked)) l (in-flat_map literals_in n.form l (forms_in checked) form literal)
 
+    abbrev pub new_facts : List (List Fact)
+    new_facts = settled_from program.types in-module.process.variables (comes_first (entry_edge raw_in) (blocks_of raw_in)) 0 [] (process_nodes in-module.process) m.facts
+
+    -- what its check gives is right also of the settled facts
+    pub settled-right : IsRight (checked_by program.types in-module.process in-module.labels new_facts m.entry_drops m.drops)
+    settled-right =
+        let right : IsRight raw_in = subst IsRight same-module (is.right m in-checked) in
+        record {
+          facts = λ i n at f. settled-listed_all exceptions program.types program.processes in-module.process in-module.labels m.facts m.entry_drops m.drops in-module.good.typed in-module.good.exact (λ i n f at. right.facts i n at f) i n f at;
+          drops = right.drops;
+          entry = right.entry;
+        }
+
     abbrev pub k : Coded
     k = record {
       exceptions = exceptions;
@@ -139,13 +157,14 @@ module _ (exceptions : ℕ) (program : Program) (modules : Modules) (checked : L
       processes = program.processes;
       process = in-module.process;
       labels = in-module.labels;
-      facts = m.facts;
+      facts = new_facts;
       entry_drops = m.entry_drops;
       drops = m.drops;
       sound = in-module.good;
-      right = subst IsRight same-module (is.right m in-checked);
+      right = settled-right;
       known = its-known;
       good = is.good;
+      reached = (blocks-complete exceptions program.types program.processes in-module.process in-module.labels m.facts m.entry_drops m.drops in-module.good.typed).reached;
       in_image = subst (λ m. IsIn (code_of constants m) image.modules) same-module (in-map (code_of constants) m checked in-checked);
     }
 
@@ -166,14 +185,14 @@ module _ (exceptions : ℕ) (program : Program) (modules : Modules) (checked : L
       found = there;
       stands = record {
         module_number = b.module_number;
-        position = subst (λ o. BelongsTo (λ i. option_and_then (λ m. node_at_index constants m i) o) y.position z.point) (sym there)
-            (subst (λ m. BelongsTo (λ i. node_at_index constants m i) y.position z.point) (sym same-module) (belongs k y.frame.call y.position z.point b.place));
+        position = subst (λ o. BelongsTo (λ i. option_and_then (λ m. node_at_index constants (settled m) i) o) y.position z.point) (sym there)
+            (subst (λ m. BelongsTo (λ i. node_at_index constants (settled m) i) y.position z.point) (sym same-module) (belongs k y.frame.call y.position z.point b.place));
         stands = λ c at. subst (λ c. MayStandAt c y.frame.call y.position) (some-injective (sym (ready-found y.module_number (b.module_number ∙ same)) ∙ at))
             (stands-there k z y (well-of z same sound) b (code-of y (b.module_number ∙ same) code));
         stack = b.stack;
         frame = b.frame;
       };
-      place = subst (λ m. IsAtPoint constants m y.frame.call y.position z.point) (sym same-module) b.place;
+      place = subst (λ m. IsAtPoint constants (settled m) y.frame.call y.position z.point) (sym same-module) b.place;
       lists = λ q i called here. subst (λ c. AreListsOf (slots_around c i) z.frame.loops) (sym same-code) (b.lists q i called here);
       sound = sound;
       code_sound = code;
@@ -189,7 +208,7 @@ module _ (exceptions : ℕ) (program : Program) (modules : Modules) (checked : L
     to-beside : Beside its x y
     to-beside = record {
       module_number = (r.stands).module_number;
-      place = subst (λ m. IsAtPoint constants m y.frame.call y.position x.point) (same-module x r.coded r.found) r.place;
+      place = subst (λ m. IsAtPoint constants (settled m) y.frame.call y.position x.point) (same-module x r.coded r.found) r.place;
       stack = (r.stands).stack;
       frame = (r.stands).frame;
       lists = λ q i called here. subst (λ c. AreListsOf (slots_around c i) x.frame.loops) (same-code x r.coded r.found) (r.lists q i called here);

@@ -18,6 +18,7 @@ use Rattle.herm_translated.specs.CodeBlocks.{CheckedModule, CodeBlock, blocks_of
 use Rattle.herm_translated.specs.Constants.{constants_of}
 use Rattle.herm_translated.specs.Departures.{edge_length}
 use Rattle.herm_translated.specs.Layout.{block_length}
+use Rattle.herm_translated.specs.Settled.{settled}
 use Rattle.herm_translated.specs.Translated.{forms_in, image_for}
 use Rattle.herm_simulation.specs.Checks.{IsRight}
 use Rattle.herm_simulation.specs.Standing.{IsAtPoint}
@@ -51,7 +52,7 @@ module _ (program : Program) (modules : Modules) (checked : List CheckedModule) 
 
   -- the nodes of the indices of each module
   abbrev pub nodes_of_indices : NodesOfIndices
-  nodes_of_indices k i = option_and_then (λ m. node_at_index its_constants m i) (slice_get checked k)
+  nodes_of_indices k i = option_and_then (λ m. node_at_index its_constants (settled m) i) (slice_get checked k)
 
   -- A process of code simulates one of the source where it stands for it, both are sound within themselves, and it is within the block of the
   -- point's node; in an open call the lists of rows are those of the slots around the call. Code reference, "Standing for a process".
@@ -59,7 +60,7 @@ module _ (program : Program) (modules : Modules) (checked : List CheckedModule) 
     pub coded : CheckedModule
     pub found : slice_get checked x.module_number ≡ Some coded
     pub stands : StandsFor ready_image nodes_of_indices x y
-    pub place : IsAtPoint its_constants coded y.frame.call y.position x.point
+    pub place : IsAtPoint its_constants (settled coded) y.frame.call y.position x.point
     pub lists : (call i : ℕ) → x.frame.call ≡ Some call → x.point ≡ node i → AreListsOf (slots_around coded.code i) x.frame.loops
     pub sound : IsSoundProcess program modules x
     pub code_sound : IsSoundCodeIn ready_image y
