@@ -14,7 +14,7 @@ use Rattle.herm_forms.specs.Exchanges
 use Rattle.herm_forms.specs.Forms
 use Rattle.herm_forms.specs.RemoveAndGet
 use Rattle.herm_forms.specs.LoopForms.{rows_for, next_row}
-use Rattle.herm_forms.specs.Frames.{Name, Frame, Completion, goes, if_there, reading, copying_parts}
+use Rattle.herm_forms.specs.Frames.{Name, Frame, Completion, goes, if_there, finalise, finalise_old, cleared, reading, copying_parts}
 use Rattle.herm_instructions.specs.Instructions.{Choice}
 use Rattle.herm_code_machine.specs.ReadyCode.{ReadyCode}
 use Rattle.herm_code_machine.specs.Stacks.{Effect, leaving, pop, scalars_of, with_popped, with_key_of, with_key}
@@ -72,6 +72,7 @@ module _ (name : Name → Name) (c : ReadyCode) (s : ℕ) (b : Frame Name) where
     move = λ y x stack. refl;
     new = λ x t is stack. ap (λ o. leaving stack (new_value name (option_and_then (slice_get c.scope.types) o) x b)) (sym is);
     discard = λ x stack. refl;
+    drop = λ x v is stack. ap (λ o. leaving stack (goes ok (finalise_old o (cleared x b)))) is ∙ ap (λ o. leaving stack (if_there (λ v. goes ok (finalise v (cleared x b))) o)) (sym is);
     unite = λ v k y stack. refl;
     dissolve = λ v k y stack. refl;
     reveal = λ v k stack. refl;

@@ -67,6 +67,8 @@ pub ends-told : EndsAreTold
 ends-told image c = record {
   ends = λ s t i is. let e = ap (λ (u : CodeState Name). u.position) (sym (some-injective is)) in (e, ap exception_of e);
   ends_by = λ s t i e is. let p = ap (λ (u : CodeState Name). u.position) (sym (some-injective is)) in (p, ap exception_of p);
+  finalises = λ s t i is. let e = sym (some-injective is) in (ap (λ (u : CodeState Name). u.frame) e, ap (λ (u : CodeState Name). u.stack) e);
+  finalises_by = λ s t i e is. let u = sym (some-injective is) in (ap (λ (u : CodeState Name). u.frame) u, ap (λ (u : CodeState Name). u.stack) u);
   goes_on = λ s t i instruction no_end is. goes-no_end c s t i instruction no_end is;
 }
 

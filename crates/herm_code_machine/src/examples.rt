@@ -13,7 +13,7 @@ ghost use Rattle.herm_model.specs.TypedPrograms.{main_start};
 ghost use Rattle.herm_code_machine.specs.CodeTypes.{first_type};
 ghost use Rattle.herm_code_machine.specs.ReadyCode.{labelled_image};
 ghost use Rattle.herm_code_machine.specs.laws.GoodImageLaws.{IsGoodOver, labelled_code};
-ghost use Rattle.herm_code_machine.specs.examples.StuckCode.{can_begin, mended_code, stuck_code};
+ghost use Rattle.herm_code_machine.specs.examples.StuckCode.{can_begin, can_step, mended_code, mended_step, stuck_code, stuck_step};
 ghost use Rattle.herm_instructions.specs.laws.CodeExampleLaws.{broken_in_example};
 ghost use Rattle.std.specs.Prelude.{List, Some, [], codes, false, map, replicate, true, ◌∷◌, ◌≡◌};
 
@@ -230,7 +230,17 @@ pub fn code_by_hand_meets_the_laws()
 /// Code that breaks one rule alone, of which no process can begin; and, mended, code that is good, of which each can.
 pub fn broken_code_stands_still()
     ensures broken { map (λ e. broken_in_example e.example) stuck_code ≡ map (λ e. e.broken) stuck_code }
-    ensures stuck { map (λ e. can_begin e.example) stuck_code ≡ replicate 8 false }
-    ensures good { map (λ e. broken_in_example e.example) mended_code ≡ replicate 5 [] }
-    ensures begun { map (λ e. can_begin e.example) mended_code ≡ replicate 5 true }
+    ensures stuck { map (λ e. can_begin e.example) stuck_code ≡ replicate 9 false }
+    ensures good { map (λ e. broken_in_example e.example) mended_code ≡ replicate 6 [] }
+    ensures begun { map (λ e. can_begin e.example) mended_code ≡ replicate 6 true }
+{}
+
+/// Code whose label at index 0 says more than what a process begins with: it begins, and its first step is stuck; and, mended, code that is
+/// good, whose first step goes through.
+pub fn broken_beginning_stops_at_its_step()
+    ensures broken { broken_in_example stuck_step.example ≡ stuck_step.broken }
+    ensures begun { can_begin stuck_step.example ≡ true }
+    ensures stuck { can_step stuck_step.example ≡ false }
+    ensures good { broken_in_example mended_step.example ≡ [] }
+    ensures stepped { can_step mended_step.example ≡ true }
 {}

@@ -7,7 +7,7 @@ use Rattle.herm_model.specs.Calls.{shape_at, raises_of, call_parameters, call_ra
 use Rattle.herm_model.specs.Expressions.{Expression, Atom}
 use Rattle.herm_model.specs.Outcomes.{ok}
 use Rattle.herm_model.specs.Statements.{Form}
-use Rattle.herm_model.specs.Values.{Scalar, Parts, Value}
+use Rattle.herm_model.specs.Values.{Scalar, Cell, Parts, cell_at, Value}
 use Rattle.herm_model.specs.WellFormedTables.{KeepsReturned}
 use Rattle.herm_journal.specs.Messages.{CellAction}
 use Rattle.herm_forms.specs.Acts.{act, inputs_of, wants, settle, settle_reply}
@@ -15,7 +15,7 @@ use Rattle.herm_forms.specs.Evaluate.{gives, evaluate, key_values}
 use Rattle.herm_forms.specs.Excess.{excess_over_declared}
 use Rattle.herm_forms.specs.LoopForms.{rows_for}
 use Rattle.herm_forms.specs.Frames.{Name, Frame, Completion, goes}
-use Rattle.herm_instructions.specs.Instructions.{Argument, of_in, of_inout, of_out, Choice, Instruction, Store, JumpFalse, Move, New, Discard, Unite, Dissolve, Reveal, CaseOf, Wrap, Unwrap, Insert, Remove, Get, LoopNext, Connect, Send, Receive, Select, Call, Return, ReturnBy, Create, Raise}
+use Rattle.herm_instructions.specs.Instructions.{Argument, of_in, of_inout, of_out, Choice, Instruction, Store, JumpFalse, Move, New, Discard, Unite, Dissolve, Reveal, CaseOf, Wrap, Unwrap, Insert, Remove, Get, LoopNext, Connect, Send, Receive, Select, Call, Return, ReturnBy, Create, Raise, Drop}
 use Rattle.herm_instructions.specs.Effects.{arm_of}
 use Rattle.herm_instructions.specs.Operands.{count_inputs}
 use Rattle.herm_code_machine.specs.ReadyCode.{ReadyCode}
@@ -73,7 +73,7 @@ module _ (name : Name → Name) (c : ReadyCode) (statement : ℕ) (b : Frame Nam
     pub answers : (at : ℕ) (a : CellAction Name) → code_settles name c (Call o arguments keeps) stack at a b ≡ leaving rest (settle name c.scope (Form.Call o atoms) at a b)
 
   -- Each instruction of a statement's name does what the form does, with its operands on the stack. Two take the type of their value
-  -- from the code; a send trims what is the excess; and a loop's first test is two instructions. Code reference, "Instructions".
+  -- from the code; a send trims what is the excess; a loop's first test is two instructions; and `Drop` is a discard. Code reference, "Instructions".
   pub record DoForms : Type 0 where
     pub store : (x : Path) (e : Expression) → DoesWithValue (Store x) (Form.Assign x e) e
     pub test : (e : Expression) (i : ℕ) → DoesWithValue (JumpFalse i) (Form.If e) e
@@ -81,6 +81,7 @@ module _ (name : Name → Name) (c : ReadyCode) (statement : ℕ) (b : Frame Nam
     pub move : (y x : Path) → DoesForm (Move y x) (Form.Move y x)
     pub new : (x : Path) (t : ℕ) → type_at c.scope.types c.scope.variables x ≡ Some t → DoesForm (New x t) (Form.New x)
     pub discard : (x : Path) → DoesForm (Discard x) (Form.Discard x)
+    pub drop : (x : Path) (v : Cell Name) → cell_at x b.variables ≡ Some v → DoesForm (Drop x) (Form.Discard x)
     pub unite : (v : Path) (k : ℕ) (y : Path) → DoesForm (Unite v k y) (Form.Unite v k y)
     pub dissolve : (v : Path) (k : ℕ) (y : Path) → DoesForm (Dissolve v k y) (Form.Dissolve v k y)
     pub reveal : (v : Path) (k : ℕ) → DoesForm (Reveal v k) (Form.Reveal v k)
