@@ -2,10 +2,10 @@
 use Rattle.std.specs.Prelude.{ℕ, List, [], ◌∷◌, ◌++◌}
 use Rattle.herm_model.specs.Expressions.{concatenated}
 use Rattle.herm_model.specs.Paths.{Fact, case}
-use Rattle.herm_model.specs.Outcomes.{depletion, not_found, disconnected}
-use Rattle.herm_instructions.specs.Instructions.{of_in, Choice, Step, Const, Load, Combine, Store, New, Unite, CaseOf, Get, LoopStart, LoopDrop, Connect, Select, Call, End, EndBy}
+use Rattle.herm_model.specs.Outcomes.{overflow, depletion, not_found, disconnected}
+use Rattle.herm_instructions.specs.Instructions.{negative, of_in, Choice, Step, Const, Load, Apply, Combine, Store, New, Unite, CaseOf, Get, LoopStart, LoopNext, LoopDrop, Connect, Select, Call, Raise, End, EndBy}
 use Rattle.herm_instructions.specs.Labels.{ListedLabel}
-use Rattle.herm_instructions.specs.tests.GoodTests.{CodeRule, typed, stack, facts, slots, arrives, landings}
+use Rattle.herm_instructions.specs.tests.GoodTests.{CodeRule, typed, stack, facts, slots, arrives, goes_back, landings}
 use Rattle.herm_instructions.specs.examples.ExampleImages.{values_at, listed, lands}
 use Rattle.herm_instructions.specs.examples.CodeExamples.{CodeExample, plain, landing}
 
@@ -59,4 +59,16 @@ odd_places =
     ∷ within_loop 1 0 []
     ∷ within_loop 0 1 []
     ∷ within_loop 1 1 (slots ∷ [])
+    -- the next row of the outer loop, within the inner one
+    ∷ plain (4 ∷ 8 ∷ 9 ∷ []) (New (2 ∷ []) 9 ∷ LoopStart (2 ∷ []) 0 ∷ LoopStart (2 ∷ []) 1 ∷ LoopNext (1 ∷ []) 0 5 ∷ End ∷ End ∷ [])
+    (listed 5 [] (values_at ((0 ∷ []) ∷ (2 ∷ []) ∷ [])) (record { number = 1; row = 8 } ∷ record { number = 0; row = 8 } ∷ []) ∷ []) []
+    -- control does not go on behind an exception that is raised, which lands at its own step
+    ∷ landing (4 ∷ []) (Step ∷ Raise overflow ∷ []) ([] ∷ (lands overflow 0 ∷ []) ∷ []) (listed 0 [] (values_at ((0 ∷ []) ∷ [])) [] ∷ []) []
+    -- strings that are joined land at one exception alone
+    ∷ landing (4 ∷ []) (Const 5 ∷ Const 5 ∷ Combine concatenated ∷ End ∷ EndBy depletion ∷ []) ([] ∷ [] ∷ (lands depletion 4 ∷ []) ∷ [] ∷ [] ∷ []) (listed 4 [] (values_at ((0 ∷ []) ∷ [])) [] ∷ []) []
+    -- constants alone stand between a step and a call
+    ∷ landing (22 ∷ 23 ∷ []) (Connect (1 ∷ []) (0 ∷ []) ∷ Step ∷ Const 0 ∷ Const 5 ∷ Call (1 ∷ []) (of_in ∷ of_in ∷ []) [] ∷ End ∷ EndBy disconnected ∷ [])
+    ([] ∷ [] ∷ [] ∷ [] ∷ (lands disconnected 6 ∷ []) ∷ [] ∷ [] ∷ []) (listed 6 [] (values_at ((0 ∷ []) ∷ (1 ∷ []) ∷ [])) [] ∷ []) []
+    -- an exception lands at a step with a stack, where it arrives without one
+    ∷ landing (4 ∷ []) (Const 0 ∷ Step ∷ Apply negative ∷ End ∷ []) ([] ∷ [] ∷ (lands overflow 1 ∷ []) ∷ [] ∷ []) (listed 1 (1 ∷ []) (values_at ((0 ∷ []) ∷ [])) [] ∷ []) (arrives ∷ goes_back ∷ [])
     ∷ []
