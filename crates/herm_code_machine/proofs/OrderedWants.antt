@@ -27,6 +27,7 @@ use Rattle.herm_code_machine.specs.laws.WantLaws.{IsNextAction, it_is_there, beh
 use Rattle.herm_code_machine.proofs.CodeLimits.{first-dropped, action-there}
 use Rattle.herm_code_machine.proofs.ReadyProcesses.{found-leads}
 use Rattle.herm_code_machine.proofs.sound.LocalSteps.{ComesNext, by_work, by_call, by_act, comes-next, is-step}
+use Rattle.herm_code_machine.proofs.sound.CodeThere.{sound-at}
 
 module _ (c : ReadyCode) (x : CodeState Name) where
   abbrev For : CellWant Name → Type 0
@@ -104,4 +105,4 @@ module _ (c : ReadyCode) (x : CodeState Name) where
       by nothing next wanted = none-not_some wanted
 
 pub wants-ordered : WantsAreInOrder
-wants-ordered image x sound c coded w wanted = want-for c x (sound c coded) w (sym (ap (option_and_then (λ c. code_wanted own_name c x)) coded) ∙ wanted)
+wants-ordered image x sound c coded w wanted = want-for c x (sound-at image x c sound coded) w (sym (ap (option_and_then (λ c. code_wanted own_name c x)) coded) ∙ wanted)

@@ -21,6 +21,7 @@ use Rattle.herm_code_machine.specs.laws.StandingLaws.{IsAtEnd, LeadsToAction, at
 use Rattle.herm_code_machine.proofs.CodeLimits.{first-dropped, action-there}
 use Rattle.herm_code_machine.proofs.sound.ActionSteps.{dropped-got}
 use Rattle.herm_code_machine.proofs.sound.LocalSteps.{is-step}
+use Rattle.herm_code_machine.proofs.sound.CodeThere.{sound-at}
 
 below : (m n : ℕ) → nat_lt m n ≡ true → m < n
 below m n h = grind (arith, nat_tests)
@@ -220,6 +221,6 @@ module _ (c : ReadyCode) (s : CodeState Name) (sound : IsLocallySoundCode c s) (
 pub processes-stand_so : ProcessesStandSo
 processes-stand_so image limit x sound c at t =
     let here : (code_machine image).ready limit x ≡ code_ready c limit x = ap (ready_if limit x) at in (
-      (λ e. subst (StandsSo c limit x) (sym here ∙ e) (stands-so c x (sound c at) limit)),
-      (λ h. here ∙ so-ready c x (sound c at) limit t h),
+      (λ e. subst (StandsSo c limit x) (sym here ∙ e) (stands-so c x (sound-at image x c sound at) limit)),
+      (λ h. here ∙ so-ready c x (sound-at image x c sound at) limit t h),
     )

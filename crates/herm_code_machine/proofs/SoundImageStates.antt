@@ -9,7 +9,7 @@ use Rattle.herm_sound.proofs.RoundsReachEnd.{events-are-bounded, rounds-suffice}
 use Rattle.herm_code_machine.specs.CodeInstance.{code_machine}
 use Rattle.herm_code_machine.specs.CodeLocal.{IsSoundCodeIn}
 use Rattle.herm_code_machine.specs.ReadyCode.{labelled_image}
-use Rattle.herm_code_machine.specs.laws.SoundImageLaws.{ImagesKeepStanding, ImageStepsKeepSound, ImageStepsKeepTypes, ImageRunsKeepSound, ImageOpeningIsSound, ImageRunsAreSound, ImageStatesAlong, ImageNoneIsStuck, ImageActionsAreDone, ImageActionsAreDoneOnce, ImageRunsEnd}
+use Rattle.herm_code_machine.specs.laws.SoundImageLaws.{ImagesKeepStanding, ImageStepsKeepSound, ImageStepsKeepTypes, ImageRunsKeepSound, ImageOpeningIsSound, ImageRunsAreSound, ImageStatesAlong, ImageNoneIsStuck, ImageProcessesHaveCode, ImageActionsAreDone, ImageActionsAreDoneOnce, ImageRunsEnd}
 use Rattle.herm_code_machine.proofs.CodeCalls.{code-numbers-calls}
 use Rattle.herm_code_machine.proofs.CodeLimits.{code-keeps-limits}
 use Rattle.herm_code_machine.proofs.placed.ImageStanding.{image-keeps-standing, image-keeps-sound}
@@ -49,6 +49,9 @@ image-along exceptions image main good begins =
 pub image-none : ImageNoneIsStuck
 image-none exceptions image main good s p sound =
     none-is-stuck (code_machine (labelled_image image main)) (IsSoundCodeIn (labelled_image image main)) (image-keeps-sound exceptions image main good) (goes-on exceptions image main good) s p (sound.0, sound.1.sound)
+
+pub image-coded : ImageProcessesHaveCode
+image-coded exceptions image main good s p x sound there = (sound.1.sound).processes p x there
 
 pub image-done : ImageActionsAreDone
 image-done exceptions image main good =

@@ -1,4 +1,5 @@
 -- What is sound within a process of good code stays so.
+pub mod CodeThere
 pub mod Ways
 pub mod AtLabels
 pub mod EachEffect

@@ -91,9 +91,9 @@ pub record IsLocallySoundCode {N : Type 0} (c : ReadyCode) (s : CodeState N) : T
   pub call : (k : ℕ) → s.frame.call ≡ Some k → (m : Met) × (met_at c s.position ≡ Some m) × IsCall m.instruction
   pub work : (item : Cell N) → IsIn item s.frame.work → WaitsAlone item
 
--- What is sound within a process of an image, and a sound state of its machine. Code reference, "Sound states of code".
+-- What is sound within a process of an image: there is code of its module's number, by which it is so. Code reference, "Sound states of code".
 abbrev pub IsSoundCodeIn : ReadyImage → CodeState Name → Type 0
-IsSoundCodeIn image s = (c : ReadyCode) → code_at image s ≡ Some c → IsLocallySoundCode c s
+IsSoundCodeIn image s = (c : ReadyCode) × (code_at image s ≡ Some c) × IsLocallySoundCode c s
 
 -- The values on the stack, with the types of their places: what a process has beside its cells.
 abbrev pub typed_stack : ReadyImage → CodeState Name → List (ℕ × Kind)

@@ -12,7 +12,7 @@ ghost use Rattle.herm_code_machine.specs.CodeLocal.{IsSoundCodeIn};
 ghost use Rattle.herm_code_machine.specs.CodeStates.{CodeState};
 ghost use Rattle.herm_code_machine.specs.CodeTypes.{first_type, new_type};
 ghost use Rattle.herm_code_machine.specs.laws.GoodImageLaws.{IsGoodOver};
-ghost use Rattle.herm_code_machine.specs.laws.SoundImageLaws.{ImageActionsAreDone, ImageActionsAreDoneOnce, ImageNoneIsStuck, ImageOpeningIsSound, ImageRunsAreSound, ImageRunsEnd, ImageRunsKeepSound, ImageStatesAlong, ImageStepsKeepSound, ImageStepsKeepTypes, ImagesKeepStanding};
+ghost use Rattle.herm_code_machine.specs.laws.SoundImageLaws.{ImageActionsAreDone, ImageActionsAreDoneOnce, ImageNoneIsStuck, ImageOpeningIsSound, ImageProcessesHaveCode, ImageRunsAreSound, ImageRunsEnd, ImageRunsKeepSound, ImageStatesAlong, ImageStepsKeepSound, ImageStepsKeepTypes, ImagesKeepStanding};
 
 /// A process begins sound within itself and with no call open, and stays so along local steps and along each answer with which what
 /// suits comes in; a call opens where its callmessage is placed, and closes where its reply is heard.
@@ -70,9 +70,10 @@ pub fn runs_of_images_are_sound()
 
 /// No process of a sound image state is stuck: each that is to make a local step makes it, each that can act can do so at some place, and
 /// at each place where something of what it wants can be done; and each that can do nothing of what it wants waits for a message at open ports,
-/// or for the reply to its open call.
+/// or for the reply to its open call. Each has code, by which it is sound within itself.
 pub fn no_process_of_an_image_is_stuck()
     ensures none { ImageNoneIsStuck }
+    ensures code { ImageProcessesHaveCode }
 {}
 
 /// In a sound image state a port that is closed was open, and a call that is answered is open and has no answer yet. So along a run no port is

@@ -62,6 +62,7 @@ use Rattle.herm_simulation.proofs.InPlace.{Coded, source_code, ready}
 use Rattle.herm_simulation.proofs.Indices.{belongs, stands-there}
 use Rattle.herm_simulation.proofs.LocalSteps.{steps-beside}
 use Rattle.herm_simulation.proofs.Looks.{ready-same, wanted-same, ports-same, calls-same}
+use Rattle.herm_code_machine.proofs.sound.CodeThere.{sound-at}
 
 -- a literal that is listed is a constant
 once-in : (ls : List Literal) (l : Literal) → IsIn l ls → IsIn l (once ls)
@@ -176,7 +177,7 @@ module _ (exceptions : ℕ) (program : Program) (modules : Modules) (checked : L
     well-of z same sound = (sound.sound (module_of program.types in-module.process in-module.labels) (ap (slice_get modules.codes) same ∙ in-module.coded), sound.reached in-module.process (ap (slice_get program.processes) same ∙ in-module.at))
 
     code-of : (y : CodeState Name) → y.module_number ≡ x.module_number → IsSoundCodeIn its_ready y → IsLocallySoundCode (ready k) y
-    code-of y same sound = sound (ready k) (ready-found y.module_number same)
+    code-of y same sound = sound-at its_ready y (ready k) sound (ready-found y.module_number same)
 
     -- what simulates stands beside, and back
     from-beside : (z : State Name) (y : CodeState Name) → z.module_number ≡ x.module_number → Beside k z y → IsSoundProcess program modules z → IsSoundCodeIn its_ready y → R z y
@@ -294,7 +295,7 @@ module _ (exceptions : ℕ) (program : Program) (modules : Modules) (checked : L
         from-beside x r.coded r.found (record x { frame = counted_action x.frame }) (record y { frame = counted_action y.frame }) refl
         (record { module_number = b.module_number; place = b.place; stack = b.stack; frame = ap counted_action b.frame; lists = b.lists })
         (record { sound = λ c at. source-aside c ((r.sound).sound c at); reached = (r.sound).reached })
-        (λ c at. code-aside c (r.code_sound c at))
+        ((r.code_sound).0, (r.code_sound).1, code-aside (r.code_sound).0 (r.code_sound).2)
       where
         source-aside : (c : Module) → IsLocallySound c x → IsLocallySound c (record x { frame = counted_action x.frame })
         source-aside c h = record { values = h.values; types = h.types; loops = h.loops; call = h.call; work = h.work }

@@ -64,6 +64,7 @@ use Rattle.herm_code_machine.proofs.sound.ItemSteps.{SuitsCode, call_there, call
 use Rattle.herm_code_machine.proofs.sound.LocalSteps.{ComesNext, by_work, by_call, by_act, comes-next}
 use Rattle.herm_code_machine.proofs.sound.Processes.{module-of}
 use Rattle.herm_code_machine.proofs.sound.SoundProcesses.{stays-sound}
+use Rattle.herm_code_machine.proofs.sound.CodeThere.{sound-at}
 
 module _ (exceptions' : ℕ) (image : Image) (main : ℕ) (good : IsGoodOver exceptions' image) (m : CodeModule) (in-image : IsIn m image.modules) (test : Kind → Bool) (of : IsOfWaiting test) where
   abbrev c : ReadyCode
@@ -305,7 +306,7 @@ module _ (exceptions' : ℕ) (image : Image) (main : ℕ) (good : IsGoodOver exc
         let m = module-of exceptions' image main good x.module_number c.0 c.1 in
         let there = code-stays ready x y c.0 c.1 (code-local-stays own_name c.0 x y c.2).1 in
         let b = subst (λ c. IsLocallySoundCode c x → code_local_step own_name c x ≡ Some y → Balanced nameless (one_of test) own_name (weight_made nameless own_name x.frame) (load_kept nameless (one_of test) x.frame) 0 y.frame) m.2
-        (λ sound is. step-balanced exceptions' image main good m.0 m.1 test of x y sound is) (sound c.0 c.1) c.2 in
+        (λ sound is. step-balanced exceptions' image main good m.0 m.1 test of x y sound is) (sound-at ready x c.0 sound c.1) c.2 in
         omega (arith, b, none-made x, none-made y, of-held test ready x c.0 c.1, of-held test ready y c.0 there)
 
     answers-counted : (x y : CodeState Name) (want : CellWant Name) (at : ℕ) (a : CellAction Name) → IsSoundCodeIn ready x → (code_machine ready).wanted x ≡ Some want → Answers want a → Suits (code_machine ready) x at a → (code_machine ready).answered x at a ≡ Some y
@@ -320,7 +321,7 @@ module _ (exceptions' : ℕ) (image : Image) (main : ℕ) (good : IsGoodOver exc
         let is' : code_answered own_name c x at a ≡ Some y = sym (ap (option_and_then (λ c. code_answered own_name c x at a)) here) ∙ is in
         let there = code-stays ready x y c here (code-answer-stays own_name c x y at a is').1 in
         let sound-behind = ((stays-sound exceptions' image main good).answers x y want at a sound wanted h suits is).0 in
-        let r = answer-counted exceptions' image main good m.0 m.1 test of x y want at a (sound c here) wanted' h (suits-in exceptions' image main good x c here refl at a suits) is' there (sound-behind c there) in
+        let r = answer-counted exceptions' image main good m.0 m.1 test of x y want at a (sound-at ready x c sound here) wanted' h (suits-in exceptions' image main good x c here refl at a suits) is' there (sound-at ready y c sound-behind there) in
         let b = r.balanced in
         let agree = r.agrees in
         omega (arith, b, agree, none-made x, none-made y, of-held test ready x c here, of-held test ready y c there, of-coming test a, of-going test ready x want a)

@@ -37,6 +37,7 @@ use Rattle.herm_code_machine.proofs.sound.CodeWants.{process_of, created, wants-
 use Rattle.herm_code_machine.proofs.sound.ItemSteps.{suits-in}
 use Rattle.herm_code_machine.proofs.sound.Processes.{module-of}
 use Rattle.herm_code_machine.proofs.sound.SoundProcesses.{stays-sound}
+use Rattle.herm_code_machine.proofs.sound.CodeThere.{sound-at}
 
 module _ (exceptions' : ℕ) (image : Image) (main : ℕ) (good : IsGoodOver exceptions' image) where
   abbrev ready : ReadyImage
@@ -89,7 +90,7 @@ module _ (exceptions' : ℕ) (image : Image) (main : ℕ) (good : IsGoodOver exc
         let is' : code_local_step own_name c x ≡ Some y = subst (λ c. code_local_step own_name c x ≡ Some y) (sym m.2) d.2 in
         let there = code-stays ready x y c here (code-local-stays own_name c x y is').1 in
         from-stand exceptions' image main good.good good.table m.0 m.1 ports calls y there
-        (step-stands exceptions' image main good m.0 m.1 ports calls x y (sound c here) (to-stand exceptions' image main good.good good.table m.0 m.1 ports calls x here (sound c here) all outs) is')
+        (step-stands exceptions' image main good m.0 m.1 ports calls x y (sound-at ready x c sound here) (to-stand exceptions' image main good.good good.table m.0 m.1 ports calls x here (sound-at ready x c sound here) all outs) is')
 
     module _ (m : CodeModule) (in-image : IsIn m image.modules) (x y : CodeState Name) (here : code_at (labelled_image image main) x ≡ Some (labelled_code image m)) (there : code_at (labelled_image image main) y ≡ Some (labelled_code image m)) where
       came-in : (at : ℕ) (a : CellAction Name) → All (typed_coming (code_machine ready) x at a) → CameIn exceptions' image main good m in-image ports calls x at a
@@ -124,8 +125,8 @@ module _ (exceptions' : ℕ) (image : Image) (main : ℕ) (good : IsGoodOver exc
         let wanted' : code_wanted own_name c x ≡ Some want = subst (λ c. code_wanted own_name c x ≡ Some want) (sym m.2) d.2 in
         let is' : code_answered own_name c x at a ≡ Some y = sym (ap (option_and_then (λ c. code_answered own_name c x at a)) here) ∙ is in
         let there = code-stays ready x y c here (code-answer-stays own_name c x y at a is').1 in
-        let now = to-stand exceptions' image main good.good good.table m.0 m.1 ports calls x here (sound c here) all outs in
-        let r = answer-stood exceptions' image main good m.0 m.1 ports calls inports x y want at a (sound c here) now wanted' h (suits-in exceptions' image main good x c here refl at a suits)
+        let now = to-stand exceptions' image main good.good good.table m.0 m.1 ports calls x here (sound-at ready x c sound here) all outs in
+        let r = answer-stood exceptions' image main good m.0 m.1 ports calls inports x y want at a (sound-at ready x c sound here) now wanted' h (suits-in exceptions' image main good x c here refl at a suits)
         (came-in m.0 m.1 x y here there at a comes) (was-made m.0 m.1 x y here there a makes) is' in
         let stands = from-stand exceptions' image main good.good good.table m.0 m.1 ports calls y there r.0 in
         (stands.0, stands.1, r.1)

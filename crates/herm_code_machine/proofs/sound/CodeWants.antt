@@ -60,6 +60,7 @@ use Rattle.herm_code_machine.proofs.sound.ItemSteps.{call_there}
 use Rattle.herm_code_machine.proofs.sound.LocalSteps.{ComesNext, by_work, by_call, by_act, comes-next}
 use Rattle.herm_code_machine.proofs.sound.Processes.{module-of, steps-sound}
 use Rattle.herm_held.proofs.WantsHeld.{SendsBy, RepliesFrom, by-outport, sends-by, replies-from}
+use Rattle.herm_code_machine.proofs.sound.CodeThere.{sound-at}
 
 -- what is found of a list that has such an element
 find-some : {X : Type 0} (test : X → Bool) (x : X) (xs : List X) → IsIn x xs → test x ≡ true → (y : X) × (find test xs ≡ Some y)
@@ -252,4 +253,4 @@ module _ (exceptions' : ℕ) (image : Image) (main : ℕ) (good : IsGoodOver exc
       let d = chain-some (λ c. code_wanted own_name c x) (code_at ready x) w wanted in
       let m = module-of exceptions' image main good x.module_number d.0 d.1 in
       let here : code_at ready x ≡ Some (labelled_code image m.0) = d.1 ∙ ap Some (sym m.2) in
-      want-has m.0 m.1 x here (sound (labelled_code image m.0) here) w (subst (λ c. code_wanted own_name c x ≡ Some w) (sym m.2) d.2)
+      want-has m.0 m.1 x here (sound-at ready x (labelled_code image m.0) sound here) w (subst (λ c. code_wanted own_name c x ≡ Some w) (sym m.2) d.2)

@@ -40,6 +40,7 @@ use Rattle.herm_code_machine.proofs.sound.Between.{AreAlone, pending-alone, pend
 use Rattle.herm_code_machine.proofs.sound.CopiedStacks.{AreCopied}
 use Rattle.herm_code_machine.proofs.sound.LocalSteps.{ComesNext, by_work, by_call, by_act, comes-next}
 use Rattle.herm_code_machine.proofs.sound.Processes.{module-of, sound-in}
+use Rattle.herm_code_machine.proofs.sound.CodeThere.{sound-at}
 
 -- as the rest of a frame changes
 pub same-sound : (c : ReadyCode) (s : CodeState Name) (b : Frame Name) → b.variables ≡ s.frame.variables → b.loops ≡ s.frame.loops → b.call ≡ s.frame.call → AreAlone b.work → IsLocallySoundCode c s → IsLocallySoundCode c (record s { frame = b })
@@ -270,7 +271,7 @@ module _ (exceptions' : ℕ) (image : Image) (main : ℕ) (good : IsGoodOver exc
   wants-in limit x sound (Some c) at acting =
       let m = module-of exceptions' image main good x.module_number c at in
       subst (λ c. IsLocallySoundCode c x → IsTrue (is_acting (code_ready c limit x)) → (w : CellWant Name) × (code_wanted own_name c x ≡ Some w)) m.2
-      (λ sound acting. wants-there exceptions' image main good m.0 m.1 limit x sound acting) (sound c at) acting
+      (λ sound acting. wants-there exceptions' image main good m.0 m.1 limit x sound acting) (sound-at ready x c sound at) acting
 
   -- by the code of the process
   pub suits-in : (x : CodeState Name) (c : ReadyCode) → code_at ready x ≡ Some c → c.scope.types ≡ image.types → (at : ℕ) (a : CellAction Name) → Suits (code_machine ready) x at a → SuitsCode c x at a
@@ -311,7 +312,7 @@ module _ (exceptions' : ℕ) (image : Image) (main : ℕ) (good : IsGoodOver exc
       let m = module-of exceptions' image main good x.module_number c.0 c.1 in
       let here : code_at ready x ≡ Some (labelled_code image m.0) = c.1 ∙ ap Some (sym m.2) in
       let wanted' = subst (λ c. code_wanted own_name c x ≡ Some want) (sym m.2) c.2 in
-      let r = answers-there exceptions' image main good m.0 m.1 x want at a (sound (labelled_code image m.0) here) wanted' h (suits-in x (labelled_code image m.0) here refl at a suits) in
+      let r = answers-there exceptions' image main good m.0 m.1 x want at a (sound-at ready x (labelled_code image m.0) sound here) wanted' h (suits-in x (labelled_code image m.0) here refl at a suits) in
       let there : code_at ready r.behind ≡ Some (labelled_code image m.0) = ap (slice_get ready.codes) r.same ∙ here in (
         r.behind,
         ap (option_and_then (λ c. code_answered own_name c x at a)) here ∙ r.is,

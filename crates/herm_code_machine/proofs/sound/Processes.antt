@@ -27,6 +27,7 @@ use Rattle.herm_code_machine.proofs.sound.EachInstruction.{each-instruction}
 use Rattle.herm_code_machine.proofs.sound.LocalSteps.{ComesNext, by_local, comes-next, local-sound, local-goes}
 use Rattle.herm_code_machine.proofs.sound.RunsThere.{begins-there}
 use Rattle.herm_code_machine.proofs.sound.Ways.{ways-lead_there}
+use Rattle.herm_code_machine.proofs.sound.CodeThere.{sound-at}
 
 pub outcomes-lead : OutcomesLead
 outcomes-lead exceptions' image m good labels p there w h = ways-lead_there exceptions' image m good (ready_code image labels m) refl p there w h
@@ -67,7 +68,7 @@ module _ (exceptions' : ℕ) (image : Image) (main : ℕ) (good : IsGoodOver exc
       (m.0, got-IsIn image.modules k m.0 m.1, m.2)
 
   pub sound-in : (x : CodeState Name) (c : ReadyCode) → code_at (labelled_image image main) x ≡ Some c → IsLocallySoundCode c x → IsSoundCodeIn (labelled_image image main) x
-  sound-in x c at h d is = subst (λ c. IsLocallySoundCode c x) (some-injective (sym at ∙ is)) h
+  sound-in x c at h = (c, at, h)
 
   closed-call : (c : ReadyCode) (x : CodeState Name) → x.frame.call ≡ None → code_open_call c x ≡ None
   closed-call c x e = ap (option_and_then _) e
@@ -94,7 +95,7 @@ module _ (exceptions' : ℕ) (image : Image) (main : ℕ) (good : IsGoodOver exc
   steps-well x y sound c at e =
       let m = module-of x.module_number c at in
       subst (λ c. IsLocallySoundCode c x → code_local_step own_name c x ≡ Some y → IsLocallySoundCode c y × IsAtRest y.frame × (y.module_number ≡ x.module_number)) m.2
-      (λ sound e. local-sound exceptions' image good.good good.table m.0 m.1 own_name x y sound e) (sound c at) e
+      (λ sound e. local-sound exceptions' image good.good good.table m.0 m.1 own_name x y sound e) (sound-at (labelled_image image main) x c sound at) e
 
 pub steps-sound : LocalStepsAreSound
 steps-sound exceptions' image main good = record {
@@ -120,4 +121,4 @@ steps-sound exceptions' image main good = record {
     by limit x sound (Some c) at local =
         let m = module-of exceptions' image main good x.module_number c at in
         subst (λ c. IsLocallySoundCode c x → IsTrue (is_local (code_ready c limit x)) → (y : CodeState Name) × (code_local_step own_name c x ≡ Some y)) m.2
-        (λ sound local. local-goes exceptions' image good.good good.table m.0 m.1 own_name limit x sound local) (sound c at) local
+        (λ sound local. local-goes exceptions' image good.good good.table m.0 m.1 own_name limit x sound local) (sound-at (labelled_image image main) x c sound at) local

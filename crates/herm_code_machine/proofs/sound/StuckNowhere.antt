@@ -29,6 +29,7 @@ use Rattle.herm_code_machine.proofs.sound.LocalSteps.{ComesNext, by_work, by_cal
 use Rattle.herm_code_machine.proofs.sound.OnTheWay.{nowhere-stuck}
 use Rattle.herm_code_machine.proofs.sound.Processes.{module-of}
 use Rattle.herm_code_machine.proofs.sound.RunsThere.{begins-at, first_state}
+use Rattle.herm_code_machine.proofs.sound.CodeThere.{sound-at}
 
 module _ (exceptions' : ℕ) (image : Image) (main : ℕ) (good : IsGoodOver exceptions' image) (m : CodeModule) (in-image : IsIn m image.modules) where
   abbrev c : ReadyCode
@@ -98,11 +99,11 @@ runs-find_operands exceptions' image main good c = record {
       (begins-stuck exceptions' image main good m.0 m.1 code number port n);
   steps = λ x sound coded i here.
       let m = module-of exceptions' image main good x.module_number c coded in
-      subst (λ c. IsLocallySoundCode c x → (i : ℕ) → IsAtInstruction c x i Step → IsNowhereStuck c (behind_step x i)) m.2 (steps-stuck exceptions' image main good m.0 m.1 x) (sound c coded) i here;
+      subst (λ c. IsLocallySoundCode c x → (i : ℕ) → IsAtInstruction c x i Step → IsNowhereStuck c (behind_step x i)) m.2 (steps-stuck exceptions' image main good m.0 m.1 x) (sound-at (labelled_image image main) x c sound coded) i here;
   answers = λ x sound coded want at a wanted h suits u left.
       let m = module-of exceptions' image main good x.module_number c coded in
       let here : code_at (labelled_image image main) x ≡ Some (labelled_code image m.0) = coded ∙ ap Some (sym m.2) in
       let wanted' : code_wanted own_name (labelled_code image m.0) x ≡ Some want = sym (ap (option_and_then (λ c. code_wanted own_name c x)) here) ∙ wanted in
       subst (λ c. IsLeftBy c x at a u → IsNowhereStuck c u) m.2
-      (answers-stuck exceptions' image main good m.0 m.1 x (sound (labelled_code image m.0) here) want wanted' at a h (suits-in exceptions' image main good x (labelled_code image m.0) here refl at a suits) u) left;
+      (answers-stuck exceptions' image main good m.0 m.1 x (sound-at (labelled_image image main) x (labelled_code image m.0) sound here) want wanted' at a h (suits-in exceptions' image main good x (labelled_code image m.0) here refl at a suits) u) left;
 }

@@ -6,16 +6,16 @@ use Rattle.herm_model.specs.Values.{Name}
 use Rattle.herm_journal.specs.Entries.{Text, Entry}
 use Rattle.herm_journal.specs.NextNumbers.{Limits}
 use Rattle.herm_system.specs.Reports.{IsAlong}
-use Rattle.herm_system.specs.Systems.{System, Moved, Event, step, Run, run, start, opening}
+use Rattle.herm_system.specs.Systems.{System, Moved, Event, step, Run, run, start, opening, numbered_from_one}
 use Rattle.herm_sound.specs.SoundBeside.{IsSoundBesideWith}
 use Rattle.herm_sound.specs.SoundMachines.{KeepsStanding}
 use Rattle.herm_sound.specs.laws.SoundLaws.{GoOnFrom, ClosesOpenPorts, AnswersOpenCalls, PortsCloseOnce, CallsAreAnsweredOnce, EventsAreBounded, RoundsSuffice}
 use Rattle.herm_instructions.specs.Images.{Image}
-use Rattle.herm_code_machine.specs.CodeInstance.{code_machine}
-use Rattle.herm_code_machine.specs.CodeLocal.{IsSoundCodeIn, typed_stack, IsSoundCode}
+use Rattle.herm_code_machine.specs.CodeInstance.{code_at, code_machine}
+use Rattle.herm_code_machine.specs.CodeLocal.{IsLocallySoundCode, IsSoundCodeIn, typed_stack, IsSoundCode}
 use Rattle.herm_code_machine.specs.CodeStates.{CodeState}
 use Rattle.herm_code_machine.specs.CodeTypes.{first_type, new_type}
-use Rattle.herm_code_machine.specs.ReadyCode.{labelled_image}
+use Rattle.herm_code_machine.specs.ReadyCode.{ReadyCode, labelled_image}
 use Rattle.herm_code_machine.specs.laws.GoodImageLaws.{IsGoodOver}
 
 -- it is so of every good image, whichever module is main
@@ -59,6 +59,11 @@ ImageStatesAlong = OfStartedImages (λ image main. (limits : Limits) (argument :
 -- No process of such a state is stuck. Code reference, "Sound states of code".
 abbrev pub ImageNoneIsStuck : Type 0
 ImageNoneIsStuck = OfGoodImages (λ image main. (s : System (CodeState Name)) (p : ℕ) → IsSoundCode image main s → GoOnFrom (code_machine (labelled_image image main)) s p)
+
+-- Each process of such a state has code, by which it is sound. Code reference, "Sound states of code".
+abbrev pub ImageProcessesHaveCode : Type 0
+ImageProcessesHaveCode = OfGoodImages (λ image main. (s : System (CodeState Name)) (p : ℕ) (x : CodeState Name) → IsSoundCode image main s → numbered_from_one p s.processes ≡ Some x
+    → (c : ReadyCode) × (code_at (labelled_image image main) x ≡ Some c) × IsLocallySoundCode c x)
 
 -- In such a state ports that are closed were open, and calls that are answered are open and have no answer yet; and along a run no port is
 -- closed twice, and no call is answered twice. Language reference, "Ports" and "Calls".
