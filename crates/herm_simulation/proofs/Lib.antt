@@ -25,3 +25,4 @@ pub mod CodeReported
 pub mod RightByRounds
 pub mod Nameless
 pub mod RightChecks
+pub mod TranslatedModules

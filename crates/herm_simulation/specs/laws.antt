@@ -5,3 +5,4 @@ pub mod CheckLaws
 pub mod SimulationLaws
 pub mod DiarySimulation
 pub mod CodeReports
+pub mod CheckedCode

@@ -19,31 +19,47 @@ use Rattle.herm_simulation.specs.Simulating.{IsTranslated, ready_image, Simulate
 abbrev pub OfTranslated : (Program → Modules → List CheckedModule → Type 0) → Type 0
 OfTranslated Is = (exceptions : ℕ) (program : Program) (modules : Modules) (checked : List CheckedModule) → IsTranslated exceptions program modules checked → Is program modules checked
 
--- The two machines are joined: each beginning, local step and answer of the source is exactly one of the code, between processes of which
--- the one simulates the other; and these show the same. Code reference, "Standing for a process".
+module _ (program : Program) (modules : Modules) (checked : List CheckedModule) where
+  -- The two machines are joined: each beginning, local step and answer of the source is exactly one of the code, between processes of which
+  -- the one simulates the other; and these show the same. Code reference, "Standing for a process".
+  abbrev pub IsJoinedToSource : Type 0
+  IsJoinedToSource = AreJoined (source modules) (code_machine (ready_image program modules checked)) (Simulates program modules checked)
+
+  -- What events lead to in the source, with a text as argument, they lead to in the code, and the runs look alike: equal journals, ports, replies and
+  -- book, equal fates, queues, counts, status and text; the one is at its end exactly where the other is. Language reference, "Reports".
+  abbrev pub RunsAsSource : Type 0
+  RunsAsSource = let code = code_machine (ready_image program modules checked) in
+      (limits : Limits) (argument : Text) (events : List Event) (r : Run (State Name)) → IsTrue (is_text argument) → run (source modules) events (start (source modules) limits argument) ≡ Some r
+      → (q : Run (CodeState Name)) × (run code events (start code limits argument) ≡ Some q) × LookAlike (source modules) code (Simulates program modules checked) r q
+
+  -- What they lead to in the code, they lead to in the source, and the runs look alike.
+  abbrev pub SourceRunsAs : Type 0
+  SourceRunsAs = let code = code_machine (ready_image program modules checked) in
+      (limits : Limits) (argument : Text) (events : List Event) (q : Run (CodeState Name)) → IsTrue (is_text argument) → run code events (start code limits argument) ≡ Some q
+      → (r : Run (State Name)) × (run (source modules) events (start (source modules) limits argument) ≡ Some r) × LookAlike code (source modules) (turned (Simulates program modules checked)) q r
+
+  -- So the rounds of the one are those of the other, and look alike. Language reference, "Rounds".
+  abbrev pub HasRoundsOfSource : Type 0
+  HasRoundsOfSource = let code = code_machine (ready_image program modules checked) in
+      (limits : Limits) (argument : Text) (most : ℕ) (r : Run (State Name)) → IsTrue (is_text argument) → rounds most (source modules) (start (source modules) limits argument) ≡ Some r
+      → (q : Run (CodeState Name)) × (rounds most code (start code limits argument) ≡ Some q) × LookAlike (source modules) code (Simulates program modules checked) r q
+
+  abbrev pub SourceHasRounds : Type 0
+  SourceHasRounds = let code = code_machine (ready_image program modules checked) in
+      (limits : Limits) (argument : Text) (most : ℕ) (q : Run (CodeState Name)) → IsTrue (is_text argument) → rounds most code (start code limits argument) ≡ Some q
+      → (r : Run (State Name)) × (rounds most (source modules) (start (source modules) limits argument) ≡ Some r) × LookAlike code (source modules) (turned (Simulates program modules checked)) q r
+
 abbrev pub CodeIsJoined : Type 0
-CodeIsJoined = OfTranslated (λ program modules checked. AreJoined (source modules) (code_machine (ready_image program modules checked)) (Simulates program modules checked))
+CodeIsJoined = OfTranslated IsJoinedToSource
 
--- What events lead to in the source, with a text as argument, they lead to in the code, and the runs look alike: equal journals, ports, replies and
--- book, equal fates, queues, counts, status and text; the one is at its end exactly where the other is. Language reference, "Reports".
 abbrev pub CodeRunsAsSource : Type 0
-CodeRunsAsSource = OfTranslated (λ program modules checked. let code = code_machine (ready_image program modules checked) in
-    (limits : Limits) (argument : Text) (events : List Event) (r : Run (State Name)) → IsTrue (is_text argument) → run (source modules) events (start (source modules) limits argument) ≡ Some r
-    → (q : Run (CodeState Name)) × (run code events (start code limits argument) ≡ Some q) × LookAlike (source modules) code (Simulates program modules checked) r q)
+CodeRunsAsSource = OfTranslated RunsAsSource
 
--- What they lead to in the code, they lead to in the source, and the runs look alike.
 abbrev pub SourceRunsAsCode : Type 0
-SourceRunsAsCode = OfTranslated (λ program modules checked. let code = code_machine (ready_image program modules checked) in
-    (limits : Limits) (argument : Text) (events : List Event) (q : Run (CodeState Name)) → IsTrue (is_text argument) → run code events (start code limits argument) ≡ Some q
-    → (r : Run (State Name)) × (run (source modules) events (start (source modules) limits argument) ≡ Some r) × LookAlike code (source modules) (turned (Simulates program modules checked)) q r)
+SourceRunsAsCode = OfTranslated SourceRunsAs
 
--- So the rounds of the one are those of the other, and look alike. Language reference, "Rounds".
 abbrev pub CodeRoundsAsSource : Type 0
-CodeRoundsAsSource = OfTranslated (λ program modules checked. let code = code_machine (ready_image program modules checked) in
-    (limits : Limits) (argument : Text) (most : ℕ) (r : Run (State Name)) → IsTrue (is_text argument) → rounds most (source modules) (start (source modules) limits argument) ≡ Some r
-    → (q : Run (CodeState Name)) × (rounds most code (start code limits argument) ≡ Some q) × LookAlike (source modules) code (Simulates program modules checked) r q)
+CodeRoundsAsSource = OfTranslated HasRoundsOfSource
 
 abbrev pub SourceRoundsAsCode : Type 0
-SourceRoundsAsCode = OfTranslated (λ program modules checked. let code = code_machine (ready_image program modules checked) in
-    (limits : Limits) (argument : Text) (most : ℕ) (q : Run (CodeState Name)) → IsTrue (is_text argument) → rounds most code (start code limits argument) ≡ Some q
-    → (r : Run (State Name)) × (rounds most (source modules) (start (source modules) limits argument) ≡ Some r) × LookAlike code (source modules) (turned (Simulates program modules checked)) q r)
+SourceRoundsAsCode = OfTranslated SourceHasRounds
