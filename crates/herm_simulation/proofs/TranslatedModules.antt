@@ -54,7 +54,7 @@ module _ (m : CheckedModule) (lists : ListsFacts m) (drops : DropsExcess m) wher
       let r = drops.edges i j n x at at-j in
       subst (IsExcess (λ f. held_after_edge (edge m.code.types m.code.variables n.form x) f (m.code.label i f)) (label_at m.code.label x.target)) (sym (list-along m.drops i j r.0 r.1)) r.2
 
--- a checked module is right
+-- a checked module is right, of a typed process
 module-right : (exceptions : ℕ) (program : Program) → IsTypedProgram exceptions program.types program.processes program.main → (p : Process) → IsIn p program.processes → (m : CheckedModule) → IsCodeOf program p m.code → ListsFacts m → DropsExcess m → IsRight m
 module-right exceptions program typed p among m (labels, e, exact, accepted) lists drops =
     let same : m ≡ checked program.types p labels m.facts m.entry_drops m.drops = ap (λ (c : Module). record { code = c; facts = m.facts; entry_drops = m.entry_drops; drops = m.drops }) e in
