@@ -1,0 +1,6 @@
+pub mod Completed
+pub mod Counts
+pub mod Excesses
+pub mod HeldFrames
+pub mod Scopes
+pub mod Standing

@@ -1,0 +1,102 @@
+//! How many cells are finalised at once, and values that are let go.
+ghost use Rattle.std.specs.Prelude.{◌≡◌, ◌≤◌, ◌<◌, ◌+◌, ◌^◌, ◌++◌, min, length, IfOk, OnOk, IsErr};
+ghost use Rattle.herm_model.specs.Finalising.{finalised, finalised_in, pending};
+ghost use Rattle.herm_values.specs.Parts.{parts_from};
+ghost use Rattle.herm_values.specs.View.{value_view, table_parts, views_of};
+ghost use Rattle.herm_values.specs.Works.{waiting, spare};
+ghost use Rattle.herm_frames.specs.Counts.{cut};
+
+use herm_values::{Table, Value, Work, finalise, pending};
+use std::alloc::AllocError;
+
+/// As many cells as are counted.
+const MOST_CELLS: u64 = 1 << 63;
+
+/// The sum of two numbers of cells, cut.
+pub fn sum(a: u64, b: u64) -> u64
+    ensures sum { result ≡ cut (a + b) }
+{
+    a.saturating_add(b).min(MOST_CELLS)
+}
+
+/// How many cells are finalised at once where the value is.
+#[tactic(auto, using(herm_values::proofs::Seen::layers))]
+#[cycle(ended)]
+pub fn ended(v: &Value) -> u64
+    ensures { result ≡ cut (length (finalised (value_view v.now))) }
+{
+    match v {
+        Value::Bool(_) => 1,
+        Value::Int(_) => 1,
+        Value::Text(_) => 1,
+        Value::Tag(_) => 1,
+        Value::Fields(fields) => sum(1, ended_in(fields.as_slice())),
+        Value::Case(_, component) => sum(1, ended(component)),
+        Value::Table(table) => sum(1, ended_rows(table)),
+        Value::Poly(poly) => sum(1, ended(poly.content())),
+        Value::Call(call) => ended_in(call.params()),
+        Value::Inport(_) => 0,
+        Value::Outport(_) => 1,
+    }
+}
+
+/// How many are in the values at these places.
+#[tactic(auto, using(herm_values::proofs::Seen::layers))]
+#[cycle(ended)]
+pub fn ended_in(places: &[Option<Value>]) -> u64
+    ensures { result ≡ cut (length (finalised_in (parts_from (views_of places.now)))) }
+{
+    let mut total = 0;
+    'places: for held in places {
+        if let Some(v) = held {
+            total = sum(total, ended(v));
+        }
+    }
+    total
+}
+
+/// How many are in the rows of a table.
+#[tactic(auto, using(herm_values::proofs::Walked::walk))]
+#[cycle(ended)]
+fn ended_rows(table: &Table) -> u64
+    ensures { result ≡ cut (length (finalised_in (table_parts table.now))) }
+{
+    let mut total = 0;
+    let mut next = table.first();
+    'rows: while let Some(node) = next {
+        next = table.after(node);
+        if let Some(row) = table.row(node) {
+            total = sum(total, ended(row));
+        }
+    }
+    total
+}
+
+/// Makes room on the work list for what waits in a value. Memory is wanted only where something does.
+fn make_room(v: &Value, work: &mut Work) -> Result<(), AllocError>
+    ensures waiting { waiting work.new ≡ waiting work.old }
+    ensures room { OnOk result (length (pending (value_view v.now)) ≤ spare work.new) }
+    ensures refused { IsErr result → 0 < length (pending (value_view v.now)) }
+{
+    let n = pending(v);
+    if n == 0 {
+        return Ok(());
+    }
+    if n == usize::MAX {
+        return Err(AllocError);
+    }
+    work.reserve(n)
+}
+
+/// Finalises a value, where so many cells have been finalised before. The answer is how many have been then. Memory is
+/// wanted only where an inport or a callmessage goes on the work list.
+pub fn let_go(v: Value, work: &mut Work, before: u64) -> Result<u64, AllocError>
+    ensures waiting { OnOk result (waiting work.new ≡ waiting work.old ++ pending (value_view v)) }
+    ensures count { IfOk result (λ n. n ≡ cut (before + length (finalised (value_view v)))) }
+    ensures refused { IsErr result → 0 < length (pending (value_view v)) }
+{
+    make_room(&v, work)?;
+    let count = sum(before, ended(&v));
+    finalise(v, work);
+    Ok(count)
+}

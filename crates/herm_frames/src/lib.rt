@@ -1,0 +1,12 @@
+//! What a process holds but its position, and what instructions do with it.
+#![tactic(auto)]
+
+mod counts;
+mod frame;
+mod loops;
+mod outcome;
+mod types;
+
+pub use frame::Frame;
+pub use loops::Loop;
+pub use outcome::Outcome;
