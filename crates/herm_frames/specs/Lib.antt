@@ -1,5 +1,6 @@
 pub mod Completed
 pub mod Counts
+pub mod EmptyPlaces
 pub mod Excesses
 pub mod HeldFrames
 pub mod Scopes

@@ -4,9 +4,11 @@
 mod counts;
 mod frame;
 mod loops;
+mod moves;
 mod outcome;
 mod types;
 
 pub use frame::Frame;
 pub use loops::Loop;
+pub use moves::tested;
 pub use outcome::Outcome;
