@@ -1,2 +1,3 @@
+mod BeyondFull
 mod Moved
 mod Stood

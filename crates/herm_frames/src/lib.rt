@@ -1,7 +1,9 @@
 //! What a process holds but its position, and what instructions do with it.
 #![tactic(auto)]
 
+mod contents;
 mod counts;
+mod excess;
 mod frame;
 mod loops;
 mod moves;
