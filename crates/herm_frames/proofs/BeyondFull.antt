@@ -8,7 +8,7 @@ use Rattle.herm_model.specs.Finalising.{excess_from}
 use Rattle.herm_forms.specs.Excess.{below}
 use Rattle.herm_frames.specs.Excesses.{if_here, if_here_within, of_mode, beyond_parameters, beyond_fields, beyond_parts, beyond}
 
-and-true : (b : Bool) → (b && true) ≡ b
+pub and-true : (b : Bool) → (b && true) ≡ b
 and-true true = refl
 and-true false = refl
 
@@ -103,7 +103,7 @@ module _ (f : ℕ → List Path) where
       ∙ ap (λ (y : Parameter). in_param r y.content y.mode) (let e : p ≡ x = cc (at) in e)
   param-paths k (suc j) i r (p ∷ ps) x is at = other-param i k r p ps p.mode (in_param r x.content x.mode) (ne_eqb i k (λ e. omega (arith, e, is))) (param-paths (suc k) j i r ps x (omega (arith, is)) at)
 
-module _ (here left : Path → Bool) (x : Path) (table : TypeTable) (closed : (p r : Path) → here p ≡ false → here (p ++ r) ≡ false) where
+module _ (here left : Path → Bool) (x : Path) (table : TypeTable) (closed : (q r : Path) → here (x ++ q) ≡ false → here ((x ++ q) ++ r) ≡ false) where
   abbrev parts_excess : ℕ → Path → Shape → List Path
   parts_excess n p s = flat_map (λ part. excess_from left n table (p ++ part.0 ∷ []) part.1) (held_parts s)
 
@@ -111,7 +111,7 @@ module _ (here left : Path → Bool) (x : Path) (table : TypeTable) (closed : (p
   in-parts n p None h = refl
   in-parts n p (Some s) h = nothing-mapped (λ part. excess_from left n table (p ++ part.0 ∷ []) part.1) (held_parts s) h
 
-  nothing-left : (n : ℕ) (p : Path) (t : ℕ) → ((r : Path) → left (p ++ r) ≡ false) → excess_from left n table p t ≡ []
+  pub nothing-left : (n : ℕ) (p : Path) (t : ℕ) → ((r : Path) → left (p ++ r) ≡ false) → excess_from left n table p t ≡ []
   nothing-left zero p t h = refl
   nothing-left (suc n) p t h =
       ap (λ b. cond b (p ∷ []) (map_or [] (parts_excess n p) (slice_get table t))) (ap left (sym (append-nil p)) ∙ h [])
@@ -130,7 +130,7 @@ module _ (here left : Path → Bool) (x : Path) (table : TypeTable) (closed : (p
           ap (λ b. map (below x) (cond b ((0 ∷ q) ∷ []) (map_or [] (parts_excess n (0 ∷ q)) (slice_get table t)))) (first ∙ is)
           ∙ ap (λ b. cond b ((x ++ q) ∷ []) []) (sym is)
       by false is =
-          ap (map (below x)) (nothing-left (suc n) (0 ∷ q) t (λ r. h r ∙ ap here (sym (append_assoc x q r)) ∙ closed (x ++ q) r is))
+          ap (map (below x)) (nothing-left (suc n) (0 ∷ q) t (λ r. h r ∙ ap here (sym (append_assoc x q r)) ∙ closed q r is))
           ∙ ap (λ b. cond b ((x ++ q) ∷ []) []) (sym is)
 
   abbrev paths : ℕ → ℕ → List Path
@@ -169,3 +169,53 @@ module _ (here left : Path → Bool) (x : Path) (table : TypeTable) (closed : (p
       ∙ ap₂ ◌++◌
       (subst (λ i. map (below x) (excess_from left n table (0 ∷ (q ++ i ∷ [])) y.content) ≡ of_param n (x ++ (q ++ i ∷ [])) y) (let e : k + 0 ≡ k = omega arith in e) (h 0 y refl) ∙ ap (λ p. of_param n p y) (sym (append_assoc x q (k ∷ []))))
       (each-param n q (suc k) ps (λ j z at. subst (λ i. map (below x) (excess_from left n table (0 ∷ (q ++ i ∷ [])) z.content) ≡ of_param n (x ++ (q ++ i ∷ [])) z) (let e : k + suc j ≡ suc k + j = omega arith in e) (h (suc j) z at)))
+
+  abbrev Goes : ℕ → Path → Type 0
+  Goes n q = (i u : ℕ) → Known n (q ++ i ∷ []) u → map (below x) (excess_from left n table (0 ∷ (q ++ i ∷ [])) u) ≡ beyond here table n (x ++ (q ++ i ∷ [])) u
+
+  by-mode : (n : ℕ) (q : Path) (i u : ℕ) (m : Mode) → Goes n q → ((r : Path) → left (0 ∷ ((q ++ i ∷ []) ++ r)) ≡ (here (x ++ ((q ++ i ∷ []) ++ r)) && not (in_param (paths n) r u m)))
+      → map (below x) (excess_from left n table (0 ∷ (q ++ i ∷ [])) u) ≡ of_mode (beyond here table n (x ++ (q ++ i ∷ [])) u) (if_here_within here n (x ++ (q ++ i ∷ []))) m
+  by-mode n q i u by_in again known = again i u known
+  by-mode n q i u by_inout again known = again i u known
+  by-mode n q i u by_out again known = itself-left n (q ++ i ∷ []) u (λ r. known r ∙ and-true (here (x ++ ((q ++ i ∷ []) ++ r))))
+
+  abbrev paths_in : ℕ → Option Shape → List Path
+  paths_in n o = map_or [] (λ s. [] ∷ flat_map (λ part. map (part.0 ∷◌) (paths n part.1)) (full_parts s)) o
+
+  by-shape : (n : ℕ) (q : Path) (t : ℕ) (s : Shape) → slice_get table t ≡ Some s → Known (suc n) q t → Goes n q → map (below x) (parts_excess n (0 ∷ q) s) ≡ beyond_parts here n (beyond here table n) (x ++ q) s
+  by-shape n q t (fields ts) is h again =
+      each-field n q 0 ts (λ j u at. again (0 + j) u (part-known (suc n) q t (0 + j) (λ r. any_pass (same_path r) (paths n u)) h
+      (λ r. ap (λ o. any_pass (same_path ((0 + j) ∷ r)) (paths_in n o)) is ∙ field-paths (paths n) 0 j (0 + j) r ts u refl at)))
+  by-shape n q t (callmessage ps raises) is h again =
+      each-param n q 0 ps (λ j y at. by-mode n q (0 + j) y.content y.mode again (part-known (suc n) q t (0 + j) (λ r. in_param (paths n) r y.content y.mode) h
+      (λ r. ap (λ o. any_pass (same_path ((0 + j) ∷ r)) (paths_in n o)) is ∙ param-paths (paths n) 0 j (0 + j) r ps y refl at)))
+  by-shape n q t boolean is h again = refl
+  by-shape n q t integer is h again = refl
+  by-shape n q t text is h again = refl
+  by-shape n q t polymorph is h again = refl
+  by-shape n q t (names count) is h again = refl
+  by-shape n q t (cases ts) is h again = refl
+  by-shape n q t (rows row key) is h again = refl
+  by-shape n q t (inport message declared) is h again = refl
+  by-shape n q t (outport port) is h again = refl
+
+  first-known : (n : ℕ) (q : Path) (t : ℕ) (o : Option Shape) → slice_get table t ≡ o → Known (suc n) q t → left (0 ∷ q) ≡ (here (x ++ q) && not (any_pass (same_path []) (paths_in n o)))
+  first-known n q t o is h = ap (λ p. left (0 ∷ p)) (sym (append-nil q)) ∙ h [] ∙ ap₂ (λ p o. here (x ++ p) && not (any_pass (same_path []) (paths_in n o))) (append-nil q) is
+
+  one-below : (b : Bool) (q : Path) → map (below x) (cond b ((0 ∷ q) ∷ []) []) ≡ cond b ((x ++ q) ∷ []) []
+  one-below true q = refl
+  one-below false q = refl
+
+  by-type : (n : ℕ) (q : Path) (t : ℕ) (o : Option Shape) → slice_get table t ≡ o → Known (suc n) q t → Goes n q → map (below x) (excess_from left (suc n) table (0 ∷ q) t) ≡ beyond here table (suc n) (x ++ q) t
+  by-type n q t None is h again =
+      ap₂ (λ b o. map (below x) (cond b ((0 ∷ q) ∷ []) (map_or [] (parts_excess n (0 ∷ q)) o))) (first-known n q t None is h ∙ and-true (here (x ++ q))) is
+      ∙ one-below (here (x ++ q)) q
+      ∙ ap (map_or (if_here here (x ++ q)) (beyond_parts here n (beyond here table n) (x ++ q))) (sym is)
+  by-type n q t (Some s) is h again =
+      ap₂ (λ b o. map (below x) (cond b ((0 ∷ q) ∷ []) (map_or [] (parts_excess n (0 ∷ q)) o))) (first-known n q t (Some s) is h ∙ and-false (here (x ++ q))) is
+      ∙ by-shape n q t s is h again
+      ∙ ap (map_or (if_here here (x ++ q)) (beyond_parts here n (beyond here table n) (x ++ q))) (sym is)
+
+  pub beyond-excess : (n : ℕ) (q : Path) (t : ℕ) → Known n q t → map (below x) (excess_from left n table (0 ∷ q) t) ≡ beyond here table n (x ++ q) t
+  beyond-excess zero q t h = refl
+  beyond-excess (suc n) q t h = by-type n q t (slice_get table t) refl h (λ i u k. beyond-excess n (q ++ i ∷ []) u k)

@@ -6,18 +6,21 @@ use Rattle.herm_model.specs.Paths.{Path}
 use Rattle.herm_model.specs.Values as model
 use Rattle.herm_model.specs.Values.{Parts, cell_at, read_at, clear_at, put_at, has_place}
 use Rattle.herm_model.specs.Finalising.{finalised, pending}
-use Rattle.herm_forms.specs.Frames.{Frame, cleared, finalise, finalise_old, put, drop_at}
+use Rattle.herm_forms.specs.Frames.{Frame, Loop, cleared, finalise, finalise_old, put, drop_at}
 use Rattle.herm_places.specs.Held.{seen_places}
 use Rattle.herm_values.specs.Works.{item_view}
 use Rattle.herm_values.specs.declared.work.WorkItem.{WorkItem}
 use Rattle.herm_values.specs.View.{value_view}
 use Rattle.herm_values.specs.declared.value.Value.{Value}
 use Rattle.herm_frames.specs.Counts.{cut}
-use Rattle.herm_frames.specs.HeldFrames.{HeldFrame}
-use Rattle.herm_frames.specs.Standing.{Stands}
+use Rattle.herm_frames.specs.HeldFrames.{HeldFrame, HeldLoop}
+use Rattle.herm_frames.specs.Standing.{Stands, loop_view}
 
 pub cut_more : (a b n : ℕ) → n ≡ cut a → cut (n + b) ≡ cut (a + b)
 cut_more a b n is = grind (arith, is)
+
+pub cut_both : (a b n m : ℕ) → n ≡ cut a → m ≡ cut b → cut (n + m) ≡ cut (a + b)
+cut_both a b n m is also = grind (arith, is, also)
 
 pub with_variables : (f : HeldFrame) (s : Frame ⊤) (vs : List (Option Value)) (ps : Parts ⊤) → Stands f s → ps ≡ seen_places vs → Stands (record f { variables = vs }) (record s { variables = ps })
 with_variables f s vs ps h is = record {
@@ -97,6 +100,20 @@ pub put_found : (f : HeldFrame) (s : Frame ⊤) (vs : List (Option Value)) (p : 
 put_found f s vs p c old new h some is on =
     subst (λ b. Stands new b) (sym (put_some s p c old (some ∙ ap (cell_at p) (sym h.variables))))
     (on (record s { variables = put_at p c s.variables }) (with_variables f s vs (put_at p c s.variables) h (ap (put_at p c) h.variables ∙ sym is)))
+
+pub with_loops : (f : HeldFrame) (s : Frame ⊤) (loops : List HeldLoop) (ls : List (Loop ⊤)) → Stands f s → ls ≡ map loop_view loops → Stands (record f { loops = loops }) (record s { loops = ls })
+with_loops f s loops ls h is = record {
+  number = h.number;
+  variables = h.variables;
+  loops = is;
+  work = h.work;
+  call = h.call;
+  calls = h.calls;
+  steps = h.steps;
+  actions = h.actions;
+  made = h.made;
+  finalised = h.finalised;
+}
 
 -- counts and the open call
 pub with_steps : (f : HeldFrame) (s : Frame ⊤) (n : ℕ) → Stands f s → n ≡ f.steps + 1 → Stands (record f { steps = n }) (record s { steps = suc s.steps })

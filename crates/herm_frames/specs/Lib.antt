@@ -3,6 +3,8 @@ pub mod Counts
 pub mod EmptyPlaces
 pub mod Excesses
 pub mod HeldFrames
+pub mod Leaving
 pub mod Opening
 pub mod Scopes
 pub mod Standing
+pub mod Visits

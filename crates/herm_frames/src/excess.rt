@@ -1,11 +1,16 @@
 //! What a value that moves away holds beyond a full one.
-ghost use Rattle.std.specs.Prelude.{◌≡◌, ◌<◌, ◌^◌, ◌++◌, ◌∷◌, [], IfOk, OnOk, ◌||◌, map, length, zero, suc};
+ghost use Rattle.std.specs.Prelude.{◌≡◌, ◌<◌, ◌^◌, ◌++◌, ◌∷◌, [], IfOk, OnOk, ◌||◌, map, length, suc, ⊤};
 ghost use Rattle.herm_model.specs.Lists.{any_pass};
 ghost use Rattle.herm_model.specs.Values.{has_value};
+ghost use Rattle.herm_forms.specs.Excess.{excess_over_full};
+ghost use Rattle.herm_forms.specs.Frames.{Frame as ModelFrame};
+ghost use Rattle.herm_forms.specs.Modules.{Module};
+ghost use Rattle.herm_frames.specs.Scopes.{numbers_of};
 ghost use Rattle.herm_types.specs.View.{shape_view, param_view, mode_view, path_view};
 ghost use Rattle.herm_places.specs.Held.{seen_places};
 ghost use Rattle.herm_frames.specs.Excesses.{is_out, may_hold_more, may_exceed, beyond, beyond_fields, beyond_parameters, if_here, if_here_within, of_mode};
 
+use crate::types::type_at;
 use herm_base::TypeNo;
 use herm_places::Variables;
 use herm_types::{Mode, Param, Part, Path, Shape, TypeTable};
@@ -225,4 +230,32 @@ fn push_param(
             Ok(())
         }
     }
+}
+
+/// As many types may be looked at on the way.
+const GREATEST_DEPTH: u32 = 32;
+
+/// The paths of what the value at a path holds beyond a full one, where the variables have these types. It takes no memory where
+/// the value cannot hold more.
+pub fn excess_over_full(
+    alloc: Global,
+    types: &TypeTable,
+    of: &[TypeNo],
+    variables: &Variables,
+    path: &Path,
+) -> Result<Vec<Path>, AllocError>
+    ensures { IfOk result (λ lost. (c : Module) (s : ModelFrame ⊤) → c.types ≡ types.now.shapes → c.variables ≡ numbers_of of.now → s.variables ≡ seen_places variables.now → map path_view lost.items ≡ excess_over_full c (path_view path.now) s) }
+{
+    let mut lost = Vec::new(alloc);
+    let Some(_held) = variables.at(path) else {
+        return Ok(lost);
+    };
+    let Some(t) = type_at(types, of, path) else {
+        return Ok(lost);
+    };
+    if !may_exceed(types, GREATEST_DEPTH, t) {
+        return Ok(lost);
+    }
+    push_beyond(alloc, types, variables, GREATEST_DEPTH, path, t, &mut lost)?;
+    Ok(lost)
 }

@@ -26,7 +26,7 @@ use std::alloc::{AllocError, Global};
 use std::marker::Model;
 
 /// What a process holds but its position: its number, its variables, the rows that its loops have yet to visit, innermost
-/// first, its work list, its open call, and its counts. Contracts see it as such a record; each value in it is whole.
+/// last, its work list, its open call, and its counts. Contracts see it as such a record, the loops innermost first; each value in it is whole.
 #[derive(Drop)]
 pub struct Frame {
     pub(crate) number: ProcNo,
@@ -42,6 +42,7 @@ pub struct Frame {
 }
 
 impl Model for Frame {
+    ghost use Rattle.std.specs.Prelude.{reverse};
     ghost use Rattle.std.specs.Coded.{codes};
     ghost use Rattle.herm_values.specs.contracts.value.Value as held;
     ghost use Rattle.herm_values.specs.contracts.work.WorkItem as item;
@@ -51,7 +52,7 @@ impl Model for Frame {
 
     ghost coded = { Prim.hlevel (codes, held.the_row.coded, item.the_row.coded) };
 
-    ghost view = { λ f. record { number = f.number.number; variables = f.variables; loops = f.loops.items; work = items_of f.work; call = f.call; calls = f.calls; steps = f.steps; actions = f.actions; made = f.made; finalised = f.finalised } };
+    ghost view = { λ f. record { number = f.number.number; variables = f.variables; loops = reverse f.loops.items; work = items_of f.work; call = f.call; calls = f.calls; steps = f.steps; actions = f.actions; made = f.made; finalised = f.finalised } };
 }
 
 impl Frame {

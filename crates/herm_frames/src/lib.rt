@@ -3,11 +3,15 @@
 
 mod contents;
 mod counts;
+mod ends;
 mod excess;
 mod frame;
 mod loops;
 mod moves;
 mod outcome;
+mod removals;
+mod rows;
+mod turns;
 mod types;
 
 pub use frame::Frame;

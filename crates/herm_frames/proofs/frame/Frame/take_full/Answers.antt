@@ -1,0 +1,10 @@
+use Rattle.herm_forms.specs.Excess.{excess_over_full}
+use Rattle.herm_forms.specs.Frames.{drop}
+use Rattle.herm_types.specs.View.{path_view}
+use Rattle.herm_frames.proofs.frame.Frame.take_full.Goals as goal
+
+pub returns-clause-taken : goal.returns-clause-taken
+returns-clause-taken c code s of h = c.take.ensures.taken (drop (excess_over_full code.scope (path_view c.args.source.now) s) s) (c.in_ok-drop_excess.ensures.stands code s of h)
+
+pub returns-clause-stands : goal.returns-clause-stands
+returns-clause-stands c code s of h = c.take.ensures.stands (drop (excess_over_full code.scope (path_view c.args.source.now) s) s) (c.in_ok-drop_excess.ensures.stands code s of h)

@@ -1,0 +1,105 @@
+//! Values that move away, without what they hold beyond full ones.
+ghost use Rattle.std.specs.Prelude.{◌≡◌, IfOk, IfSome, OnOk, List, option_map, ⊤};
+ghost use Rattle.herm_journal.specs.Renaming.{forget_name};
+ghost use Rattle.herm_model.specs.Values as model;
+ghost use Rattle.herm_model.specs.Values.{cell, cell_at, no_parts, part};
+ghost use Rattle.herm_forms.specs.Excess.{excess_over_full};
+ghost use Rattle.herm_forms.specs.Frames.{Frame as ModelFrame, cleared, drop};
+ghost use Rattle.herm_instructions.specs.Instructions as instructions;
+ghost use Rattle.herm_code_machine.specs.ReadyCode.{ReadyCode};
+ghost use Rattle.herm_code_machine.specs.Effects.{effect};
+ghost use Rattle.herm_types.specs.View.{path_view};
+ghost use Rattle.herm_values.specs.View.{value_view};
+ghost use Rattle.herm_values.specs.Whole.{IsWhole};
+ghost use Rattle.herm_frames.specs.Completed.{Effects};
+ghost use Rattle.herm_frames.specs.Scopes.{IsOf};
+ghost use Rattle.herm_frames.specs.Standing.{Stands};
+
+use crate::excess::excess_over_full;
+use crate::frame::Frame;
+use crate::outcome::Outcome;
+use herm_base::TypeNo;
+use herm_types::{Path, TypeTable};
+use herm_values::Value;
+use std::alloc::{AllocError, Global};
+
+impl Frame {
+    /// Finalises what the value at a path holds beyond a full one, where the variables have these types.
+    fn drop_excess(
+        &mut self,
+        alloc: Global,
+        types: &TypeTable,
+        of: &[TypeNo],
+        source: &Path,
+    ) -> Result<(), AllocError>
+        ensures stands { OnOk result ((c : ReadyCode) (s : ModelFrame ⊤) → IsOf types.now of.now c → Stands self.old s → Stands self.new (drop (excess_over_full c.scope (path_view source.now) s) s)) }
+    {
+        let lost = excess_over_full(alloc, types, of, &self.variables, source)?;
+        self.drop_all(lost.as_slice())?;
+        Ok(())
+    }
+
+    /// Takes what stands at a path, without what it holds beyond a full value, which is finalised.
+    pub fn take_full(
+        &mut self,
+        alloc: Global,
+        types: &TypeTable,
+        of: &[TypeNo],
+        source: &Path,
+    ) -> Result<Option<Value>, AllocError>
+        ensures taken { IfOk result (λ o. (c : ReadyCode) (s : ModelFrame ⊤) → IsOf types.now of.now c → Stands self.old s → option_map value_view o ≡ cell_at (path_view source.now) (drop (excess_over_full c.scope (path_view source.now) s) s).variables) }
+        ensures stands { OnOk result ((c : ReadyCode) (s : ModelFrame ⊤) → IsOf types.now of.now c → Stands self.old s → Stands self.new (cleared (path_view source.now) (drop (excess_over_full c.scope (path_view source.now) s) s))) }
+        ensures whole { IfOk result (λ o. IfSome o IsWhole) }
+    {
+        self.drop_excess(alloc, types, of, source)?;
+        Ok(self.take(source))
+    }
+
+    /// Moves a value from one path to another.
+    pub fn move_value(
+        &mut self,
+        alloc: Global,
+        types: &TypeTable,
+        of: &[TypeNo],
+        source: &Path,
+        target: &Path,
+    ) -> Result<Outcome, AllocError>
+        ensures effect { IfOk result (λ r. (c : ReadyCode) (stack : List model.Value) (s : ModelFrame ⊤) → IsOf types.now of.now c → Stands self.old s → Effects r self.new stack (effect forget_name c (instructions.Move (path_view source.now) (path_view target.now)) stack s)) }
+    {
+        let Some(v) = self.take_full(alloc, types, of, source)? else {
+            return Ok(Outcome::Stuck);
+        };
+        let r = self.put_at_end(target, v, Outcome::Next)?;
+        Ok(r)
+    }
+
+    /// Makes a variant of a value, which moves into it.
+    pub fn unite(
+        &mut self,
+        alloc: Global,
+        types: &TypeTable,
+        of: &[TypeNo],
+        target: &Path,
+        component: u32,
+        source: &Path,
+    ) -> Result<Outcome, AllocError>
+        ensures effect { IfOk result (λ r. (c : ReadyCode) (stack : List model.Value) (s : ModelFrame ⊤) → IsOf types.now of.now c → Stands self.old s → Effects r self.new stack (effect forget_name c (instructions.Unite (path_view target.now) component (path_view source.now)) stack s)) }
+    {
+        let Some(v) = self.take_full(alloc, types, of, source)? else {
+            return Ok(Outcome::Stuck);
+        };
+        let variant = variant_of(alloc, component, v)?;
+        let r = self.make_at(target, variant)?;
+        Ok(r)
+    }
+}
+
+/// The variant with this component.
+#[tactic(auto, using(herm_values::proofs::Seen::layers))]
+fn variant_of(alloc: Global, component: u32, content: Value) -> Result<Value, AllocError>
+    ensures variant { IfOk result (λ v. value_view v ≡ cell tt (model.a_variant component) (part (value_view content) no_parts)) }
+    ensures whole { IsWhole content → IfOk result IsWhole }
+{
+    let boxed = Box::new(alloc, content)?;
+    Ok(Value::Case(component, boxed))
+}
