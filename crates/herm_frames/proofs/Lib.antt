@@ -6,3 +6,4 @@ mod LeftLoops
 mod Moved
 mod Removed
 mod Stood
+mod TablesSeen

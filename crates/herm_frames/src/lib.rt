@@ -11,6 +11,7 @@ mod moves;
 mod outcome;
 mod removals;
 mod rows;
+mod tables;
 mod turns;
 mod types;
 
