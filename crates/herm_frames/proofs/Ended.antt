@@ -6,7 +6,7 @@ use Rattle.herm_model.specs.Lists.{map_or, numbered}
 use Rattle.herm_model.specs.Paths.{Path}
 use Rattle.herm_model.specs.Types.{TypeTable, greatest_depth, held_parts}
 use Rattle.herm_model.specs.Values.{Cell, Parts, no_parts, gap, part, part_at, set_part, cell_at, clear_at, has_value}
-use Rattle.herm_model.specs.Finalising.{excess, excess_at, excess_from, is_left}
+use Rattle.herm_model.specs.Finalising.{clear_all, excess, excess_at, excess_from, is_left}
 use Rattle.herm_model.specs.Targets as targets
 use Rattle.herm_model.proofs.Places.{part_at-set_other}
 use Rattle.herm_forms.specs.Frames.{Frame, finalise_old, drop, drop_at, cleared}
@@ -49,6 +49,10 @@ dropped_variables p s = by (cell_at p s.variables)
     by : (o : Option (Cell ⊤)) → (finalise_old o (cleared p s)).variables ≡ clear_at p s.variables
     by None = refl
     by (Some c) = refl
+
+pub all_variables : (paths : List Path) (s : Frame ⊤) → (drop paths s).variables ≡ clear_all paths s.variables
+all_variables [] s = refl
+all_variables (p ∷ paths) s = all_variables paths (drop_at p s) ∙ ap (clear_all paths) (dropped_variables p s)
 
 none_some : {X : Type 0} (o : Option X) → is_some o ≡ false → o ≡ None
 none_some None h = refl

@@ -4,6 +4,8 @@ mod Ended
 mod Exceeding
 mod LeftLoops
 mod Moved
+mod PutBack
 mod Removed
 mod Stood
 mod TablesSeen
+mod Wrapped

@@ -64,7 +64,7 @@ empty_keyed x t keys is h columns = table_keyed (a_table x) x refl ∙ ap (λ t.
 pub empty_whole : (x : Box Table Global) (t : Table) → x.value ≡ t → IsWholeTable t → IsWhole (a_table x)
 empty_whole x t is w = whole-table x (subst IsWholeTable (sym is) w)
 
-nothings_whole : (n : ℕ) → AllWhole (nothings n)
+pub nothings_whole : (n : ℕ) → AllWhole (nothings n)
 nothings_whole zero = All-nil _
 nothings_whole (suc n) = subst AllWhole (one_more n) (All-push (λ o. IfSome o IsWhole) (nothings n) None (nothings_whole n) tt)
 

@@ -9,6 +9,7 @@ mod frame;
 mod loops;
 mod moves;
 mod outcome;
+mod polymorphs;
 mod removals;
 mod rows;
 mod tables;
@@ -19,3 +20,6 @@ pub use frame::Frame;
 pub use loops::Loop;
 pub use moves::tested;
 pub use outcome::Outcome;
+
+#[cfg(test)]
+mod tests;

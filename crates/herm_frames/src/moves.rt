@@ -12,7 +12,7 @@ ghost use Rattle.herm_code_machine.specs.Effects.{effect};
 ghost use Rattle.herm_types.specs.View.{path_view};
 ghost use Rattle.herm_values.specs.Keyed.{keyed_view};
 ghost use Rattle.herm_values.specs.View.{value_view};
-ghost use Rattle.herm_values.specs.Whole.{IsWhole};
+ghost use Rattle.herm_values.specs.Whole.{AllWhole, IsWhole};
 ghost use Rattle.herm_frames.specs.Completed.{Completes, Effects, outcome_view};
 ghost use Rattle.herm_frames.specs.EmptyPlaces.{nothings};
 ghost use Rattle.herm_frames.specs.Standing.{Stands};
@@ -44,8 +44,9 @@ pub fn tested(v: &Value) -> Outcome
 }
 
 /// So many empty places.
-fn empty_places(alloc: Global, n: usize) -> Result<Vec<Option<Value>>, AllocError>
+pub fn empty_places(alloc: Global, n: usize) -> Result<Vec<Option<Value>>, AllocError>
     ensures places { IfOk result (λ places. places.items ≡ nothings n) }
+    ensures whole { IfOk result (λ places. AllWhole places.items) }
 {
     let mut places = Vec::with_capacity(alloc, n)?;
     'places: for _place in 0..n {
@@ -56,7 +57,7 @@ fn empty_places(alloc: Global, n: usize) -> Result<Vec<Option<Value>>, AllocErro
 
 /// A record of so many empty fields.
 #[tactic(auto, using(crate::proofs::Moved::making_lemmas))]
-fn empty_record(alloc: Global, n: usize) -> Result<Value, AllocError>
+pub fn empty_record(alloc: Global, n: usize) -> Result<Value, AllocError>
     ensures record_of { IfOk result (λ v. value_view v ≡ cell tt model.a_record (gaps n)) }
     ensures whole { IfOk result IsWhole }
 {
