@@ -12,7 +12,7 @@ module _ {N : Type 0} where
   nothing-in j [] = refl
   nothing-in j (k ∷ p) = nothing-in k p
 
-  set-own : (i : ℕ) (ps : Parts N) → part_at i ps ≡ None → set_part i None ps ≡ ps
+  pub set-own : (i : ℕ) (ps : Parts N) → part_at i ps ≡ None → set_part i None ps ≡ ps
   set-own i no_parts h = refl
   set-own zero (gap ps) h = refl
   set-own zero (part c ps) h = cc
@@ -34,7 +34,7 @@ module _ {N : Type 0} where
   set-within (suc i) c (part d ps) h = omega (arith, set-within i c ps h)
 
   -- a change that leaves the cell there as it is
-  change-own : (i : ℕ) (g : Cell N → Cell N) (ps : Parts N) → ((d : Cell N) → part_at i ps ≡ Some d → g d ≡ d) → change_part i g ps ≡ ps
+  pub change-own : (i : ℕ) (g : Cell N → Cell N) (ps : Parts N) → ((d : Cell N) → part_at i ps ≡ Some d → g d ≡ d) → change_part i g ps ≡ ps
   change-own i g no_parts h = refl
   change-own zero g (gap ps) h = refl
   change-own zero g (part c ps) h = ap (λ d. part d ps) (h c refl)
