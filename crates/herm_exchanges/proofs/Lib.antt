@@ -1,0 +1,10 @@
+pub mod Told
+pub mod Dropped
+pub mod Sent
+pub mod Looked
+pub mod Worked
+pub mod TakenOut
+pub mod Replied
+pub mod Composed
+pub mod Made
+pub mod Items

@@ -1,0 +1,17 @@
+use Rattle.std.proofs.Common.{map, drop}
+use Rattle.std.specs.List.{All}
+use Rattle.std.specs.Prelude.{⊤}
+use Rattle.herm_model.specs.Outcomes.{Outcome}
+use Rattle.herm_forms.specs.Frames.{Frame, putting_all}
+use Rattle.herm_values.specs.View.{value_view}
+use Rattle.herm_values.specs.Whole.{IsWhole}
+use Rattle.herm_code.specs.View.{argument_view}
+use Rattle.herm_frames.specs.Standing.{Stands}
+use Rattle.herm_exchanges.specs.Heard.{paths_at}
+use Rattle.herm_exchanges.proofs.Replied.{PutsOn}
+use Rattle.herm_exchanges.proofs.hearing.put_kept.Given as goal
+
+abbrev pub invariant-places : goal.invariant-places
+invariant-places l =
+    ((s : Frame ⊤) (o : Outcome) → Stands l.fn.frame s → PutsOn l.frame (paths_at (map argument_view l.arguments) (drop l.place-index l.places)) o (map value_view l.left.items) (putting_all (paths_at (map argument_view l.arguments) l.places) o (map value_view l.initial.left.items) s))
+    × All IsWhole l.left.items
