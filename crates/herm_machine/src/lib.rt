@@ -1,0 +1,9 @@
+//! A process of compiled code: what comes next, what it wants of a place, and whether it has ended.
+#![tactic(auto)]
+
+mod next;
+mod process;
+mod wants;
+
+pub use next::Next;
+pub use process::{End, Process};
