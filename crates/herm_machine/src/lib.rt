@@ -2,8 +2,10 @@
 #![tactic(auto)]
 
 mod next;
+mod operands;
 mod process;
 mod wants;
 
 pub use next::Next;
+pub use operands::{push_operand, push_operands};
 pub use process::{End, Process};
