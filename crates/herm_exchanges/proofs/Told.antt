@@ -102,3 +102,50 @@ first_told arms a rest s w o is at e =
     long : (xs : List Arm) → length xs ≡ length (ports_of_choices (map choice_view xs))
     long [] = refl
     long (x ∷ xs) = ap suc (long xs)
+
+-- instructions that look at no port
+abbrev pub some_take : List ℕ → Option (CellWant ⊤)
+some_take ports = Some (to_take ports)
+
+pub put_nothing : (o : Option ℕ) (x : Option (Cell ⊤)) (ports : List ℕ) (n : ℕ) → option_and_then (λ p. option_map (to_put p) x) o ≡ some_take ports → None ≡ slice_get ports n
+put_nothing None x ports n e = cc
+put_nothing (Some p) None ports n e = cc
+put_nothing (Some p) (Some m) [] n e = refl
+put_nothing (Some p) (Some m) (q ∷ ports) n e = let t : Some (a_put p) ≡ Some (a_take q (suc (length ports))) = ap (option_and_then told) e in cc
+
+pub call_nothing : (o : Option ℕ) (x : Option (Composed ⊤)) (ports : List ℕ) (n : ℕ) → option_and_then (λ p. option_map (λ (c : Composed ⊤). to_put p c.message) x) o ≡ some_take ports → None ≡ slice_get ports n
+call_nothing None x ports n e = cc
+call_nothing (Some p) None ports n e = cc
+call_nothing (Some p) (Some m) [] n e = refl
+call_nothing (Some p) (Some m) (q ∷ ports) n e = let t : Some (a_put p) ≡ Some (a_take q (suc (length ports))) = ap (option_and_then told) e in cc
+
+pub answer_nothing : (o : Option (ℕ × ℕ)) (reply : List (Cell ⊤) → CellReply ⊤) (x : Option (Taken ⊤)) (ports : List ℕ) (n : ℕ) → option_and_then (λ (c : ℕ × ℕ). option_map (λ (t : Taken ⊤). to_answer c.0 c.1 (reply t.cells)) x) o ≡ some_take ports → None ≡ slice_get ports n
+answer_nothing None reply x ports n e = cc
+answer_nothing (Some c) reply None ports n e = cc
+answer_nothing (Some c) reply (Some t) [] n e = refl
+answer_nothing (Some c) reply (Some t) (q ∷ ports) n e = let t : Some (an_answer c.0 c.1) ≡ Some (a_take q (suc (length ports))) = ap (option_and_then told) e in cc
+
+pub ruleset looking = (put_nothing, call_nothing, answer_nothing)
+
+-- the only port
+abbrev taken_from : CellWant ⊤ → List ℕ
+taken_from (to_take ports) = ports
+taken_from _ = []
+
+abbrev ports_in : Option (CellWant ⊤) → List ℕ
+ports_in None = []
+ports_in (Some w) = taken_from w
+
+pub only_first : (o : Option ℕ) (ports : List ℕ) (n : ℕ) → n ≡ 0 → option_map (λ p. to_take (p ∷ [])) o ≡ some_take ports → o ≡ slice_get ports n
+only_first None ports n none e = cc
+only_first (Some p) ports n none e = from n none ∙ ap (λ w. slice_get (ports_in w) n) e
+  where
+    from : (n : ℕ) → n ≡ 0 → Some p ≡ slice_get (p ∷ []) n
+    from n none = ap (λ k. slice_get (p ∷ []) k) (sym none)
+
+pub only_other : (o : Option ℕ) (ports : List ℕ) (n : ℕ) → (n ≡ 0 → ⊥) → option_map (λ p. to_take (p ∷ [])) o ≡ some_take ports → None ≡ slice_get ports n
+only_other None ports n other e = cc
+only_other (Some p) ports zero other e = absurd (other refl)
+only_other (Some p) ports (suc n) other e = ap (λ w. slice_get (ports_in w) (suc n)) e
+
+pub ruleset only_looking = (only_first, only_other)

@@ -18,5 +18,5 @@ pub use hearing::{drop_left, heard};
 pub use making::{create, new_inport};
 pub use receiving::{receive, select};
 pub use sending::{came_back, drop_all, take_message};
-pub use wants::{PortList, Want, port_of_arm, want_of, work_want};
+pub use wants::{PortList, Want, port_at, port_of_arm, want_of, work_want};
 pub use working::{answered, closed};

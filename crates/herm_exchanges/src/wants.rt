@@ -2,6 +2,7 @@
 ghost use Rattle.std.specs.Prelude.{◌≡◌, ℕ, List, Some, map, option_map, option_and_then, slice_get, ⊤};
 ghost use Rattle.herm_model.specs.Values as model;
 ghost use Rattle.herm_model.specs.Values.{cell_at};
+ghost use Rattle.herm_journal.specs.Actions.{to_take};
 ghost use Rattle.herm_journal.specs.Messages.{CellWant};
 ghost use Rattle.herm_journal.specs.Renaming.{forget_name};
 ghost use Rattle.herm_forms.specs.ClosesAndAnswers.{work_wants};
@@ -133,6 +134,35 @@ pub fn port_of_arm(frame: &Frame, arms: &[Arm], place: usize) -> Option<PortNo>
         Some(arm) => inport_at(frame, &arm.port),
         None => None,
     }
+}
+
+/// The port at a place among those that an instruction looks at.
+#[tactic(auto, using(crate::proofs::Told::looking))]
+pub fn port_at(frame: &Frame, instruction: &Instr, place: usize) -> Option<PortNo>
+    ensures port { (c : ReadyCode) (stack : List model.Value) (s : frames.Frame ⊤) (ports : List ℕ) → Stands frame.now s → code_wants forget_name c (instr_view instruction.now) stack s ≡ Some (to_take ports) → option_map (λ p. p.number) result ≡ slice_get ports place }
+{
+    match instruction {
+        Instr::New(_, _) => None,
+        Instr::Send(_, _, _) => None,
+        Instr::Receive(_, port) => only_port(frame, port, place),
+        Instr::Select(arms) => port_of_arm(frame, arms.as_slice(), place),
+        Instr::Call(_, _, _) => None,
+        Instr::Return(_) => None,
+        Instr::ReturnBy(_, _, _) => None,
+        Instr::Create(_, _) => None,
+        _ => None,
+    }
+}
+
+/// The port of the inport at a path, which is the only one that is looked at.
+#[tactic(auto, using(crate::proofs::Told::only_looking))]
+fn only_port(frame: &Frame, port: &Path, place: usize) -> Option<PortNo>
+    ensures port { (s : frames.Frame ⊤) (ports : List ℕ) → Stands frame.now s → exchanges.receive_wants (path_view port.now) s ≡ Some (to_take ports) → option_map (λ p. p.number) result ≡ slice_get ports place }
+{
+    if place == 0 {
+        return inport_at(frame, port);
+    }
+    None
 }
 
 /// The arm at a place.

@@ -1,8 +1,8 @@
 -- Operands push what their instructions do.
-use Rattle.std.proofs.Common.{◌≡◌, ℕ, suc, ◌<◌, List, [], ◌∷◌, map, drop, length, get_or, drop-cons, Bool, true, false, cond, Option, Some, None, option_and_then, option_map, refl, sym, ap, ◌∙◌}
+use Rattle.std.proofs.Common.{◌≡◌, ℕ, suc, ◌<◌, List, [], ◌∷◌, map, drop, length, get_or, drop-cons, Bool, true, false, cond, Some, None, option_and_then, refl, sym, ap, ◌∙◌}
 use Rattle.std.proofs.lemmas.List.{drop-map}
 use Rattle.std.specs.Prelude.{⊤}
-use Rattle.herm_model.specs.Outcomes.{Outcome, ok, is_true, is_false, turn, done, component, arm, raised}
+use Rattle.herm_model.specs.Outcomes.{ok, is_true, is_false, turn, done, component, arm, raised}
 use Rattle.herm_model.specs.Values.{Parts, Value}
 use Rattle.herm_forms.specs.Evaluate.{Evaluated, gives, raises, no_value}
 use Rattle.herm_forms.specs.Frames.{Completion, Frame, goes, stays, stuck}

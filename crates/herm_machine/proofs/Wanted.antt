@@ -1,7 +1,9 @@
 -- What a process wants by what comes next.
 use Rattle.std.proofs.Common.{◌≡◌, ℕ, List, Option, Some, None, option_and_then, refl, sym, ap, subst, ◌∙◌}
 use Rattle.std.specs.Prelude.{⊤}
-use Rattle.herm_model.specs.Values.{Cell, Value}
+use Rattle.herm_model.specs.Values.{a_scalar, a_record, a_variant, a_table, a_polymorph, a_callmessage, an_inport, an_outport, Cell, cell, Value}
+use Rattle.herm_journal.specs.Actions.{to_take}
+use Rattle.herm_forms.specs.ClosesAndAnswers.{work_wants}
 use Rattle.herm_journal.specs.Messages.{CellWant}
 use Rattle.herm_journal.specs.Renaming.{forget_name}
 use Rattle.herm_instructions.specs.Instructions.{Instruction}
@@ -39,3 +41,41 @@ action_wanted c s (an_action q n) p m w is e =
     subst (λ i. WantsOn c s i w) (sym (ap (instruction_in m.instruction) is)) (on_stack_before c s n.instruction w (stack_before_action c q s.frame.variables s.stack) e)
 action_wanted c s (a_local_piece q) p m w is e = absurd (let k : ⊥ = cc in k)
 action_wanted c s nothing p m w is e = absurd (let k : ⊥ = cc in k)
+
+-- where a message is wanted, an action comes
+abbrev some_take : List ℕ → Option (CellWant ⊤)
+some_take ports = Some (to_take ports)
+
+pub record ActionComes (n : CodeNext ⊤) : Type 0 where
+  pub piece : Piece
+  pub met : Met
+  pub is : coming n ≡ coming_action piece met
+
+no_item : (item : Cell ⊤) (ports : List ℕ) → work_wants item ≡ some_take ports → ⊥
+no_item (cell n (a_scalar s) ps) ports e = let k : ⊥ = cc in k
+no_item (cell n a_record ps) ports e = let k : ⊥ = cc in k
+no_item (cell n (a_variant c) ps) ports e = let k : ⊥ = cc in k
+no_item (cell n a_table ps) ports e = let k : ⊥ = cc in k
+no_item (cell n (a_polymorph t) ps) ports e = let k : ⊥ = cc in k
+no_item (cell n (a_callmessage caller call) ps) ports e = let k : ⊥ = cc in k
+no_item (cell n (an_inport port) ps) ports e = let k : ⊥ = cc in k
+no_item (cell n (an_outport port) ps) ports e = let k : ⊥ = cc in k
+
+pub action_comes : (c : ReadyCode) (s : CodeState ⊤) (n : CodeNext ⊤) (ports : List ℕ) → wanted_next forget_name c s n ≡ some_take ports → ActionComes n
+action_comes c s (an_item item work) ports e = absurd (no_item item ports e)
+action_comes c s (a_reply call i instruction) ports e = absurd (let k : ⊥ = cc in k)
+action_comes c s (an_action p m) ports e = record { piece = p; met = m; is = refl }
+action_comes c s (a_local_piece p) ports e = absurd (let k : ⊥ = cc in k)
+action_comes c s nothing ports e = absurd (let k : ⊥ = cc in k)
+
+pub not_item : (n : CodeNext ⊤) → ActionComes n → coming_item ≡ coming n → ⊥
+not_item n a is = let e : coming_item ≡ coming_action a.piece a.met = is ∙ a.is in let k : ⊥ = cc in k
+
+pub not_reply : (n : CodeNext ⊤) (i : ℕ) (instruction : Instruction) → ActionComes n → coming_reply i instruction ≡ coming n → ⊥
+not_reply n i instruction a is = let e : coming_reply i instruction ≡ coming_action a.piece a.met = is ∙ a.is in let k : ⊥ = cc in k
+
+pub not_piece : (n : CodeNext ⊤) (p : Piece) → ActionComes n → coming_piece p ≡ coming n → ⊥
+not_piece n p a is = let e : coming_piece p ≡ coming_action a.piece a.met = is ∙ a.is in let k : ⊥ = cc in k
+
+pub not_nothing : (n : CodeNext ⊤) → ActionComes n → coming_nothing ≡ coming n → ⊥
+not_nothing n a is = let e : coming_nothing ≡ coming_action a.piece a.met = is ∙ a.is in let k : ⊥ = cc in k

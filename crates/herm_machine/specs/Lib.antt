@@ -1,3 +1,6 @@
 pub mod Coming
+pub mod Behind
 pub mod HeldProcesses
+pub mod Kinds
+pub mod Operators
 pub mod StandingAt

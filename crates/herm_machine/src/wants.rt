@@ -1,5 +1,6 @@
 //! What a process wants of a place.
-ghost use Rattle.std.specs.Prelude.{◌≡◌, Some, None, map, option_map, slice_get, true, ⊤};
+ghost use Rattle.std.specs.Prelude.{◌≡◌, ℕ, List, Some, None, map, option_map, slice_get, true, ⊤};
+ghost use Rattle.herm_journal.specs.Actions.{to_take};
 ghost use Rattle.herm_journal.specs.Messages.{CellWant};
 ghost use Rattle.herm_forms.specs.ClosesAndAnswers.{work_wants};
 ghost use Rattle.herm_values.specs.Works.{item_view};
@@ -14,7 +15,8 @@ ghost use Rattle.herm_machine.specs.StandingAt.{StandsAt};
 
 use crate::next::Next;
 use crate::process::Process;
-use herm_exchanges::{Want, want_of, work_want};
+use herm_base::PortNo;
+use herm_exchanges::{Want, port_at, want_of, work_want};
 use herm_pieces::Code;
 
 impl Process {
@@ -28,6 +30,19 @@ impl Process {
             Next::Item => self.work_wanted(),
             Next::Reply(_) => Some(Want::Hear),
             Next::Action(_, met) => want_of(&self.frame, met.instruction),
+            Next::Local(_) => None,
+            Next::Nothing => None,
+        }
+    }
+
+    /// The port at a place among those that it looks at, where it wants to take a message.
+    pub fn look(&self, code: &Code, place: usize) -> Option<PortNo>
+        ensures port { (s : CodeState ⊤) (ports : List ℕ) → StandsAt self.now s → code_wanted forget_name (ready_view code.now) s ≡ Some (to_take ports) → option_map (λ p. p.number) result ≡ slice_get ports place }
+    {
+        match self.next(code) {
+            Next::Item => None,
+            Next::Reply(_) => None,
+            Next::Action(_, met) => port_at(&self.frame, met.instruction, place),
             Next::Local(_) => None,
             Next::Nothing => None,
         }

@@ -1,7 +1,7 @@
-use Rattle.std.proofs.Common.{◌≡◌, map, drop, suc, None, Some, cond, sym, ap, subst, ◌∙◌}
+use Rattle.std.proofs.Common.{map, drop, suc, None, Some, cond, sym, ap, ◌∙◌}
 use Rattle.std.proofs.Math.ListN.{drop_of_length-le}
 use Rattle.herm_code.specs.View.{instr_view}
-use Rattle.herm_code_machine.specs.Pieces.{behind_operands, operand, pushed}
+use Rattle.herm_code_machine.specs.Pieces.{behind_operands}
 use Rattle.herm_pieces.specs.View.{ready_view}
 use Rattle.herm_stack.specs.Answers.{on_stack}
 use Rattle.herm_machine.proofs.Pushed.{at_item, behind_none, behind_other, from_first}
