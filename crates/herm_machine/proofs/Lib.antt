@@ -1,3 +1,4 @@
 pub mod Wanted
 pub mod Pushed
 pub mod Led
+pub mod Counted
