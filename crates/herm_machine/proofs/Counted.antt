@@ -1,5 +1,5 @@
 -- The counts of steps and actions make no difference to what is sent.
-use Rattle.std.proofs.Common.{◌≡◌, ℕ, suc, List, Bool, true, false, Option, Some, option_map, option_and_then, sym, ap, ◌∙◌}
+use Rattle.std.proofs.Common.{◌≡◌, ℕ, suc, List, Bool, true, false, Option, Some, None, option_map, option_and_then, refl, sym, ap, ◌∙◌}
 use Rattle.std.specs.Prelude.{⊤}
 use Rattle.herm_model.specs.Paths.{Path}
 use Rattle.herm_model.specs.Values.{cell_at}
@@ -29,3 +29,14 @@ pub sent_message : (lost : List Path) (x port : Path) (has_step : Bool) (s : Fra
     → send_wants lost x port s ≡ Some (to_put p (value_view v))
 sent_message lost x port true s p v e at = sym (same_wants lost x port true s) ∙ e ∙ ap (option_and_then (message_to v)) at
 sent_message lost x port false s p v e at = sym (same_wants lost x port false s) ∙ e ∙ ap (option_and_then (message_to v)) at
+
+-- no message is there
+abbrev pub message_none : ℕ → Option (CellWant ⊤)
+message_none q = None
+
+none_anywhere : (o : Option ℕ) → option_and_then message_none o ≡ None
+none_anywhere None = refl
+none_anywhere (Some q) = refl
+
+pub sent_nothing : (lost : List Path) (x port : Path) (has_step : Bool) (s : Frame ⊤) → send_wants lost x port (counted_action (counted_if has_step s)) ≡ option_and_then message_none (outport_at port (counted_action (counted_if has_step s))) → send_wants lost x port s ≡ None
+sent_nothing lost x port has_step s e = sym (same_wants lost x port has_step s) ∙ e ∙ none_anywhere (outport_at port (counted_action (counted_if has_step s)))

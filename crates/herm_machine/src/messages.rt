@@ -1,5 +1,5 @@
 //! Messages that are taken out before they are put.
-ghost use Rattle.std.specs.Prelude.{◌≡◌, ◌<◌, ℕ, Some, map, IfOk, IfSome, ⊤};
+ghost use Rattle.std.specs.Prelude.{◌≡◌, ◌<◌, ℕ, Some, None, map, option_and_then, IfOk, IfSome, IfNone, ⊤};
 ghost use Rattle.herm_journal.specs.Actions.{put, to_put};
 ghost use Rattle.herm_journal.specs.Renaming.{forget_name};
 ghost use Rattle.herm_model.specs.Paths as paths;
@@ -43,6 +43,7 @@ pub fn take_sent(
     requires actions { frame.old.actions < u64.MAX }
     ensures wanted { IfOk result (λ r. IfSome r (λ v. (s : frames.Frame ⊤) (port : paths.Path) (p : ℕ) → Stands frame.old s → outport_at port s ≡ Some p → Wants (ready_view code.now) (instructions.Send (path_view source.now) port (map path_view trim.now)) (to_put p (value_view v)) s (stack_before_action (ready_view code.now) (piece_view piece) s.variables (on_stack stack.old)))) }
     ensures placed { IfOk result (λ r. IfSome r (λ v. (s : frames.Frame ⊤) (port : paths.Path) (at number : ℕ) (m : model.Value) → Stands frame.old s → Places (ready_view code.now) (instructions.Send (path_view source.now) port (map path_view trim.now)) at (put (Some number) m) (counted_action (counted_if piece.has_step s)) (stack_before_action (ready_view code.now) (piece_view piece) s.variables (on_stack stack.old)) (on_stack stack.new) frame.new)) }
+    ensures absent { IfOk result (λ r. IfNone r ((s : frames.Frame ⊤) (port : paths.Path) → Stands frame.old s → option_and_then (λ st. code_wants forget_name (ready_view code.now) (instructions.Send (path_view source.now) port (map path_view trim.now)) st s) (stack_before_action (ready_view code.now) (piece_view piece) s.variables (on_stack stack.old)) ≡ None)) }
     ensures whole { IfOk result (λ r. IfSome r IsWhole) }
 {
     if !push_operands(alloc, code, frame, piece, stack)? {
