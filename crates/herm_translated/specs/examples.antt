@@ -1,3 +1,4 @@
 -- Code of small programs.
 pub mod CheckedByRounds
 pub mod CodeOfPrograms
+pub mod TheRing

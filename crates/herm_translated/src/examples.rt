@@ -6,6 +6,7 @@ ghost use Rattle.herm_source.specs.examples.Programs.{greeting, left_loop, two_s
 ghost use Rattle.herm_source.specs.examples.CallPrograms.{kept_parameter};
 ghost use Rattle.herm_source.specs.examples.CheckedExamples.{nested_loops};
 ghost use Rattle.herm_translated.specs.examples.CheckedByRounds.{image_by};
+ghost use Rattle.herm_translated.specs.examples.TheRing.{HasAtMost, instruction_counts, statement_counts, token_ring};
 ghost use Rattle.herm_translated.specs.examples.CodeOfPrograms.{HasLines, ListsIndices, greeting_lines, left_loop_lines, nested_loops_lines, sender_lines};
 
 /// The images of small programs pass the test of good code.
@@ -28,4 +29,12 @@ pub fn code_is_as_by_hand()
     ensures nested { HasLines (image_by 3 nested_loops) 0 nested_loops_lines }
     ensures sender { HasLines (image_by 3 (two_senders 2)) 0 sender_lines }
     ensures sender_labels { ListsIndices (image_by 3 (two_senders 2)) 0 (1 ∷ 6 ∷ 12 ∷ 13 ∷ 24 ∷ 25 ∷ 31 ∷ []) }
+{}
+
+/// A ring of nodes that pass a token has 36 statements, which become 139 instructions, fewer than four each; its image passes the test of good code.
+pub fn a_ring_is_short()
+    ensures statements { statement_counts (token_ring 100 10000) ≡ (12 ∷ 24 ∷ []) }
+    ensures instructions { instruction_counts (image_by 4 (token_ring 100 10000)) ≡ (56 ∷ 83 ∷ []) }
+    ensures bar { HasAtMost (image_by 4 (token_ring 100 10000)) (token_ring 100 10000) 4 }
+    ensures good { is_good 7 (image_by 4 (token_ring 100 10000)) ≡ true }
 {}

@@ -149,9 +149,15 @@ module _ (count : ℕ) (table : TypeTable) (processes : List Process) (p : Proce
         by true on =
             let one = one-plain (suc i) (edges_of c i n (list_in drops i)) (and-both _ _ on).0 in
             inr (record {
-              before = i; node_before = n; place = j; exit = x;
+              before = i;
+              node_before = n;
+              place = j;
+              exit = x;
               next = at-next the_edge (edges_of c i n (list_in drops i)) one.edge one.only one.arrival j there to-k;
-              there = at-i; exit_there = at-j; leads = leads; onward = on;
+              there = at-i;
+              exit_there = at-j;
+              leads = leads;
+              onward = on;
             })
 
     gone : (i : ℕ) (q : Point) (e : Edge) → IsWithinLoop (node i) → slice_get (flow_of table p).points i ≡ Some q → IsIn e q.edges → IsWithinLoop e.target
