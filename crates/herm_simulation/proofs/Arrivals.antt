@@ -3,7 +3,7 @@ use Rattle.std.proofs.Common.{◌≡◌, inl, inr, ℕ, suc, ◌+◌, ◌<◌, L
 use Rattle.std.specs.Prelude.{find, ◌||◌}
 use Rattle.std.proofs.lemmas.Bool.{eq-eqb}
 use Rattle.herm_model.specs.Lists.{IsIn, any_pass}
-use Rattle.herm_model.specs.Paths.{Path, Fact}
+use Rattle.herm_model.specs.Paths.{Path}
 use Rattle.herm_model.specs.Exits.{Exit, exits}
 use Rattle.herm_model.specs.Nodes.{Node}
 use Rattle.herm_model.specs.Outcomes.{Outcome, same_outcome, outcomes}

@@ -9,7 +9,7 @@ use Rattle.herm_model.specs.Exits.{Exit, exits}
 use Rattle.herm_model.specs.Expressions.{Literal}
 use Rattle.herm_model.specs.Labels.{Labels}
 use Rattle.herm_model.specs.Nodes.{Node, process_nodes}
-use Rattle.herm_model.specs.Outcomes.{Outcome, ok, raised, outcomes}
+use Rattle.herm_model.specs.Outcomes.{Outcome, raised, outcomes}
 use Rattle.herm_model.specs.Statements.{Process}
 use Rattle.herm_model.specs.TypedStatements.{IsTypedForm}
 use Rattle.herm_model.specs.Targets.{Target, node, end, end_by}
@@ -28,13 +28,13 @@ use Rattle.herm_code_machine.specs.laws.GoodImageLaws.{IsGoodOver, labelled_code
 use Rattle.herm_translated.specs.Constants.{literals_in}
 use Rattle.herm_translated.specs.BlockLabels.{label_with}
 use Rattle.herm_translated.specs.CodeBlocks.{CheckedModule, CodeBlock, block_of, blocks_from, blocks_of, entry_edge, slots_within, slots_around, departure, departures_of, edges_of, goes_onward, arrival_at, slots_left, first_list, further_lists}
-use Rattle.herm_translated.specs.Departures.{Arrival, to_block, to_second_step, to_end, to_end_by, Departure, edge_code, edge_length}
+use Rattle.herm_translated.specs.Departures.{to_block, Departure, edge_code, edge_length}
 use Rattle.herm_translated.specs.Fronts.{front}
 use Rattle.herm_translated.specs.Layout.{landings_by, edge_at, edges_at, exit_of, block_code}
 use Rattle.herm_translated.specs.Translated.{laid_out}
 use Rattle.herm_translated.specs.laws.CheckedBlocks.{checked, HasLinkedBlocks}
 use Rattle.herm_translated.specs.laws.LayoutLaws.{start, IsInBlock}
-use Rattle.herm_translated.specs.laws.LabelsAtEdges.{IsTypedBlock, AreReached, AreTypedBlocks}
+use Rattle.herm_translated.specs.laws.LabelsAtEdges.{AreReached, AreTypedBlocks}
 use Rattle.herm_translated.proofs.Addresses.{outcome_of, first-here, laid-out, edges-there}
 use Rattle.herm_translated.proofs.Joined.{got-within}
 use Rattle.herm_translated.proofs.Lengths.{block-long, edge-long}

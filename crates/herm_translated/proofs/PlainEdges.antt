@@ -1,5 +1,5 @@
 -- The one edge of a block that goes on to the next one.
-use Rattle.std.proofs.Common.{◌≡◌, ℕ, List, [], ◌∷◌, Bool, true, false, refl, sym, ap, ◌∙◌, true≢false}
+use Rattle.std.proofs.Common.{◌≡◌, ℕ, List, [], ◌∷◌, true, refl, sym, ap, true≢false}
 use Rattle.std.proofs.lemmas.Bool.{eqb-true}
 use Rattle.herm_model.specs.Outcomes.{Outcome, ok}
 use Rattle.herm_model.specs.Paths.{Path}

@@ -1,11 +1,11 @@
 -- The facts of a block that no edge leads to, and which the form before hands on, are those of its node's label.
 use Rattle.std.proofs.Common.{◌≡◌, ◌↔◌, ℕ, zero, suc, ◌+◌, length, List, [], ◌∷◌, ◌++◌, filter, Bool, true, false, cond, not, ◌||◌, nat_eq, Some, option_map, slice_get, ◌⊎◌, inl, inr, refl, sym, ap, ap₂, subst, ◌∙◌, arith, true≢false}
 use Rattle.std.proofs.lemmas.Bool.{eq-eqb, eqb-true}
-use Rattle.herm_model.specs.Lists.{IsIn, any_pass, list_of}
+use Rattle.herm_model.specs.Lists.{IsIn, any_pass}
 use Rattle.herm_model.specs.Paths.{Path, Fact, path_of, same_fact, is_at_or_below}
 use Rattle.herm_model.specs.Types.{TypeTable}
 use Rattle.herm_model.specs.Statements.{Form, Process}
-use Rattle.herm_model.specs.Outcomes.{Outcome, ok}
+use Rattle.herm_model.specs.Outcomes.{ok}
 use Rattle.herm_model.specs.Labels.{Labels, label_at, AreInductive, AreExact}
 use Rattle.herm_model.specs.Targets.{Target, node, end, end_by}
 use Rattle.herm_model.specs.Nodes.{Node, process_nodes, entry_of}
@@ -27,7 +27,7 @@ use Rattle.herm_instructions.specs.Images.{Image}
 use Rattle.herm_translated.specs.Departures.{Arrival, to_block, to_second_step, Departure}
 use Rattle.herm_translated.specs.CodeBlocks.{CheckedModule, CodeBlock, is_for, slots_within, first_list, further_lists, number_at, slots_around, arrival_at, departure, departures_of, edges_of, goes_onward, block_of, blocks_from, blocks_of, entry_edge}
 use Rattle.herm_translated.specs.BlockLabels.{facts_after, comes_first}
-use Rattle.herm_translated.specs.Settled.{settled_from, settled}
+use Rattle.herm_translated.specs.Settled.{settled_from}
 use Rattle.herm_translated.specs.laws.CheckedBlocks.{checked, facts_in, SettledFactsAreListed}
 use Rattle.herm_translated.proofs.Joined.{got-within}
 use Rattle.herm_translated.proofs.StructureKept.{led-entry, led-edge}

@@ -1,5 +1,5 @@
 -- What is held behind an edge of a typed process with exact labels.
-use Rattle.std.proofs.Common.{◌≡◌, ◌↔◌, ℕ, List, [], ◌∷◌, ◌++◌, filter, Bool, true, false, cond, not, Some, option_map, slice_get, ◌⊎◌, inl, inr, refl, sym, ap, subst, ◌∙◌, true≢false}
+use Rattle.std.proofs.Common.{◌≡◌, ◌↔◌, ℕ, List, [], ◌∷◌, ◌++◌, Bool, true, false, cond, Some, option_map, slice_get, ◌⊎◌, inl, inr, refl, sym, ap, subst, ◌∙◌, true≢false}
 use Rattle.herm_model.specs.Lists.{IsIn, any_pass, numbered}
 use Rattle.herm_model.specs.Paths.{Fact, init, path_of, same_fact, is_at_or_below}
 use Rattle.herm_model.specs.Types.{TypeTable}
@@ -8,14 +8,14 @@ use Rattle.herm_model.specs.Statements.{Process}
 use Rattle.herm_model.specs.Nodes.{Node, process_nodes, entry_of}
 use Rattle.herm_model.specs.Exits.{Exit, exits}
 use Rattle.herm_model.specs.Targets.{node}
-use Rattle.herm_model.specs.FactsOfStatements.{needs, makes, kills}
+use Rattle.herm_model.specs.FactsOfStatements.{needs}
 use Rattle.herm_model.specs.Labels.{Labels, AreExact}
 use Rattle.herm_model.specs.MissingFacts.{demands_at, IsAccepted}
 use Rattle.herm_model.specs.ControlPaths.{Edge, edge, point, Flow, flow_of, Hop, held_after_edge, held_at_start, IsControlPath, IsReached, Holds, Lacks}
 use Rattle.herm_model.specs.WellFormedTables.{IsWellFormedTable}
 use Rattle.herm_model.specs.TypedPrograms.{IsTypedProcess}
-use Rattle.herm_model.proofs.Lists.{in-append_left, in-append_right, in-append_cases, in-map, in-flat_map, in-filter, in-filter_from, slice_get-map}
-use Rattle.herm_model.proofs.FactTests.{listed-IsIn, IsIn-listed, got-IsIn, at-numbered}
+use Rattle.herm_model.proofs.Lists.{in-map, in-flat_map, slice_get-map}
+use Rattle.herm_model.proofs.FactTests.{got-IsIn, at-numbered}
 use Rattle.herm_model.proofs.Equality.{same_fact-is, same_fact_self}
 use Rattle.herm_model.proofs.Walks.{walk-common, same_held}
 use Rattle.herm_model.proofs.Reached.{hop_by, hop-taken, walk-more, standing_at}
@@ -24,7 +24,6 @@ use Rattle.herm_model.proofs.HeldDecided.{holds-or_lacks}
 use Rattle.herm_model.proofs.DeterminedRefusals.{accepted-held}
 use Rattle.herm_model.proofs.DifferentOutcomes.{process-EdgesDiffer}
 use Rattle.herm_model.proofs.ThereFacts.{held-facts}
-use Rattle.herm_translated.specs.BlockLabels.{facts_after}
 use Rattle.herm_translated.proofs.Joined.{got-within}
 pub use Rattle.herm_translated.proofs.SettledFacts.{listed-behind}
 

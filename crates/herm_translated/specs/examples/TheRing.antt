@@ -1,5 +1,5 @@
 -- The ring of nodes that pass a token, and how many instructions its statements become.
-use Rattle.std.specs.Prelude.{ℕ, ◌*◌, pos, true, List, [], ◌∷◌, ◌++◌, map, length, nat_le, codes, ◌≡◌}
+use Rattle.std.specs.Prelude.{ℕ, ◌*◌, true, List, [], ◌∷◌, ◌++◌, map, length, nat_le, codes, ◌≡◌}
 use Rattle.herm_model.specs.Lists.{total}
 use Rattle.herm_model.specs.Types.{TypeTable, predefined, fields, inport, outport}
 use Rattle.herm_model.specs.Expressions.{copy, operation, equal, less, plus, minus, boolean}
