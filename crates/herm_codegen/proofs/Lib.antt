@@ -7,3 +7,6 @@ pub mod Shared
 pub mod Sizes
 pub mod WalkSteps
 pub mod Ranged
+pub mod Trimmed
+pub mod HeldHere
+pub mod SelectSeen

@@ -96,3 +96,44 @@ or-nested false b c = refl
 pub any-append : {X : Type 0} (test : X → Bool) (xs ys : List X) → any_pass test (xs ++ ys) ≡ (any_pass test xs || any_pass test ys)
 any-append test [] ys = refl
 any-append test (x ∷ xs) ys = ap (λ b. test x || b) (any-append test xs ys) ∙ sym (or-nested (test x) (any_pass test xs) (any_pass test ys))
+
+module _ (test : Span → Bool) where
+  two-parts : (old mid new : Bool) (xs ys : List Span) → new ≡ (mid || any_pass test ys) → mid ≡ (old || any_pass test xs) → new ≡ (old || any_pass test (xs ++ ys))
+  two-parts old mid new xs ys e f = e ∙ (ap (λ b. b || any_pass test ys) f ∙ (or-nested old (any_pass test xs) (any_pass test ys) ∙ ap (λ b. old || b) (sym (any-append test xs ys))))
+
+  abbrev a_span : (first length : ℕ) → Span
+  a_span first length = record { first = first; length = length }
+
+  mutual
+    pub loops-walked : (s : Statement) (w : Walk) (number : ℕ) → w.next ≡ number → any_pass test (walk_statement s w).loops ≡ (any_pass test w.loops || any_pass test (loops_of s number))
+    loops-walked (simple form) w number e = or-none (any_pass test w.loops)
+    loops-walked (choosing form blocks) w number e = blocks-loops blocks (with_form form w) (suc number) (ap (λ n. n + 1) e ∙ omega arith)
+    loops-walked (repeating form body) w number e =
+        any-append test (walk_block body (with_form form w)).loops (_ ∷ [])
+        ∙ (ap₂ (λ a b. a || b) (block-loops body (with_form form w) (suc number) (ap (λ n. n + 1) e ∙ omega arith))
+        (sym (or-none (test (a_span w.next ((walk_block body (with_form form w)).next - w.next))))
+        ∙ ap₂ (λ m n. test (a_span m n)) e (ap₂ (λ m n. m - n) (block-next body (with_form form w) (number + 1) (ap (λ n. n + 1) e)) e ∙ omega arith))
+        ∙ or-turned (any_pass test w.loops) (any_pass test (loops_in body (suc number))) (test (a_span number (suc (numbers_of_block body)))))
+    loops-walked leaving w number e = or-none (any_pass test w.loops)
+    loops-walked (trying body handlers) w number e =
+        two-parts (any_pass test w.loops) (any_pass test (walk_block body (counted w)).loops) _ (loops_in body (suc number)) (loops_in_handlers handlers (suc number + numbers_of_block body))
+        (handlers-loops handlers (walk_block body (counted w)) (suc number + numbers_of_block body) (block-next body (counted w) (suc number) (ap (λ n. n + 1) e ∙ omega arith)))
+        (block-loops body (counted w) (suc number) (ap (λ n. n + 1) e ∙ omega arith))
+
+    pub block-loops : (b : Block) (w : Walk) (number : ℕ) → w.next ≡ number → any_pass test (walk_block b w).loops ≡ (any_pass test w.loops || any_pass test (loops_in b number))
+    block-loops no_statements w number e = or-none (any_pass test w.loops)
+    block-loops (statement s rest) w number e =
+        two-parts (any_pass test w.loops) (any_pass test (walk_statement s w).loops) _ (loops_of s number) (loops_in rest (number + numbers_of s))
+        (block-loops rest (walk_statement s w) (number + numbers_of s) (next-walked s w number e)) (loops-walked s w number e)
+
+    blocks-loops : (bs : Blocks) (w : Walk) (number : ℕ) → w.next ≡ number → any_pass test (walk_blocks bs w).loops ≡ (any_pass test w.loops || any_pass test (loops_in_blocks bs number))
+    blocks-loops no_blocks w number e = or-none (any_pass test w.loops)
+    blocks-loops (block b rest) w number e =
+        two-parts (any_pass test w.loops) (any_pass test (walk_block b w).loops) _ (loops_in b number) (loops_in_blocks rest (number + numbers_of_block b))
+        (blocks-loops rest (walk_block b w) (number + numbers_of_block b) (block-next b w number e)) (block-loops b w number e)
+
+    handlers-loops : (hs : Handlers) (w : Walk) (number : ℕ) → w.next ≡ number → any_pass test (walk_handlers hs w).loops ≡ (any_pass test w.loops || any_pass test (loops_in_handlers hs number))
+    handlers-loops no_handlers w number e = or-none (any_pass test w.loops)
+    handlers-loops (handler x b rest) w number e =
+        two-parts (any_pass test w.loops) (any_pass test (walk_block b w).loops) _ (loops_in b number) (loops_in_handlers rest (number + numbers_of_block b))
+        (handlers-loops rest (walk_block b w) (number + numbers_of_block b) (block-next b w number e)) (block-loops b w number e)

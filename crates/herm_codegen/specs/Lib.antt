@@ -7,3 +7,4 @@ pub mod View
 pub mod Blocks
 pub mod Walked
 pub mod Lengths
+pub mod Held
