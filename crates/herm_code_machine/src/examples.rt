@@ -1,21 +1,22 @@
 // Runs of code by hand, computed from the definitions. The comments on the code have the programs as they are written.
 
 ghost use Rattle.herm_code_machine.specs.examples.BranchingCode.{by_component, by_port, caught_row, compares, taken_by_key};
-ghost use Rattle.herm_code_machine.specs.examples.CallingCode.{answering_code, arguments_of_call, asks, atoms_of_call, keeps_of_call, kept_parameter, losing_code};
+ghost use Rattle.herm_code_machine.specs.examples.CallingCode.{answering_code, arguments_of_call, asks, atoms_of_call, keeps_of_call, kept_parameter, losing_code, losing_return};
 ghost use Rattle.herm_code_machine.specs.examples.CodeByHand.{greeting_image, left_loop, variable, whole_loop};
 ghost use Rattle.herm_code_machine.specs.examples.EndingCode.{greeting_in_one_step, raising};
 ghost use Rattle.herm_code_machine.specs.laws.InstructionLaws.{CallsAs};
 ghost use Rattle.herm_code_machine.specs.examples.CodeRuns.{code_ending, in_lines, limited};
 ghost use Rattle.herm_system.specs.RunTexts.{plainly, the_journal, with_summary};
-ghost use Rattle.herm_instructions.specs.tests.GoodTests.{is_good};
+ghost use Rattle.herm_instructions.specs.tests.GoodTests.{is_good, keeps};
 ghost use Rattle.herm_instructions.specs.examples.ExampleImages as good;
+ghost use Rattle.herm_instructions.specs.examples.ExampleImages.{busy, denies_by};
 ghost use Rattle.herm_model.specs.TypedPrograms.{main_start};
 ghost use Rattle.herm_code_machine.specs.CodeTypes.{first_type};
 ghost use Rattle.herm_code_machine.specs.ReadyCode.{labelled_image};
 ghost use Rattle.herm_code_machine.specs.laws.GoodImageLaws.{IsGoodOver, labelled_code};
 ghost use Rattle.herm_code_machine.specs.examples.StuckCode.{can_begin, can_step, mended_code, mended_step, stuck_code, stuck_step};
 ghost use Rattle.herm_instructions.specs.laws.CodeExampleLaws.{broken_in_example};
-ghost use Rattle.std.specs.Prelude.{List, Some, [], codes, false, map, replicate, true, ◌∷◌, ◌≡◌};
+ghost use Rattle.std.specs.Prelude.{List, None, Some, [], codes, false, map, replicate, true, ◌∷◌, ◌≡◌};
 
 /// The code of a greeting runs to one line on the console, and four of the six cells are finalised.
 pub fn greeting_is_shown()
@@ -230,7 +231,7 @@ pub fn code_by_hand_meets_the_laws()
 /// Code that breaks one rule alone, of which no process can begin; and, mended, code that is good, of which each can.
 pub fn broken_code_stands_still()
     ensures broken { map (λ e. broken_in_example e.example) stuck_code ≡ map (λ e. e.broken) stuck_code }
-    ensures stuck { map (λ e. can_begin e.example) stuck_code ≡ replicate 9 false }
+    ensures stuck { map (λ e. can_begin e.example) stuck_code ≡ replicate 10 false }
     ensures good { map (λ e. broken_in_example e.example) mended_code ≡ replicate 6 [] }
     ensures begun { map (λ e. can_begin e.example) mended_code ≡ replicate 6 true }
 {}
@@ -243,4 +244,11 @@ pub fn broken_beginning_stops_at_its_step()
     ensures stuck { can_step stuck_step.example ≡ false }
     ensures good { broken_in_example mended_step.example ≡ [] }
     ensures stepped { can_step mended_step.example ≡ true }
+{}
+
+/// A return by an exception that keeps less than the type of its callmessage declares: its code breaks that rule alone, and the caller is
+/// stuck where the reply comes.
+pub fn reply_without_its_kept_parameter_is_stuck()
+    ensures broken { broken_in_example (denies_by busy []) ≡ keeps ∷ [] }
+    ensures stuck { code_ending 60 plainly (limited 1000 4 4) losing_return 1 ≡ None }
 {}

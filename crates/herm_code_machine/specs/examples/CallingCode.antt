@@ -5,7 +5,7 @@ use Rattle.herm_model.specs.Expressions.{Atom, Literal}
 use Rattle.herm_model.specs.Outcomes.{depletion, disconnected}
 use Rattle.herm_instructions.specs.Instructions.{Argument, of_in, of_inout, of_out, Step, Call, Return, Create, End, EndBy}
 use Rattle.herm_instructions.specs.Images.{CodeModule, Image}
-use Rattle.herm_instructions.specs.examples.ExampleImages.{busy, denies, image_of}
+use Rattle.herm_instructions.specs.examples.ExampleImages.{busy, denies, denies_by, image_of}
 use Rattle.herm_instructions.specs.examples.ExampleImages as good
 use Rattle.herm_code_machine.specs.examples.CodeByHand.{line, landing, to, module_by, image_by, variable, part_in, listed, start_paths, receives_start, places, says}
 
@@ -20,6 +20,10 @@ use Rattle.herm_code_machine.specs.examples.CodeByHand.{line, landing, to, modul
 -- }
 abbrev pub kept_parameter : Image
 kept_parameter = image_of (denies ∷ good.asks ∷ [])
+
+-- The same, where the return keeps nothing.
+abbrev pub losing_return : Image
+losing_return = image_of (denies_by busy [] ∷ good.asks ∷ [])
 
 -- the arguments of its call, as they stand in the instruction and in the statement, and what it keeps for an exception
 abbrev pub arguments_of_call : List Argument

@@ -2,10 +2,10 @@
 use Rattle.std.specs.Prelude.{List, [], ◌∷◌, is_some, Bool, Option, option_and_then}
 use Rattle.herm_model.specs.Outcomes.{overflow}
 use Rattle.herm_model.specs.Values.{Name, an_inport, cell, no_parts}
-use Rattle.herm_instructions.specs.Instructions.{negative, Step, Const, Apply, Store, Jump, New, Discard, Remove, LoopStart, LoopNext, LoopDrop, End, EndBy}
+use Rattle.herm_instructions.specs.Instructions.{negative, Step, Const, Load, Apply, Store, Jump, New, Discard, Remove, LoopStart, LoopNext, LoopDrop, End, EndBy}
 use Rattle.herm_instructions.specs.Labels.{listed_at}
 use Rattle.herm_instructions.specs.Images.{CodeModule}
-use Rattle.herm_instructions.specs.tests.GoodTests.{code, typed, stack, facts, slots, in_range, begins, arrives, goes_back, landings}
+use Rattle.herm_instructions.specs.tests.GoodTests.{port, code, typed, stack, facts, slots, in_range, begins, arrives, goes_back, landings}
 use Rattle.herm_instructions.specs.examples.ExampleImages.{values_at, listed, lands}
 use Rattle.herm_instructions.specs.examples.CodeExamples.{CodeExample, plain, landing}
 use Rattle.herm_instructions.specs.laws.CodeExampleLaws.{example_image}
@@ -29,7 +29,7 @@ abbrev pub can_step : CodeModule → Bool
 can_step m = is_some (option_and_then (machine_of m).local_step (begun m))
 
 -- The minus of nothing; no such constant; what has no value is discarded; the next row of no slot; nothing behind the last instruction; a jump to
--- itself; an exception that lands nowhere; no code; a label that says more than what arrives.
+-- itself; an exception that lands nowhere; no code; a label that says more than what arrives; the minus of the inport that every process begins with.
 abbrev pub stuck_code : List CodeExample
 stuck_code =
     landing (4 ∷ []) (Apply negative ∷ End ∷ EndBy overflow ∷ []) ((lands overflow 2 ∷ []) ∷ [] ∷ [] ∷ []) (listed 2 [] (values_at ((0 ∷ []) ∷ [])) [] ∷ []) (stack ∷ [])
@@ -41,6 +41,8 @@ stuck_code =
     ∷ plain (4 ∷ 8 ∷ 9 ∷ []) (New (2 ∷ []) 9 ∷ Const 0 ∷ Remove (1 ∷ []) (2 ∷ []) 1 ∷ End ∷ []) [] (landings ∷ [])
     ∷ plain (4 ∷ []) [] [] (code ∷ [])
     ∷ plain (4 ∷ 2 ∷ []) (Jump 1 ∷ Discard (1 ∷ []) ∷ End ∷ []) (listed 1 [] (values_at ((0 ∷ []) ∷ (1 ∷ []) ∷ [])) [] ∷ []) (arrives ∷ [])
+    ∷ landing (1 ∷ []) (Load (0 ∷ []) ∷ Apply negative ∷ Store (0 ∷ []) ∷ End ∷ EndBy overflow ∷ []) ([] ∷ (lands overflow 4 ∷ []) ∷ [] ∷ [] ∷ [] ∷ []) (listed 4 [] (values_at ((0 ∷ []) ∷ [])) [] ∷ [])
+    (port ∷ [])
     ∷ []
 
 -- The same, mended.
