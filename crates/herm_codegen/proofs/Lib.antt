@@ -1,12 +1,10 @@
 -- Lemmas of the generator.
-pub mod Chains
-pub mod Keys
-pub mod Fronts
-pub mod WalkedNodes
-pub mod Shared
-pub mod Sizes
-pub mod WalkSteps
-pub mod Ranged
-pub mod Trimmed
-pub mod HeldHere
-pub mod SelectSeen
+pub mod MarkedArrivals
+pub mod Beginnings
+pub mod LeftFacts
+pub mod Emitted
+pub mod WrittenModules
+pub mod ProcessCode
+pub mod Literals
+pub mod ProgramCode
+pub mod Steps

@@ -1,10 +1,6 @@
--- What code is made of, and how the types of the code stand for it.
-pub mod Frames
-pub mod Operands
-pub mod Forms
-pub mod Shared
-pub mod View
-pub mod Blocks
-pub mod Walked
-pub mod Lengths
-pub mod Held
+-- What is written of blocks, of processes and of programs.
+pub mod Emitted
+pub mod Arrivals
+pub mod Listed
+pub mod Modules
+pub mod Programs

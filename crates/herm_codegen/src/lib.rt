@@ -1,23 +1,12 @@
-//! The code of a checked program: constants, the nodes of a body, and what each form becomes.
+//! The code of a checked program: its code modules and the constants of all.
 #![tactic(auto)]
 
-pub mod behind;
-mod calls;
-pub mod constants;
-pub mod departures;
-pub mod expressions;
-pub mod frame;
-pub mod held;
-pub mod nodes;
-mod numbers;
-mod one;
-pub mod operands;
-mod parts;
-mod paths;
-mod ports;
-pub mod raised;
-mod shapes;
-mod tables;
-mod trims;
-mod values;
-mod variants;
+mod arrivals;
+mod labels;
+mod layout;
+mod lines;
+mod modules;
+mod process;
+mod program;
+
+pub use program::{Generated, generate};

@@ -46,7 +46,8 @@ use Rattle.herm_good_images.proofs.blocks.BlocksReached.{blocks-complete}
 use Rattle.herm_good_images.proofs.facts.BehindEdges.{listed-behind, label-closed, behind, behind-closed}
 use Rattle.herm_good_images.proofs.blocks.ProcessBlocks.{image, entry, blocks, facts-listed, blocks-sound, entry-sound}
 use Rattle.herm_good_images.proofs.GoodModules.{good-module}
-use Rattle.herm_good_images.proofs.fronts.GoodConstants.{constant-known, constant-of, literal-typed}
+use Rattle.herm_translated.proofs.ConstantsOnce.{constant-known, constant-of}
+use Rattle.herm_good_images.proofs.fronts.GoodConstants.{literal-typed}
 
 listed-closed : (table : TypeTable) (variables : List ℕ) (fs : List Fact) (test : Fact → Type 0) → ((f : Fact) → IsIn f fs ↔ test f) → ((f g : Fact) → test f → IsIn g (prefixes table variables f) → test g) → IsClosed table variables (λ f. IsIn f fs)
 listed-closed table variables fs test listed closed f g h m = (listed g).1 (closed f g ((listed f).0 h) m)

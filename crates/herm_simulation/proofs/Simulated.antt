@@ -1,13 +1,12 @@
 -- The source machine of a checked program and the machine of its image are joined.
-use Rattle.std.proofs.Common.{◌≡◌, inl, inr, ℕ, List, [], ◌∷◌, map, length, Bool, true, false, Option, Some, None, option_map, option_and_then, slice_get, refl, sym, ap, subst, ◌∙◌}
-use Rattle.std.specs.Prelude.{filter, flat_map, not}
+use Rattle.std.proofs.Common.{◌≡◌, ℕ, List, [], ◌∷◌, map, length, true, Option, Some, None, option_map, option_and_then, slice_get, refl, sym, ap, subst, ◌∙◌}
 use Rattle.herm_model.specs.Lists.{IsIn}
 use Rattle.herm_model.specs.Paths.{Fact}
 use Rattle.herm_model.specs.Expressions.{Literal}
 use Rattle.herm_model.specs.Nodes.{Node, process_nodes}
 use Rattle.herm_model.specs.Values.{Name, an_inport, Cell, cell, no_parts}
 use Rattle.herm_model.proofs.FactTests.{got-IsIn}
-use Rattle.herm_model.proofs.Lists.{in-map, in-flat_map, in-filter, slice_get-map, length-map}
+use Rattle.herm_model.proofs.Lists.{in-map, in-flat_map, slice_get-map, length-map}
 use Rattle.herm_model.proofs.Options.{none-not_some, some-injective}
 use Rattle.herm_journal.specs.Entries.{Place}
 use Rattle.herm_journal.specs.Messages.{CellAction}
@@ -44,10 +43,10 @@ use Rattle.herm_translation.proofs.Looks.{standing-looks}
 use Rattle.herm_translated.specs.BlockLabels.{comes_first}
 use Rattle.herm_translated.specs.CodeBlocks.{CheckedModule, slots_around, blocks_of, entry_edge}
 use Rattle.herm_translated.specs.Settled.{settled_from, settled}
-use Rattle.herm_translated.specs.Constants.{same_literal, literals_in, once}
+use Rattle.herm_translated.specs.Constants.{literals_in}
 use Rattle.herm_translated.specs.Translated.{code_of, forms_in, image_for}
 use Rattle.herm_translated.specs.laws.CheckedBlocks.{checked as checked_by}
-use Rattle.herm_translated.proofs.FoundConstants.{same_literal-is}
+use Rattle.herm_translated.proofs.ConstantsOnce.{constant-known}
 use Rattle.herm_translated.proofs.SettledFacts.{settled-listed_all}
 use Rattle.herm_good_images.proofs.blocks.BlocksReached.{blocks-complete}
 use Rattle.herm_simulation.specs.Checks.{IsRight}
@@ -63,16 +62,6 @@ use Rattle.herm_simulation.proofs.Indices.{belongs, stands-there}
 use Rattle.herm_simulation.proofs.LocalSteps.{steps-beside}
 use Rattle.herm_simulation.proofs.Looks.{ready-same, wanted-same, ports-same, calls-same}
 use Rattle.herm_code_machine.proofs.sound.CodeThere.{sound-at}
-
--- a literal that is listed is a constant
-once-in : (ls : List Literal) (l : Literal) → IsIn l ls → IsIn l (once ls)
-once-in [] l h = absurd h
-once-in (k ∷ ls) l (inl e) = inl e
-once-in (k ∷ ls) l (inr h) = by (same_literal k l) refl (once-in ls l h)
-  where
-    by : (b : Bool) → same_literal k l ≡ b → IsIn l (once ls) → IsIn l (k ∷ filter (λ m. not (same_literal k m)) (once ls))
-    by true e m = inl (sym (same_literal-is k l e))
-    by false e m = inr (in-filter (λ m. not (same_literal k m)) l (once ls) m (ap not e))
 
 -- both are there
 both-there : {X Y : Type 0} (R : X → Y → Type 0) (o : Option X) (q : Option Y) (x : X) (y : Y) → o ≡ Some x → q ≡ Some y → R x y → BothOrNone R o q
@@ -136,7 +125,7 @@ module _ (exceptions : ℕ) (program : Program) (modules : Modules) (checked : L
     its-known n h l literal =
         let nodes : IsIn n m.code.nodes = subst (λ (c : Module). IsIn n c.nodes) (sym same-code) h in
         let form : IsIn n.form (forms_in checked) = in-flat_map (λ (m : CheckedModule). map (λ (n : Node). n.form) m.code.nodes) m n.form checked in-checked (in-map (λ (n : Node). n.form) n m.code.nodes nodes) in
-        once-in (flat_map literals_in (forms_in checked)) l (in-flat_map literals_in n.form l (forms_in checked) form literal)
+        constant-known (forms_in checked) n.form l form literal
 
     abbrev pub new_facts : List (List Fact)
     new_facts = settled_from program.types in-module.process.variables (comes_first (entry_edge raw_in) (blocks_of raw_in)) 0 [] (process_nodes in-module.process) m.facts

@@ -15,3 +15,4 @@ pub mod NamedIndices
 pub mod PlainEdges
 pub mod LinkedProcess
 pub mod SettledFacts
+pub mod ConstantsOnce

@@ -2,3 +2,5 @@
 pub mod CheckedByRounds
 pub mod CodeOfPrograms
 pub mod TheRing
+pub mod LeavingPrograms
+pub mod CodeOfLeaving

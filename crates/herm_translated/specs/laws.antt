@@ -6,3 +6,4 @@ pub mod LabelsAtEdges
 pub mod NamedComponents
 pub mod GoodStructure
 pub mod CheckedBlocks
+pub mod ConstantsOfImages

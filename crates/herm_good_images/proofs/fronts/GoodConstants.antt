@@ -1,38 +1,15 @@
--- The constants of a program are the literals of its forms, each of the type of what it is.
-use Rattle.std.proofs.Common.{◌≡◌, ℕ, List, [], ◌∷◌, filter, flat_map, Bool, true, false, not, ◌⊎◌, inl, inr, refl, sym, ap, subst}
+-- The literals of a typed form are each of the type of what it is.
+use Rattle.std.proofs.Common.{◌≡◌, ℕ, List, [], ◌∷◌, ◌⊎◌, inl, inr, refl, sym, subst}
 use Rattle.herm_model.specs.Lists.{IsIn}
 use Rattle.herm_model.specs.Types.{TypeTable, names, Mode, by_in, by_inout, by_out, Parameter}
 use Rattle.herm_model.specs.Expressions.{Literal, boolean, integer, text, tag, Expression, literal, copy, negation, logical_not, operation, size_of, decimal, length_of, Atom}
 use Rattle.herm_model.specs.Statements.{Form, Process}
 use Rattle.herm_model.specs.TypedExpressions.{HasShape, IsLiteralOf, IsTyped}
 use Rattle.herm_model.specs.TypedStatements.{AreArguments, AreKeysOf, IsArgument, IsTypedForm}
-use Rattle.herm_model.proofs.Lists.{in-append_cases, in-filter, in-filter_from, in-flat_map, in-flat_map_from}
+use Rattle.herm_model.proofs.Lists.{in-append_cases}
 use Rattle.herm_model.proofs.DecidedForms.{IsRegular}
 use Rattle.herm_instructions.specs.Operands.{type_of_literal}
-use Rattle.herm_translated.specs.Constants.{same_literal, literals_of, literals_among, literals_in, once, constants_of}
-use Rattle.herm_translated.proofs.FoundConstants.{same_literal-is}
-
--- each literal is kept once
-in-once : (l : Literal) (ls : List Literal) → IsIn l ls → IsIn l (once ls)
-in-once l [] m = m
-in-once l (k ∷ ls) (inl e) = inl e
-in-once l (k ∷ ls) (inr m) = by (same_literal k l) refl (in-once l ls m)
-  where
-    by : (b : Bool) → same_literal k l ≡ b → IsIn l (once ls) → IsIn l (k ∷ filter (λ x. not (same_literal k x)) (once ls))
-    by true e i = inl (sym (same_literal-is k l e))
-    by false e i = inr (in-filter (λ x. not (same_literal k x)) l (once ls) i (ap not e))
-
-once-in : (l : Literal) (ls : List Literal) → IsIn l (once ls) → IsIn l ls
-once-in l [] m = m
-once-in l (k ∷ ls) (inl e) = inl e
-once-in l (k ∷ ls) (inr m) = inr (once-in l ls (in-filter_from (λ x. not (same_literal k x)) l (once ls) m).0)
-
--- the literals of a form are among the constants, and no others
-pub constant-known : (forms : List Form) (form : Form) (l : Literal) → IsIn form forms → IsIn l (literals_in form) → IsIn l (constants_of forms)
-constant-known forms form l m i = in-once l (flat_map literals_in forms) (in-flat_map literals_in form l forms m i)
-
-pub constant-of : (forms : List Form) (l : Literal) → IsIn l (constants_of forms) → (form : Form) × IsIn form forms × IsIn l (literals_in form)
-constant-of forms l m = in-flat_map_from literals_in l forms (once-in l (flat_map literals_in forms) m)
+use Rattle.herm_translated.specs.Constants.{literals_of, literals_among, literals_in}
 
 module _ (types : TypeTable) (regular : IsRegular types) where
   -- a literal of a type is of the type of what it is

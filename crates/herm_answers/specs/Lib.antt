@@ -1,0 +1,5 @@
+pub mod Calling
+pub mod Incomings
+pub mod Orders
+pub mod Puttings
+pub mod Settled

@@ -1,0 +1,6 @@
+-- Checked processes and their blocks.
+pub mod CheckedProcesses
+pub mod Scopes
+pub mod Marked
+pub mod Seen
+pub mod Views

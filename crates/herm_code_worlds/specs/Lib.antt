@@ -1,0 +1,3 @@
+pub mod CodeWorlds
+pub mod BareReports
+pub mod laws

@@ -1,9 +1,0 @@
-use Rattle.std.proofs.Common.{◌≡◌, map, drop}
-use Rattle.herm_typed.specs.View.{outcome_view}
-use Rattle.herm_translated.specs.Layout.{edge_at}
-use Rattle.herm_codegen.specs.Blocks.{departure_view}
-use Rattle.herm_codegen.proofs.departures.exit_at.Given as goal
-
--- Where the edge is among those that are left is where it is among all.
-abbrev pub invariant-edges : goal.invariant-edges
-invariant-edges l = edge_at l.at (map departure_view (drop l.d-index l.exits.edges.now)) (outcome_view l.o) ≡ edge_at l.exits.first (map departure_view l.exits.edges.now) (outcome_view l.o)

@@ -1,0 +1,5 @@
+pub mod ListedFacts
+pub mod DroppedPaths
+pub mod AcceptedModules
+pub mod GivenProcesses
+pub mod ReportedImages

@@ -1,0 +1,2 @@
+pub mod AcceptedPrograms
+pub mod RunningImages

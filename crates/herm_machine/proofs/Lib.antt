@@ -1,4 +1,0 @@
-pub mod Wanted
-pub mod Pushed
-pub mod Led
-pub mod Counted

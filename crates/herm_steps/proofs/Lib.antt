@@ -1,0 +1,9 @@
+pub mod Wanted
+pub mod Pushed
+pub mod Led
+pub mod Counted
+pub mod Done
+pub mod SoundSteps
+pub mod Turned
+pub mod Begun
+pub mod Stepped

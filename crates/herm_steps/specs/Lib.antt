@@ -1,0 +1,12 @@
+pub mod Coming
+pub mod Behind
+pub mod HeldStates
+pub mod Kinds
+pub mod KindsOfCode
+pub mod Operators
+pub mod Performed
+pub mod Sent
+pub mod SoundSteps
+pub mod StandingAt
+pub mod Stepped
+pub mod Turns

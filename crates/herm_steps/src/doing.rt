@@ -1,0 +1,120 @@
+//! Instructions that are neither steps nor actions.
+ghost use Rattle.std.specs.Prelude.{◌≡◌, ◌<◌, IfOk, OnOk, Some, true, length, ⊤};
+ghost use Rattle.herm_journal.specs.Renaming.{forget_name};
+ghost use Rattle.herm_forms.specs.Frames as frames;
+ghost use Rattle.herm_code.specs.View.{instr_view};
+ghost use Rattle.herm_code_machine.specs.CodeStates.{CodeState, done_instruction};
+ghost use Rattle.herm_code_machine.specs.Effects.{effect};
+ghost use Rattle.herm_code_machine.specs.Stacks.{Effect};
+ghost use Rattle.herm_frames.specs.Standing.{Stands};
+ghost use Rattle.herm_instructions.specs.Instructions.{Instruction};
+ghost use Rattle.herm_pieces.specs.View.{position_view, ready_view};
+ghost use Rattle.herm_stack.specs.Answers.{on_stack};
+ghost use Rattle.herm_steps.specs.Behind.{IsBehind};
+ghost use Rattle.herm_steps.specs.Coming.{end_position, end_view};
+ghost use Rattle.herm_steps.specs.KindsOfCode.{IsEndOf};
+ghost use Rattle.herm_steps.specs.Performed.{Performs, behind_effect};
+ghost use Rattle.herm_steps.specs.StandingAt.{StandsAt};
+
+use crate::kinds::{Kind, end_of, kind_of};
+use crate::leading::outcome_of;
+use crate::running::{End, Running};
+use herm_code::Instr;
+use herm_frames::Outcome;
+use herm_pieces::{Code, Position};
+use std::alloc::{AllocError, Global};
+
+impl Running {
+    /// Does the instruction at an index, which is neither a step nor an action. False where it is stuck.
+    pub fn do_instruction(
+        &mut self,
+        alloc: Global,
+        code: &Code,
+        index: usize,
+        instruction: &Instr,
+    ) -> Result<bool, AllocError>
+        requires within { index < length code.now.code.now.code.items }
+        ensures done { IfOk result (λ r. (s : CodeState ⊤) → StandsAt self.old s → IsBehind r self.new s (done_instruction forget_name (ready_view code.now) s index (instr_view instruction.now))) }
+    {
+        if let Some(end) = end_of(instruction) {
+            self.end_at(alloc, code, end)?;
+            return Ok(true);
+        }
+        let outcome = self.perform(alloc, code, instruction)?;
+        Ok(self.go_on(code, index, instruction, outcome))
+    }
+
+    /// Finalises everything, and ends.
+    fn end_at(&mut self, alloc: Global, code: &Code, end: End) -> Result<(), AllocError>
+        ensures done { OnOk result ((s : CodeState ⊤) (index : _) (i : Instruction) → IsEndOf (Some end) i → StandsAt self.old s → IsBehind true self.new s (done_instruction forget_name (ready_view code.now) s index i)) }
+    {
+        self.frame.end(alloc, code.code.vars.as_slice())?;
+        self.stack.clear();
+        self.position = position_of(end);
+        Ok(())
+    }
+
+    /// Goes on behind what an instruction came to. False where it was stuck, or its outcome leads nowhere.
+    fn go_on(&mut self, code: &Code, index: usize, instruction: &Instr, outcome: Outcome) -> bool
+        requires within { index < length code.now.code.now.code.items }
+        ensures behind { (s : CodeState ⊤) (e : Effect ⊤) → Performs outcome self.old e → IsBehind result self.new s (behind_effect (ready_view code.now) s index (instr_view instruction.now) e) }
+    {
+        match outcome_of(outcome) {
+            Some(led) => self.lead_on(code, index, instruction, led),
+            None => false,
+        }
+    }
+
+    /// Performs an instruction, by its kind.
+    fn perform(
+        &mut self,
+        alloc: Global,
+        code: &Code,
+        instruction: &Instr,
+    ) -> Result<Outcome, AllocError>
+        ensures performed { IfOk result (λ o. (b : frames.Frame ⊤) → Stands self.old.frame b → Performs o self.new (effect forget_name (ready_view code.now) (instr_view instruction.now) (on_stack self.old.stack) b)) }
+    {
+        match kind_of(instruction) {
+            Kind::Pushing => {
+                let outcome = self.push(alloc, code, instruction)?;
+                Ok(outcome)
+            }
+            Kind::Applying => {
+                let outcome = self.apply(alloc, code, instruction)?;
+                Ok(outcome)
+            }
+            Kind::Combining => {
+                let outcome = self.combine(alloc, code, instruction)?;
+                Ok(outcome)
+            }
+            Kind::Placing => {
+                let outcome = self.place(alloc, code, instruction)?;
+                Ok(outcome)
+            }
+            Kind::Holding => {
+                let outcome = self.hold(alloc, code, instruction)?;
+                Ok(outcome)
+            }
+            Kind::Tabular => {
+                let outcome = self.tabulate(alloc, code, instruction)?;
+                Ok(outcome)
+            }
+            Kind::Looping => {
+                let outcome = self.visit(alloc, code, instruction)?;
+                Ok(outcome)
+            }
+            Kind::Leading => Ok(self.lead(code, instruction)),
+            Kind::Other => Ok(Outcome::Stuck),
+        }
+    }
+}
+
+/// Where a process is behind its end.
+fn position_of(end: End) -> Position
+    ensures position { position_view result ≡ end_position (end_view end) }
+{
+    match end {
+        End::Normal => Position::End,
+        End::By(e) => Position::EndBy(e),
+    }
+}

@@ -1,0 +1,29 @@
+//! A process of compiled code: what comes next, what it wants of a place, and whether it has ended.
+#![tactic(auto)]
+
+mod branching;
+mod doing;
+mod evaluating;
+mod expressions;
+mod holding;
+mod kinds;
+mod leading;
+mod messages;
+mod next;
+mod operands;
+mod placing;
+mod running;
+mod running_on;
+mod sound_steps;
+mod stepping;
+mod tabulating;
+mod visiting;
+mod wants;
+
+pub use expressions::{apply_operator, combine_operands, push_value};
+pub use leading::outcome_of;
+pub use messages::{count_piece, take_sent};
+pub use next::Next;
+pub use operands::{push_operand, push_operands};
+pub use running::{End, Running};
+pub use sound_steps::sound_steps_are_made;

@@ -1,0 +1,60 @@
+//! What a process wants of a place.
+ghost use Rattle.std.specs.Prelude.{◌≡◌, ℕ, List, Some, None, map, option_map, slice_get, true, ⊤};
+ghost use Rattle.herm_journal.specs.Actions.{to_take};
+ghost use Rattle.herm_journal.specs.Messages.{CellWant};
+ghost use Rattle.herm_forms.specs.ClosesAndAnswers.{work_wants};
+ghost use Rattle.herm_values.specs.Works.{item_view};
+ghost use Rattle.herm_journal.specs.Renaming.{forget_name};
+ghost use Rattle.herm_code_machine.specs.CodeSteps.{code_next, code_wanted};
+ghost use Rattle.herm_code_machine.specs.CodeStates.{CodeState};
+ghost use Rattle.herm_model.specs.Values as model;
+ghost use Rattle.herm_pieces.specs.View.{ready_view};
+ghost use Rattle.herm_exchanges.specs.Told.{told, want_view};
+ghost use Rattle.herm_steps.specs.Coming.{coming, wants_nothing};
+ghost use Rattle.herm_steps.specs.StandingAt.{StandsAt};
+
+use crate::next::Next;
+use crate::running::Running;
+use herm_base::PortNo;
+use herm_exchanges::{Want, port_at, want_of, work_want};
+use herm_pieces::Code;
+
+impl Running {
+    /// What it wants of a place: what the machine of code wants, without what is carried. None while a local step or nothing
+    /// comes next.
+    pub fn wants(&self, code: &Code) -> Option<Want>
+        ensures want { (s : CodeState ⊤) (w : CellWant ⊤) → StandsAt self.now s → code_wanted forget_name (ready_view code.now) s ≡ Some w → option_map want_view result ≡ told w }
+        ensures nothing { (s : CodeState ⊤) → StandsAt self.now s → wants_nothing (coming (code_next (ready_view code.now) s)) ≡ true → result ≡ None }
+    {
+        match self.next(code) {
+            Next::Item => self.work_wanted(),
+            Next::Reply(_) => Some(Want::Hear),
+            Next::Action(_, met) => want_of(&self.frame, met.instruction),
+            Next::Local(_) => None,
+            Next::Nothing => None,
+        }
+    }
+
+    /// The port at a place among those that it looks at, where it wants to take a message.
+    pub fn look(&self, code: &Code, place: usize) -> Option<PortNo>
+        ensures port { (s : CodeState ⊤) (ports : List ℕ) → StandsAt self.now s → code_wanted forget_name (ready_view code.now) s ≡ Some (to_take ports) → option_map (λ p. p.number) result ≡ slice_get ports place }
+    {
+        match self.next(code) {
+            Next::Item => None,
+            Next::Reply(_) => None,
+            Next::Action(_, met) => port_at(&self.frame, met.instruction, place),
+            Next::Local(_) => None,
+            Next::Nothing => None,
+        }
+    }
+
+    /// What the front of its work list wants.
+    fn work_wanted(&self) -> Option<Want>
+        ensures want { (item : model.Value) (w : CellWant ⊤) → slice_get (map item_view self.now.frame.work) 0 ≡ Some item → work_wants item ≡ Some w → option_map want_view result ≡ told w }
+    {
+        match self.frame.front() {
+            Some(item) => Some(work_want(item)),
+            None => None,
+        }
+    }
+}

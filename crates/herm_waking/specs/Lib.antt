@@ -1,0 +1,10 @@
+pub mod AddedCounts
+pub mod DiaryKept
+pub mod KeptRounds
+pub mod Numbers
+pub mod Unnamed
+pub mod UnnamedReport
+pub mod UnnamedRounds
+pub mod Waking
+pub mod examples
+pub mod laws
