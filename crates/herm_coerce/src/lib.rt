@@ -5,6 +5,3 @@ mod coercions;
 pub mod laws;
 
 pub use coercions::{Coercions, coerce};
-
-#[cfg(test)]
-mod tests;

@@ -324,6 +324,3 @@ fn not_built(alloc: Global) -> Result<Vec<Fault>, AllocError>
     })?;
     Ok(faults)
 }
-
-#[cfg(test)]
-mod tests;

@@ -23,6 +23,3 @@ pub use shelf::{Loaded, Shelf};
 pub use sink::{Sink, Wrote};
 pub use whole::{WriteFault, write_whole};
 pub use write_sink::WriteSink;
-
-#[cfg(test)]
-mod tests;

@@ -12,6 +12,3 @@ pub use entry::{Action, Entry, Place, ReplyTrace, Stamp, next_stamp};
 pub use history::History;
 pub use lines::entry_text;
 pub use trace::{Trace, Traces};
-
-#[cfg(test)]
-mod tests;

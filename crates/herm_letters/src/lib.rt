@@ -11,6 +11,3 @@ pub use letter::Letter;
 pub use parcel::{Parcel, Parcels};
 pub use reply::{Reply, reply_trace_of};
 pub use text::trace_of;
-
-#[cfg(test)]
-mod tests;

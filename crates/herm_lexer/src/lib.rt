@@ -19,6 +19,3 @@ pub use laws::{
     tokens_or_fault, tokens_spell_file,
 };
 pub use lexer::lex;
-
-#[cfg(test)]
-mod tests;

@@ -14,6 +14,3 @@ pub use herm_letters::{Parcel, Parcels, Reply};
 pub use laws::{cells_are_places, cells_open_as_places};
 pub use port_cell::{PortCell, Put};
 pub use reply_cell::ReplyCell;
-
-#[cfg(test)]
-mod tests;

@@ -12,6 +12,3 @@ mod texts;
 pub use answers::{Completion, Evaluation};
 pub use operators::{Binary, Unary};
 pub use stack::Stack;
-
-#[cfg(test)]
-mod tests;

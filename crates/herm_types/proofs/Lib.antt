@@ -5,4 +5,3 @@ pub mod Walks
 pub mod Few
 pub mod PathFacts
 pub mod Repeats
-pub mod Sampled

@@ -3,4 +3,3 @@ pub mod View
 pub mod Table
 pub mod Chosen
 pub mod Messages
-pub mod Sample

@@ -16,6 +16,3 @@ pub use fact::{DeclFact, Fact, Path};
 pub use predefined::{predefined_exceptions, predefined_names, predefined_shapes};
 pub use shape::{Mode, Param, Part, RaiseDecl, Shape};
 pub use table::TypeTable;
-
-#[cfg(test)]
-mod tests;

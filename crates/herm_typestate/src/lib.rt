@@ -11,6 +11,3 @@ mod tree;
 pub use labels::Labels;
 pub use same::same_fact;
 pub use state::State;
-
-#[cfg(test)]
-mod tests;

@@ -21,6 +21,3 @@ pub use finalising::{finalise, pending};
 pub use scalar::{KeyRow, Scalar};
 pub use value::{Table, Value};
 pub use work::{Work, WorkItem};
-
-#[cfg(test)]
-mod tests;

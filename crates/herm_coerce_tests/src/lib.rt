@@ -1,0 +1,5 @@
+//! Tests of coercions over flows by hand.
+#![tactic(auto)]
+
+#[cfg(test)]
+mod coerce;

@@ -1,0 +1,5 @@
+//! Tests of compiled texts.
+#![tactic(auto)]
+
+#[cfg(test)]
+mod compile;

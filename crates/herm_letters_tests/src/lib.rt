@@ -1,0 +1,5 @@
+//! Tests of letters by hand.
+#![tactic(auto)]
+
+#[cfg(test)]
+mod letters;

@@ -1,0 +1,2 @@
+-- The table by hand that the tests try each call on.
+pub mod Sample

@@ -1,0 +1,5 @@
+//! Tests of the type table: each call by hand.
+#![tactic(auto)]
+
+#[cfg(test)]
+mod types;

@@ -1,5 +1,0 @@
-use Rattle.herm_values.specs.Whole.{IsWholeTable}
-use Rattle.herm_values.proofs.tests.are_put.Given as goal
-
-abbrev pub invariant-rows : goal.invariant-rows
-invariant-rows l = IsWholeTable l.table

@@ -1,5 +1,0 @@
-use Rattle.herm_values.specs.Whole.{IsWhole}
-use Rattle.herm_values.proofs.tests.nested.Given as goal
-
-abbrev pub invariant-polymorphs : goal.invariant-polymorphs
-invariant-polymorphs l = IsWhole l.v
