@@ -8,7 +8,7 @@ use Rattle.herm_edge.specs.declared.shelf.Loaded.TheVariants.{Here, Missing, Fai
 use Rattle.herm_driver.specs.Loads.{load_limit, load_of, CountsFaults, IsTold, AreTold, FirstAreLoaded}
 use Rattle.herm_driver.specs.Due.{IsDone, IsRefusal, IsNotFound, IsUnreadable, IsDueToFiles, IsDueBy, IsDueByLoads, IsDueToWords, IsCaused, IsDueTo, IsUsage, IsDueAt, IsReadFault, IsChosen}
 use Rattle.herm_driver.specs.Words.{named_file}
-use Rattle.herm_world.specs.declared.report.Report.{Report}
+use Rattle.herm_lines.specs.declared.report.Report.{Report}
 
 -- one answer for one name is told, where the shelf's answer is
 told-one : (contents : Option (List File)) (name : List ℕ) (answer : FileAnswer) →

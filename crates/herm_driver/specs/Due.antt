@@ -15,10 +15,10 @@ use Rattle.herm_compile.specs.ThirdPhase.{HaveProgram}
 use Rattle.herm_compile.specs.Refused.{AreRefused}
 use Rattle.herm_model.specs.Types.{predefined}
 use Rattle.herm_model.specs.MissingFacts.{IsAccepted}
-use Rattle.herm_world.specs.ConsoleLines.{sent}
-use Rattle.herm_world.specs.StraightRuns.{IsReported}
-use Rattle.herm_world.specs.View.{report_view}
-use Rattle.herm_world.specs.declared.report.Report.{Report}
+use Rattle.herm_lines.specs.ConsoleLines.{sent}
+use Rattle.herm_lines.specs.StraightRuns.{IsReported}
+use Rattle.herm_lines.specs.View.{report_view}
+use Rattle.herm_lines.specs.declared.report.Report.{Report}
 use Rattle.herm_driver.specs.Words.{named_file, named_files}
 use Rattle.herm_driver.specs.Loads.{load_limit, AreLoaded, CountsFaults, AreTold}
 use Rattle.herm_driver.specs.Texts.{usage_text, read_fault_text, not_found_text, console_text}

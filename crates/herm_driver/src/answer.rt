@@ -7,15 +7,15 @@ ghost use Rattle.herm_driver.specs.Loads.{load_limit, load_of, FirstAreLoaded};
 ghost use Rattle.herm_driver.specs.Due.{IsDone, IsRefusal, IsReportOf, IsNotFound, IsUnreadable, IsDueByLoads, IsDueToWords, IsCaused, IsChosen, IsTextStatus};
 ghost use Rattle.herm_driver.specs.Words.{named_files};
 ghost use Rattle.herm_driver.specs.Texts.{console_text, usage_text};
-ghost use Rattle.herm_world.specs.ConsoleLines.{sent};
-ghost use Rattle.herm_world.specs.StraightRuns.{IsRunnable};
+ghost use Rattle.herm_lines.specs.ConsoleLines.{sent};
+ghost use Rattle.herm_lines.specs.StraightRuns.{IsRunnable};
 
 use crate::text::{console, file_line, refusals, usage};
 use crate::words::file_named;
 use herm_base::Word;
 use herm_compile::{CompileFault, Compiled, compile};
 use herm_edge::{Loaded, Shelf};
-use herm_world::{Report, run_lines};
+use herm_lines::{Report, run_lines};
 use std::alloc::{AllocError, Global};
 
 /// How much of a file is loaded: one byte more than a source file may have.

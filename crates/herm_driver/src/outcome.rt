@@ -1,7 +1,7 @@
 //! What the top call answers.
 ghost use Rattle.std.specs.Prelude.{◌≡◌};
 
-use herm_world::{Entry, Place, Report, Stamp};
+use herm_lines::{Entry, Place, Report, Stamp};
 
 /// How a call of the program ended.
 #[derive(Drop)]

@@ -2,10 +2,10 @@
 ghost use Rattle.std.specs.Prelude.{◌≡◌, ◌∷◌, ◌++◌, IfOk, OnOk, codes, map, string_bytes, decimal};
 ghost use Rattle.herm_driver.specs.Texts.{usage_text, file_text, console_text, newline};
 ghost use Rattle.herm_driver.specs.RefusalLines.{place_text, refusal_text, refusals_text};
-ghost use Rattle.herm_world.specs.StringsReadBack.{unquoted};
+ghost use Rattle.herm_lines.specs.StringsReadBack.{unquoted};
 
 use herm_compile::Fault;
-use herm_world::{Trace, push_unquoted};
+use herm_lines::{Trace, push_unquoted};
 use std::alloc::{AllocError, Global};
 
 /// The line that says which words the program takes.

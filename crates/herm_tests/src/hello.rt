@@ -1,7 +1,7 @@
 //! The greeting program, and each status that a call of it can have.
 use crate::call::{Outside, call, plain};
 use herm_driver::Outcome;
-use herm_world::{Action, End, Entry, Place, ProcEnd};
+use herm_lines::{Action, End, Entry, Place, ProcEnd};
 use std::process::Abort;
 use std::test::Fail;
 

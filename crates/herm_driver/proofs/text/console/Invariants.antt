@@ -1,6 +1,6 @@
 use Rattle.std.proofs.Common.{◌≡◌, ◌++◌, map, drop}
 use Rattle.herm_driver.specs.Texts.{console_text}
-use Rattle.herm_world.specs.StringsReadBack.{unquoted}
+use Rattle.herm_lines.specs.StringsReadBack.{unquoted}
 use Rattle.herm_driver.proofs.text.console.Given as goal
 
 -- what is written so far, joined with the lines of the rest, is the whole
