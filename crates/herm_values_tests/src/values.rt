@@ -187,7 +187,7 @@ fn rows_keep_the_order_of_their_insertion(rt: HostRuntime) -> Result<(), Fail> {
     assert!(rt; is_at(&table, 0, 1));
     assert!(rt; is_at(&table, 1, 3));
     assert!(rt; is_at(&table, 2, 2));
-    assert!(rt; table.len() == 3 && table.rows.len() <= 4);
+    assert!(rt; table.len() == 3);
     Ok(())
 }
 
@@ -199,7 +199,7 @@ fn one_row_too_many_is_refused_behind_a_duplicate(rt: HostRuntime) -> Result<(),
     assert!(rt; put(rt.alloc(), &mut table, 17)? == b'd');
     assert!(rt; is_taken(rt.alloc(), &mut table, 17)?);
     assert!(rt; put(rt.alloc(), &mut table, 4096)? == b'i');
-    assert!(rt; table.len() == 4096 && table.rows.len() <= 4097);
+    assert!(rt; table.len() == 4096);
     Ok(())
 }
 
