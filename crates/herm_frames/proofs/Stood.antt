@@ -1,5 +1,5 @@
 -- The ways in which a frame changes, and what it stands for then.
-use Rattle.std.proofs.Common.{◌≡◌, ℕ, suc, ◌+◌, ◌^◌, min, List, [], ◌∷◌, ◌++◌, map, length, Option, Some, None, option_map, refl, sym, ap, ap₂, subst, ◌∙◌, arith, add-one}
+use Rattle.std.proofs.Common.{◌≡◌, ◌<◌, ℕ, suc, ◌+◌, ◌^◌, min, List, [], ◌∷◌, ◌++◌, map, length, Option, Some, None, option_map, refl, sym, ap, ap₂, subst, ◌∙◌, arith, add-one}
 use Rattle.std.proofs.Math.ListN.{length-append}
 use Rattle.std.specs.Prelude.{⊤}
 use Rattle.herm_model.specs.Paths.{Path}
@@ -15,6 +15,7 @@ use Rattle.herm_values.specs.declared.value.Value.{Value}
 use Rattle.herm_frames.specs.Counts.{cut}
 use Rattle.herm_frames.specs.HeldFrames.{HeldFrame, HeldLoop}
 use Rattle.herm_frames.specs.Standing.{Stands, loop_view}
+use Rattle.herm_frames.specs.Waiting.{Waits}
 
 pub cut_more : (a b n : ℕ) → n ≡ cut a → cut (n + b) ≡ cut (a + b)
 cut_more a b n is = grind (arith, is)
@@ -171,3 +172,12 @@ with_call f s o h = record {
   made = h.made;
   finalised = h.finalised;
 }
+
+-- what is let go waits, so what was at the path does
+pub waits_there : (v : Value) (o : Option Value) (p : Path) (vs : List (Option Value)) → o ≡ Some v → option_map value_view o ≡ cell_at p (seen_places vs) → 0 < length (pending (value_view v)) → Waits (cell_at p (seen_places vs))
+waits_there v o p vs is at more = subst Waits (sym (ap (option_map value_view) is) ∙ at) more
+
+pub waits_seen : (v : model.Value) (p : Path) (vs : List (Option Value)) → Some v ≡ cell_at p (seen_places vs) → 0 < length (pending v) → Waits (cell_at p (seen_places vs))
+waits_seen v p vs at more = subst Waits at more
+
+pub ruleset waiting = (waits_there, waits_seen)

@@ -17,10 +17,12 @@ use Rattle.herm_values.specs.declared.value.Value.{Value, Table as a_held_table}
 use Rattle.herm_values.specs.declared.value.Table.{Table}
 use Rattle.herm_values.proofs.Seen.{table_view}
 use Rattle.herm_values.proofs.Forgotten.{table_keyed, fields_keyed, call_keyed}
-use Rattle.herm_values.proofs.Wholes.{table-whole}
+use Rattle.herm_values.proofs.Wholes.{table-whole, whole-table}
 use Rattle.herm_frames.specs.KeyedTables.{IsTableOf}
 
 pub ruleset seeing_tables = (table_view, table_keyed, fields_keyed, call_keyed, table-whole)
+
+pub ruleset putting_tables = (table_view, table_keyed, whole-table)
 
 -- a table at which the key's fields are these
 pub of_key : (key columns : List ℕ) (c : Cell (List ℕ)) (ps : Parts (List ℕ)) → c ≡ cell columns a_table ps → IsTableOf key (Some c) → columns ≡ key

@@ -6,6 +6,9 @@ pub mod HeldFrames
 pub mod KeyedTables
 pub mod Leaving
 pub mod Opening
+pub mod Refusals
+pub mod RowsGone
 pub mod Scopes
 pub mod Standing
 pub mod Visits
+pub mod Waiting

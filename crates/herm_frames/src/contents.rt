@@ -1,20 +1,22 @@
 //! What variants, polymorphs and ports hold, read and taken out.
-ghost use Rattle.std.specs.Prelude.{◌≡◌, IfOk, IfSome, IfNone, List, ℕ, Option, Some, None, option_map, option_and_then, ⊤};
+ghost use Rattle.std.specs.Prelude.{◌≡◌, IfOk, IfSome, IsErr, IfNone, List, ℕ, Option, Some, None, option_map, option_and_then, ⊤};
 ghost use Rattle.herm_journal.specs.Renaming.{forget_name};
 ghost use Rattle.herm_model.specs.FactsOfValues.{is_component};
 ghost use Rattle.herm_model.specs.Values as model;
-ghost use Rattle.herm_model.specs.Values.{read_at};
+ghost use Rattle.herm_model.specs.Values.{cell_at, clear_at, read_at};
 ghost use Rattle.herm_forms.specs.Forms.{component_of, component_in, content_of, inport_number, moving_content};
 ghost use Rattle.herm_forms.specs.Frames.{Frame as ModelFrame};
 ghost use Rattle.herm_instructions.specs.Instructions as instructions;
 ghost use Rattle.herm_code_machine.specs.ReadyCode.{ReadyCode};
 ghost use Rattle.herm_code_machine.specs.Effects.{effect};
 ghost use Rattle.herm_types.specs.View.{path_view};
+ghost use Rattle.herm_places.specs.Held.{seen_places};
 ghost use Rattle.herm_values.specs.View.{value_view};
 ghost use Rattle.herm_values.specs.Whole.{IsWhole};
 ghost use Rattle.herm_frames.specs.Completed.{Completes, Effects, outcome_view};
 ghost use Rattle.herm_frames.specs.Opening.{opened, has_content};
 ghost use Rattle.herm_frames.specs.Standing.{Stands};
+ghost use Rattle.herm_frames.specs.Waiting.{Waits};
 
 use crate::frame::Frame;
 use crate::outcome::Outcome;
@@ -166,6 +168,7 @@ impl Frame {
     fn move_content(&mut self, target: &Path, content: Value) -> Result<Outcome, AllocError>
         requires whole { IsWhole content }
         ensures moving { IfOk result (λ r. (s : ModelFrame ⊤) → Stands self.old s → Completes (outcome_view r) self.new (moving_content (path_view target.now) (record { name = tt; content = value_view content }) s)) }
+        ensures refused { IsErr result → Waits (cell_at (path_view target.now) (seen_places self.old.variables)) }
     {
         self.finalise_cell();
         let r = self.put_at_end(target, content, Outcome::Next)?;
@@ -180,8 +183,9 @@ impl Frame {
         target: &Path,
     ) -> Result<Outcome, AllocError>
         ensures effect { IfOk result (λ r. (c : ReadyCode) (stack : List model.Value) (s : ModelFrame ⊤) → Stands self.old s → Effects r self.new stack (effect forget_name c (instructions.Dissolve (path_view source.now) component (path_view target.now)) stack s)) }
+        ensures refused { IsErr result → Waits (cell_at (path_view target.now) (clear_at (path_view source.now) (seen_places self.old.variables))) }
     {
-        let Some(v) = self.take(source) else {
+        let Some(v) = self.take_out(source) else {
             return Ok(Outcome::Stuck);
         };
         let Some(content) = component_in(component, v) else {
@@ -220,6 +224,7 @@ impl Frame {
     /// Takes a polymorph apart where its content has this type, and moves the content.
     pub fn unwrap(&mut self, source: &Path, t: TypeNo, target: &Path) -> Result<Outcome, AllocError>
         ensures effect { IfOk result (λ r. (c : ReadyCode) (stack : List model.Value) (s : ModelFrame ⊤) → Stands self.old s → Effects r self.new stack (effect forget_name c (instructions.Unwrap (path_view source.now) t.0 (path_view target.now)) stack s)) }
+        ensures refused { IsErr result → Waits (cell_at (path_view target.now) (clear_at (path_view source.now) (seen_places self.old.variables))) }
     {
         let Some(v) = self.at(source) else {
             return Ok(Outcome::Stuck);
@@ -227,7 +232,7 @@ impl Frame {
         if !has_content(t, v) {
             return Ok(Outcome::Raised(POLYMORPH_MISMATCH));
         }
-        let Some(v) = self.take(source) else {
+        let Some(v) = self.take_out(source) else {
             return Ok(Outcome::Stuck);
         };
         let Some(content) = content_of(t, v) else {
@@ -240,6 +245,7 @@ impl Frame {
     /// Makes an outport that leads to an inport's port.
     pub fn connect(&mut self, target: &Path, port: &Path) -> Result<Outcome, AllocError>
         ensures effect { IfOk result (λ r. (c : ReadyCode) (stack : List model.Value) (s : ModelFrame ⊤) → Stands self.old s → Effects r self.new stack (effect forget_name c (instructions.Connect (path_view target.now) (path_view port.now)) stack s)) }
+        ensures refused { IsErr result → Waits (cell_at (path_view target.now) (seen_places self.old.variables)) }
     {
         let Some(number) = self.inport_at(port) else {
             return Ok(Outcome::Stuck);

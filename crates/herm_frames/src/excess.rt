@@ -1,5 +1,5 @@
 //! What a value that moves away holds beyond a full one.
-ghost use Rattle.std.specs.Prelude.{◌≡◌, ◌<◌, ◌^◌, ◌++◌, ◌∷◌, [], IfOk, OnOk, ◌||◌, map, length, suc, ⊤};
+ghost use Rattle.std.specs.Prelude.{◌≡◌, ◌<◌, ◌^◌, ◌++◌, ◌∷◌, [], IfOk, OnOk, ◌||◌, flat_map, map, length, suc, ⊤};
 ghost use Rattle.herm_model.specs.Lists.{any_pass};
 ghost use Rattle.herm_model.specs.Values.{has_value};
 ghost use Rattle.herm_forms.specs.Excess.{excess_over_full};
@@ -258,4 +258,24 @@ pub fn excess_over_full(
     }
     push_beyond(alloc, types, variables, GREATEST_DEPTH, path, t, &mut lost)?;
     Ok(lost)
+}
+
+/// Appends the paths of what the values at these paths hold beyond full ones.
+pub fn push_excess(
+    alloc: Global,
+    types: &TypeTable,
+    of: &[TypeNo],
+    variables: &Variables,
+    paths: &[Path],
+    out: &mut Vec<Path>,
+) -> Result<(), AllocError>
+    ensures { OnOk result ((c : Module) (s : ModelFrame ⊤) → c.types ≡ types.now.shapes → c.variables ≡ numbers_of of.now → s.variables ≡ seen_places variables.now → map path_view out.new.items ≡ map path_view out.old.items ++ flat_map (λ p. excess_over_full c p s) (map path_view paths.now)) }
+{
+    let Some((first, rest)) = paths.split_first() else {
+        return Ok(());
+    };
+    let mut lost = excess_over_full(alloc, types, of, variables, first)?;
+    out.append(&mut lost)?;
+    push_excess(alloc, types, of, variables, rest, out)?;
+    Ok(())
 }

@@ -14,6 +14,7 @@ ghost use Rattle.herm_values.specs.Works.{item_view};
 ghost use Rattle.herm_places.specs.Held.{keyed_places, seen_places};
 ghost use Rattle.herm_frames.specs.Completed.{outcome_view, Completes};
 ghost use Rattle.herm_frames.specs.Standing.{Stands};
+ghost use Rattle.herm_frames.specs.Waiting.{Waits};
 
 use crate::counts::{let_go, sum};
 use crate::loops::Loop;
@@ -200,11 +201,25 @@ impl Frame {
     }
 
     /// Takes out what stands at a path, if anything does. It takes no memory.
-    #[tactic(auto, using(crate::proofs::Stood::standing))]
     pub fn take(&mut self, path: &Path) -> Option<Value>
         ensures frame { self.new ≡ record self.old { variables = self.new.variables } }
         ensures keyed { option_map keyed_view result ≡ cell_at (path_view path.now) (keyed_places self.old.variables) }
         ensures left { keyed_places self.new.variables ≡ clear_at (path_view path.now) (keyed_places self.old.variables) }
+        ensures taken { (s : frames.Frame ⊤) → Stands self.old s → option_map value_view result ≡ cell_at (path_view path.now) s.variables }
+        ensures stands { (s : frames.Frame ⊤) → Stands self.old s → Stands self.new (cleared (path_view path.now) s) }
+        ensures whole { IfSome result IsWhole }
+    {
+        self.take_out(path)
+    }
+
+    /// Takes out what stands at a path, said also of what contracts see there.
+    #[tactic(auto, using(crate::proofs::Stood::standing))]
+    pub(crate) fn take_out(&mut self, path: &Path) -> Option<Value>
+        ensures frame { self.new ≡ record self.old { variables = self.new.variables } }
+        ensures keyed { option_map keyed_view result ≡ cell_at (path_view path.now) (keyed_places self.old.variables) }
+        ensures left { keyed_places self.new.variables ≡ clear_at (path_view path.now) (keyed_places self.old.variables) }
+        ensures left_seen { seen_places self.new.variables ≡ clear_at (path_view path.now) (seen_places self.old.variables) }
+        ensures seen { option_map value_view result ≡ cell_at (path_view path.now) (seen_places self.old.variables) }
         ensures taken { (s : frames.Frame ⊤) → Stands self.old s → option_map value_view result ≡ cell_at (path_view path.now) s.variables }
         ensures stands { (s : frames.Frame ⊤) → Stands self.old s → Stands self.new (cleared (path_view path.now) s) }
         ensures whole { IfSome result IsWhole }
@@ -251,14 +266,16 @@ impl Frame {
         self.made = sum(self.made, cells(v));
     }
 
-    /// Puts a value at a path, and finalises what stood there. False where there is no such place: then the value is gone.
-    #[tactic(auto, using(crate::proofs::Stood::standing))]
+    /// Puts a value at a path, and finalises what stood there. False where there is no such place: then the value is gone. Memory
+    /// is wanted only where an inport or a callmessage stood there.
+    #[tactic(auto, using(crate::proofs::Stood::standing, crate::proofs::Stood::waiting))]
     pub fn put(&mut self, path: &Path, v: Value) -> Result<bool, AllocError>
         requires whole { IsWhole v }
         ensures there { IfOk result (λ b. b ≡ has_place (seen_places self.old.variables) (path_view path.now)) }
         ensures keyed { IfOk result (λ b. IsTrue b → keyed_places self.new.variables ≡ put_at (path_view path.now) (keyed_view v) (keyed_places self.old.variables)) }
         ensures is_there { IfOk result (λ b. (s : frames.Frame ⊤) → Stands self.old s → b ≡ has_place s.variables (path_view path.now)) }
         ensures stands { IfOk result (λ b. IsTrue b → (s : frames.Frame ⊤) → Stands self.old s → Stands self.new (frames.put (path_view path.now) (value_view v) s)) }
+        ensures refused { IsErr result → Waits (cell_at (path_view path.now) (seen_places self.old.variables)) }
     {
         match self.variables.put(path, v) {
             Err(_) => Ok(false),
@@ -280,6 +297,7 @@ impl Frame {
     ) -> Result<Outcome, AllocError>
         requires whole { IsWhole v }
         ensures putting { IfOk result (λ r. (s : frames.Frame ⊤) (o : model.Outcome) → Stands self.old s → outcome_view outcome ≡ Some o → Completes (outcome_view r) self.new (putting (path_view path.now) o (value_view v) s)) }
+        ensures refused { IsErr result → Waits (cell_at (path_view path.now) (seen_places self.old.variables)) }
     {
         let is_there = self.put(path, v)?;
         if is_there {
@@ -289,13 +307,14 @@ impl Frame {
     }
 
     /// Finalises what stands at a path, if anything does. Memory is wanted only where an inport or a callmessage does.
-    #[tactic(auto, using(crate::proofs::Stood::standing))]
+    #[tactic(auto, using(crate::proofs::Stood::standing, crate::proofs::Stood::waiting))]
     pub fn drop_at(&mut self, path: &Path) -> Result<(), AllocError>
         ensures frame { OnOk result (self.new ≡ record self.old { variables = self.new.variables; work = self.new.work; finalised = self.new.finalised }) }
         ensures left { OnOk result (keyed_places self.new.variables ≡ clear_at (path_view path.now) (keyed_places self.old.variables)) }
         ensures stands { OnOk result ((s : frames.Frame ⊤) → Stands self.old s → Stands self.new (drop_at (path_view path.now) s)) }
+        ensures refused { IsErr result → Waits (cell_at (path_view path.now) (seen_places self.old.variables)) }
     {
-        let Some(v) = self.take(path) else {
+        let Some(v) = self.take_out(path) else {
             return Ok(());
         };
         self.finalise(v)?;

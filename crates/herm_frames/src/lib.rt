@@ -6,6 +6,7 @@ mod counts;
 mod ends;
 mod excess;
 mod frame;
+mod insertions;
 mod loops;
 mod moves;
 mod outcome;
@@ -20,6 +21,3 @@ pub use frame::Frame;
 pub use loops::Loop;
 pub use moves::tested;
 pub use outcome::Outcome;
-
-#[cfg(test)]
-mod tests;

@@ -1,21 +1,24 @@
 //! Values that are placed, made and let go.
-ghost use Rattle.std.specs.Prelude.{◌≡◌, ◌∷◌, [], IfOk, OnOk, List, Some, None, ⊤, length, map};
+ghost use Rattle.std.specs.Prelude.{◌≡◌, ◌∷◌, [], IfOk, OnOk, IsErr, List, Some, None, ⊤, length, map};
 ghost use Rattle.herm_journal.specs.Renaming.{forget_name};
+ghost use Rattle.herm_model.specs.Finalising.{clear_all};
 ghost use Rattle.herm_model.specs.Outcomes.{ok};
 ghost use Rattle.herm_model.specs.Values as model;
-ghost use Rattle.herm_model.specs.Values.{Kind, Parts, cell, gaps, no_parts};
+ghost use Rattle.herm_model.specs.Values.{Kind, Parts, cell, cell_at, gaps, no_parts};
 ghost use Rattle.herm_forms.specs.Forms as forms;
 ghost use Rattle.herm_forms.specs.Frames.{Frame as ModelFrame, drop, making, putting};
 ghost use Rattle.herm_instructions.specs.Instructions as instructions;
 ghost use Rattle.herm_code_machine.specs.ReadyCode.{ReadyCode};
 ghost use Rattle.herm_code_machine.specs.Effects.{effect};
 ghost use Rattle.herm_types.specs.View.{path_view};
+ghost use Rattle.herm_places.specs.Held.{keyed_places, seen_places};
 ghost use Rattle.herm_values.specs.Keyed.{keyed_view};
 ghost use Rattle.herm_values.specs.View.{value_view};
 ghost use Rattle.herm_values.specs.Whole.{AllWhole, IsWhole};
 ghost use Rattle.herm_frames.specs.Completed.{Completes, Effects, outcome_view};
 ghost use Rattle.herm_frames.specs.EmptyPlaces.{nothings};
 ghost use Rattle.herm_frames.specs.Standing.{Stands};
+ghost use Rattle.herm_frames.specs.Waiting.{Waits};
 
 use crate::frame::Frame;
 use crate::outcome::Outcome;
@@ -67,7 +70,7 @@ pub fn empty_record(alloc: Global, n: usize) -> Result<Value, AllocError>
 
 /// A table of no rows, with these fields as its key.
 #[tactic(auto, using(crate::proofs::Moved::making_lemmas))]
-fn empty_table(alloc: Global, keys: &[u32]) -> Result<Value, AllocError>
+pub fn empty_table(alloc: Global, keys: &[u32]) -> Result<Value, AllocError>
     ensures table { IfOk result (λ v. value_view v ≡ cell tt model.a_table no_parts) }
     ensures keyed { IfOk result (λ v. keyed_view v ≡ cell keys.now model.a_table no_parts) }
     ensures whole { IfOk result IsWhole }
@@ -83,6 +86,7 @@ impl Frame {
     pub fn make_at(&mut self, target: &Path, v: Value) -> Result<Outcome, AllocError>
         requires whole { IsWhole v }
         ensures making { IfOk result (λ r. (s : ModelFrame ⊤) (k : Kind) (ps : Parts ⊤) → Stands self.old s → value_view v ≡ cell tt k ps → Completes (outcome_view r) self.new (making forget_name k ps (putting (path_view target.now) ok) s)) }
+        ensures refused { IsErr result → Waits (cell_at (path_view target.now) (seen_places self.old.variables)) }
     {
         self.make_cell();
         let r = self.put_at_end(target, v, Outcome::Next)?;
@@ -93,6 +97,7 @@ impl Frame {
     pub fn store(&mut self, target: &Path, v: Value) -> Result<Outcome, AllocError>
         requires whole { IsWhole v }
         ensures effect { IfOk result (λ r. (c : ReadyCode) (rest : List model.Value) (s : ModelFrame ⊤) → Stands self.old s → Effects r self.new rest (effect forget_name c (instructions.Store (path_view target.now)) (value_view v ∷ rest) s)) }
+        ensures refused { IsErr result → Waits (cell_at (path_view target.now) (seen_places self.old.variables)) }
     {
         self.make_cells(&v);
         let r = self.put_at_end(target, v, Outcome::Next)?;
@@ -128,10 +133,12 @@ impl Frame {
     }
 
     /// Lets go what stands at a path.
+    #[tactic(auto, using(crate::proofs::Stood::waiting))]
     pub fn discard(&mut self, source: &Path) -> Result<Outcome, AllocError>
         ensures effect { IfOk result (λ r. (c : ReadyCode) (stack : List model.Value) (s : ModelFrame ⊤) → Stands self.old s → Effects r self.new stack (effect forget_name c (instructions.Discard (path_view source.now)) stack s)) }
+        ensures refused { IsErr result → Waits (cell_at (path_view source.now) (seen_places self.old.variables)) }
     {
-        let Some(v) = self.take(source) else {
+        let Some(v) = self.take_out(source) else {
             return Ok(Outcome::Stuck);
         };
         self.finalise(v)?;
@@ -141,6 +148,7 @@ impl Frame {
     /// Finalises what stands at a path, if anything does: what an edge drops.
     pub fn drop_path(&mut self, path: &Path) -> Result<Outcome, AllocError>
         ensures effect { IfOk result (λ r. (c : ReadyCode) (stack : List model.Value) (s : ModelFrame ⊤) → Stands self.old s → Effects r self.new stack (effect forget_name c (instructions.Drop (path_view path.now)) stack s)) }
+        ensures refused { IsErr result → Waits (cell_at (path_view path.now) (seen_places self.old.variables)) }
     {
         self.drop_at(path)?;
         Ok(Outcome::Next)
@@ -149,6 +157,7 @@ impl Frame {
     /// Finalises what stands at these paths, in order.
     pub fn drop_all(&mut self, paths: &[Path]) -> Result<(), AllocError>
         ensures stands { OnOk result ((s : ModelFrame ⊤) → Stands self.old s → Stands self.new (drop (map path_view paths.now) s)) }
+        ensures left { OnOk result (keyed_places self.new.variables ≡ clear_all (map path_view paths.now) (keyed_places self.old.variables)) }
     {
         let Some((first, rest)) = paths.split_first() else {
             return Ok(());

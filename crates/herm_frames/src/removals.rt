@@ -1,21 +1,23 @@
 //! Values that move away, without what they hold beyond full ones.
-ghost use Rattle.std.specs.Prelude.{◌≡◌, IfOk, IfSome, OnOk, List, option_map, ⊤};
+ghost use Rattle.std.specs.Prelude.{◌≡◌, IfOk, IfSome, OnOk, List, flat_map, map, option_map, ⊤};
 ghost use Rattle.herm_journal.specs.Renaming.{forget_name};
+ghost use Rattle.herm_model.specs.Finalising.{clear_all};
 ghost use Rattle.herm_model.specs.Values as model;
-ghost use Rattle.herm_model.specs.Values.{cell, cell_at, no_parts, part};
+ghost use Rattle.herm_model.specs.Values.{cell, cell_at, clear_at, no_parts, part};
 ghost use Rattle.herm_forms.specs.Excess.{excess_over_full};
 ghost use Rattle.herm_forms.specs.Frames.{Frame as ModelFrame, cleared, drop};
 ghost use Rattle.herm_instructions.specs.Instructions as instructions;
 ghost use Rattle.herm_code_machine.specs.ReadyCode.{ReadyCode};
 ghost use Rattle.herm_code_machine.specs.Effects.{effect};
 ghost use Rattle.herm_types.specs.View.{path_view};
+ghost use Rattle.herm_places.specs.Held.{keyed_places};
 ghost use Rattle.herm_values.specs.View.{value_view};
 ghost use Rattle.herm_values.specs.Whole.{IsWhole};
 ghost use Rattle.herm_frames.specs.Completed.{Effects};
 ghost use Rattle.herm_frames.specs.Scopes.{IsOf};
 ghost use Rattle.herm_frames.specs.Standing.{Stands};
 
-use crate::excess::excess_over_full;
+use crate::excess::{excess_over_full, push_excess};
 use crate::frame::Frame;
 use crate::outcome::Outcome;
 use herm_base::TypeNo;
@@ -24,6 +26,21 @@ use herm_values::Value;
 use std::alloc::{AllocError, Global};
 
 impl Frame {
+    /// The paths of what the values at these paths hold beyond full ones, where the variables have these types.
+    pub fn excess_of(
+        &self,
+        alloc: Global,
+        types: &TypeTable,
+        of: &[TypeNo],
+        paths: &[Path],
+    ) -> Result<Vec<Path>, AllocError>
+        ensures lost { IfOk result (λ lost. (c : ReadyCode) (s : ModelFrame ⊤) → IsOf types.now of.now c → Stands self.now s → map path_view lost.items ≡ flat_map (λ p. excess_over_full c.scope p s) (map path_view paths.now)) }
+    {
+        let mut lost = Vec::new(alloc);
+        push_excess(alloc, types, of, &self.variables, paths, &mut lost)?;
+        Ok(lost)
+    }
+
     /// Finalises what the value at a path holds beyond a full one, where the variables have these types.
     fn drop_excess(
         &mut self,
@@ -33,6 +50,7 @@ impl Frame {
         source: &Path,
     ) -> Result<(), AllocError>
         ensures stands { OnOk result ((c : ReadyCode) (s : ModelFrame ⊤) → IsOf types.now of.now c → Stands self.old s → Stands self.new (drop (excess_over_full c.scope (path_view source.now) s) s)) }
+        ensures left { OnOk result ((c : ReadyCode) (s : ModelFrame ⊤) → IsOf types.now of.now c → Stands self.old s → keyed_places self.new.variables ≡ clear_all (excess_over_full c.scope (path_view source.now) s) (keyed_places self.old.variables)) }
     {
         let lost = excess_over_full(alloc, types, of, &self.variables, source)?;
         self.drop_all(lost.as_slice())?;
@@ -49,6 +67,7 @@ impl Frame {
     ) -> Result<Option<Value>, AllocError>
         ensures taken { IfOk result (λ o. (c : ReadyCode) (s : ModelFrame ⊤) → IsOf types.now of.now c → Stands self.old s → option_map value_view o ≡ cell_at (path_view source.now) (drop (excess_over_full c.scope (path_view source.now) s) s).variables) }
         ensures stands { OnOk result ((c : ReadyCode) (s : ModelFrame ⊤) → IsOf types.now of.now c → Stands self.old s → Stands self.new (cleared (path_view source.now) (drop (excess_over_full c.scope (path_view source.now) s) s))) }
+        ensures left { OnOk result ((c : ReadyCode) (s : ModelFrame ⊤) → IsOf types.now of.now c → Stands self.old s → keyed_places self.new.variables ≡ clear_at (path_view source.now) (clear_all (excess_over_full c.scope (path_view source.now) s) (keyed_places self.old.variables))) }
         ensures whole { IfOk result (λ o. IfSome o IsWhole) }
     {
         self.drop_excess(alloc, types, of, source)?;

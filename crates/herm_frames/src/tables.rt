@@ -28,7 +28,7 @@ const NOT_FOUND: ExcNo = ExcNo(5);
 
 /// The table that a value is.
 #[tactic(auto, using(crate::proofs::TablesSeen::seeing_tables))]
-fn table_in(v: &Value) -> Option<&Table>
+pub fn table_in(v: &Value) -> Option<&Table>
     ensures seen { IfSome result (λ t. value_view v.now ≡ cell tt a_table (table_parts t.now)) }
     ensures keyed { IfSome result (λ t. keyed_view v.now ≡ cell t.now.columns.items a_table (keyed_parts t.now)) }
     ensures none { IfNone result (kind_of (keyed_view v.now) ≡ a_table → ⊥) }

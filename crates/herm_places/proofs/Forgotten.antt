@@ -4,9 +4,9 @@ use Rattle.std.specs.Prelude.{⊤, nat_lt}
 use denote.Bor.{Bor}
 use Rattle.herm_model.specs.Paths.{Path}
 use Rattle.herm_model.specs.Values as model
-use Rattle.herm_model.specs.Values.{Cell, Parts, gap, part, part_at, inside, cell_at, read_at, set_at, put_at, clear_at, has_place}
+use Rattle.herm_model.specs.Values.{Cell, Parts, gap, part, part_at, inside, cell_at, read_at, set_at, put_at, clear_at, has_place, change_at}
 use Rattle.herm_model.specs.CellNames.{forget, forget_in}
-use Rattle.herm_model.proofs.Renaming.{part_at-rename, inside-rename, cell_at-rename, read_at-rename, set_at-rename, size-rename}
+use Rattle.herm_model.proofs.Renaming.{part_at-rename, inside-rename, cell_at-rename, read_at-rename, set_at-rename, change_at-rename, size-rename}
 use Rattle.herm_values.specs.Parts.{parts_from}
 use Rattle.herm_values.specs.Keyed.{keyed_view, keyed_of}
 use Rattle.herm_values.specs.View.{value_view}
@@ -53,6 +53,13 @@ cleared_seen p vs new h = set_seen p None vs new h
 
 pub put_seen : (p : Path) (v : Value) (vs new : List (Option Value)) → keyed_places new ≡ put_at p (keyed_view v) (keyed_places vs) → seen_places new ≡ put_at p (value_view v) (seen_places vs)
 put_seen p v vs new h = set_seen p (Some (keyed_view v)) vs new h ∙ ap (λ c. put_at p c (seen_places vs)) (forgotten v)
+
+pub exchanged_seen : (o : Option Value) (p : Path) (vs : List (Option Value)) → option_map keyed_view o ≡ read_at p (keyed_places vs) → option_map value_view o ≡ read_at p (seen_places vs)
+exchanged_seen o p vs h = held_forgotten o ∙ ap (option_map forget) h ∙ sym (read_at-rename (λ n. tt) p (keyed_places vs)) ∙ ap (read_at p) (places_seen vs)
+
+pub changed_seen : (p : Path) (v : Value) (vs new : List (Option Value)) → keyed_places new ≡ change_at p (λ d. keyed_view v) (keyed_places vs) → seen_places new ≡ change_at p (λ d. value_view v) (seen_places vs)
+changed_seen p v vs new h =
+    sym (places_seen new) ∙ ap forget_in h ∙ change_at-rename (λ n. tt) p (λ d. keyed_view v) (λ d. value_view v) (λ d. forgotten v) (keyed_places vs) ∙ ap (change_at p (λ d. value_view v)) (places_seen vs)
 
 pub place_seen : (p : Path) (vs : List (Option Value)) → has_place (keyed_places vs) p ≡ has_place (seen_places vs) p
 place_seen p vs = sym (place_forgotten p (keyed_places vs)) ∙ ap (λ ps. has_place ps p) (places_seen vs)

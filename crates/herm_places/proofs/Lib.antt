@@ -1,4 +1,5 @@
-pub mod Read
 pub mod Changed
+pub mod Exchanged
 pub mod Forgotten
 pub mod Put
+pub mod Read

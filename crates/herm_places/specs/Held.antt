@@ -1,7 +1,7 @@
 -- Places of the code as parts of the model, each with a value or empty.
 use Rattle.std.specs.Prelude.{ℕ, List, [], ◌∷◌, Option, Some, ⊤}
 use Rattle.herm_model.specs.Paths.{Path}
-use Rattle.herm_model.specs.Values.{Cell, Parts, cell_at, read_at, inside, readable_of}
+use Rattle.herm_model.specs.Values.{Cell, Parts, cell_at, read_at, inside, readable_of, change_readable, change_from}
 use Rattle.herm_values.specs.Keyed.{keyed_of}
 use Rattle.herm_values.specs.Parts.{parts_from}
 use Rattle.herm_values.specs.View.{views_of}
@@ -23,3 +23,8 @@ cell_in (j ∷ p) c = cell_at (j ∷ p) (inside (Some c))
 abbrev pub read_in : {N : Type 0} → Path → Cell N → Option (Cell N)
 read_in [] c = Some c
 read_in (j ∷ p) c = read_at (j ∷ p) (readable_of (Some c))
+
+-- a cell with another one at these steps, reached through components too, where there is one
+abbrev pub change_in : {N : Type 0} → Path → Cell N → Cell N → Cell N
+change_in [] w c = w
+change_in (j ∷ p) w c = change_readable (change_from (j ∷ p) (λ d. w)) c

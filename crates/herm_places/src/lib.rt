@@ -1,6 +1,7 @@
 //! Values at the paths of a process's variables.
 #![tactic(auto)]
 
+mod exchanging;
 mod places;
 mod placing;
 mod reading;

@@ -1,12 +1,13 @@
 //! The variables of a process.
 ghost use Rattle.std.specs.Prelude.{◌≡◌, IfSome, IfOk, IfErr, OnOk, OnErr, is_ok, option_map};
-ghost use Rattle.herm_model.specs.Values.{cell_at, read_at, clear_at, put_at, has_place};
+ghost use Rattle.herm_model.specs.Values.{cell_at, read_at, clear_at, put_at, has_place, change_at};
 ghost use Rattle.herm_types.specs.View.{path_view};
 ghost use Rattle.herm_values.specs.Keyed.{keyed_view};
 ghost use Rattle.herm_values.specs.View.{value_view};
 ghost use Rattle.herm_values.specs.Whole.{IsWhole, AllWhole};
 ghost use Rattle.herm_places.specs.Held.{keyed_places, seen_places};
 
+use crate::exchanging::exchange_at;
 use crate::placing;
 use crate::reading::{read_at, value_at};
 use crate::taking::take_at;
@@ -91,6 +92,29 @@ impl Variables {
         ensures old_whole { IfOk result (λ o. IfSome o IsWhole) }
     {
         self.put_keyed(path, v)
+    }
+
+    /// Puts a value in place of what is read at a path, which may pass through components. The answer is what was there.
+    /// Where nothing is there all is as it was, and the value is gone.
+    #[tactic(auto, using(crate::proofs::Forgotten::told))]
+    pub fn exchange(&mut self, path: &Path, v: Value) -> Option<Value>
+        requires whole { IsWhole v }
+        ensures old { option_map keyed_view result ≡ read_at (path_view path.now) (keyed_places self.old) }
+        ensures old_seen { option_map value_view result ≡ read_at (path_view path.now) (seen_places self.old) }
+        ensures new { keyed_places self.new ≡ change_at (path_view path.now) (λ d. keyed_view v) (keyed_places self.old) }
+        ensures new_seen { seen_places self.new ≡ change_at (path_view path.now) (λ d. value_view v) (seen_places self.old) }
+        ensures whole { IfSome result IsWhole }
+    {
+        self.exchange_keyed(path, v)
+    }
+
+    fn exchange_keyed(&mut self, path: &Path, v: Value) -> Option<Value>
+        requires whole { IsWhole v }
+        ensures old { option_map keyed_view result ≡ read_at (path_view path.now) (keyed_places self.old) }
+        ensures new { keyed_places self.new ≡ change_at (path_view path.now) (λ d. keyed_view v) (keyed_places self.old) }
+        ensures whole { IfSome result IsWhole }
+    {
+        exchange_at(&mut self.places, path.var.0, path.parts.as_slice(), v)
     }
 
     fn read_keyed(&self, path: &Path) -> Option<&Value>

@@ -18,6 +18,7 @@ pub use count::{cells, cells_wait_or_end};
 pub use depth::poly_depth;
 pub use facts::meets;
 pub use finalising::{finalise, pending};
+pub use keys::key_of;
 pub use scalar::{KeyRow, Scalar};
 pub use value::{Table, Value};
 pub use work::{Work, WorkItem};

@@ -8,4 +8,4 @@ use Rattle.herm_frames.proofs.frame.Frame.drop_at.Goals as goal
 pub returns-clause-stands : goal.returns-clause-stands
 returns-clause-stands c s h =
     let p = path_view c.args.path.now in
-    subst (λ b. Stands c.finalise.new.self b) (sym (drop_some s p _ (c.in-Some.ensures.taken s h))) (c.in_ok-finalise.ensures.stands (cleared p s) (c.take.ensures.stands s h))
+    subst (λ b. Stands c.finalise.new.self b) (sym (drop_some s p _ (c.in-Some.ensures.taken s h))) (c.in_ok-finalise.ensures.stands (cleared p s) (c.take_out.ensures.stands s h))

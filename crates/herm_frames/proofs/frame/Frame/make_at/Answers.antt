@@ -5,9 +5,7 @@ use Rattle.herm_types.specs.View.{path_view}
 use Rattle.herm_frames.specs.Completed.{Completes, outcome_view}
 use Rattle.herm_frames.proofs.frame.Frame.make_at.Goals as goal
 
-pub returns : goal.returns
-returns c = record {
-  making = λ s k ps h is.
-      let made = record s { serial = suc s.serial } in
-      subst (λ v. Completes (outcome_view c.in_ok-r.r) c.put_at_end.new.self (putting (path_view c.args.target.now) ok v made)) is (c.in_ok-r.ensures.putting made ok (c.make_cell.ensures.stands s h) refl);
-}
+pub returns-clause-making : goal.returns-clause-making
+returns-clause-making c s k ps h is =
+    let made = record s { serial = suc s.serial } in
+    subst (λ v. Completes (outcome_view c.in_ok-r.r) c.put_at_end.new.self (putting (path_view c.args.target.now) ok v made)) is (c.in_ok-r.ensures.putting made ok (c.make_cell.ensures.stands s h) refl)

@@ -1,0 +1,5 @@
+//! Tests of instructions on frames by hand.
+#![tactic(auto)]
+
+#[cfg(test)]
+mod frames;
