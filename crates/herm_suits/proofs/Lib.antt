@@ -1,0 +1,12 @@
+pub mod Decides
+pub mod Shaped
+pub mod Sizes
+pub mod Fields
+pub mod Fitting
+pub mod Calls
+pub mod Made
+pub mod Ways
+pub mod Ports
+pub mod Listed
+pub mod Exactly
+pub mod Suited
