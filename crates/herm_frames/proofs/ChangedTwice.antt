@@ -67,6 +67,10 @@ module _ {N : Type 0} where
   pub put-twice : (p : Path) (away back : Cell N) (h : Cell N → Cell N) (ps : Parts N) → ((c : Cell N) → read_at p ps ≡ Some c → back ≡ h c) → change_at p (λ d. back) (change_at p (λ d. away) ps) ≡ change_at p h ps
   put-twice p away back h ps is = from-twice p (λ d. back) (λ d. away) h 0 ps is
 
+  -- what is there stands there again
+  pub same-own : (p : Path) (back : Cell N) (ps : Parts N) → read_at p ps ≡ Some back → change_at p (λ d. back) ps ≡ ps
+  same-own p back ps at = from-own p (λ d. back) 0 ps (λ c is. Rattle.herm_model.proofs.Options.some-injective (sym at ∙ is))
+
   pub put-own : (p : Path) (away back : Cell N) (ps : Parts N) → read_at p ps ≡ Some back → change_at p (λ d. back) (change_at p (λ d. away) ps) ≡ ps
   put-own p away back ps at =
-      put-twice p away back (λ d. back) ps (λ c is. refl) ∙ from-own p (λ d. back) 0 ps (λ c is. Rattle.herm_model.proofs.Options.some-injective (sym at ∙ is))
+      put-twice p away back (λ d. back) ps (λ c is. refl) ∙ same-own p back ps at

@@ -4,12 +4,15 @@ mod CopiedRows
 mod Ended
 mod Exceeding
 mod Inserted
+mod Keyings
+mod KeysOfTypes
 mod KeysStay
 mod LeftLoops
 mod LostJoined
 mod Moved
 pub mod Predefined
 mod PutBack
+mod Rekeyed
 mod Removed
 mod Stood
 mod TablesSeen

@@ -4,6 +4,7 @@ pub mod EmptyPlaces
 pub mod Excesses
 pub mod HeldFrames
 pub mod KeyedTables
+pub mod Keyings
 pub mod Leaving
 pub mod Opening
 pub mod Refusals

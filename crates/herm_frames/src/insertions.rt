@@ -82,7 +82,7 @@ fn take_table(variables: &mut Variables, path: &Path) -> Option<Box<Table>>
 
 /// Puts a table in place of what is read at a path.
 #[tactic(auto, using(crate::proofs::TablesSeen::putting_tables))]
-fn put_table(variables: &mut Variables, path: &Path, table: Box<Table>)
+pub fn put_table(variables: &mut Variables, path: &Path, table: Box<Table>)
     requires whole { IsWholeTable table.value }
     ensures seen { seen_places variables.new ≡ change_at (path_view path.now) (λ d. cell tt a_table (table_parts table.value)) (seen_places variables.old) }
     ensures keyed { keyed_places variables.new ≡ change_at (path_view path.now) (λ d. cell table.value.columns.items a_table (keyed_parts table.value)) (keyed_places variables.old) }

@@ -1,16 +1,19 @@
 //! What a process holds but its position, and what instructions do with it.
 #![tactic(auto)]
 
+mod columns;
 mod contents;
 mod counts;
 mod ends;
 mod excess;
 mod frame;
 mod insertions;
+mod keyed;
 mod loops;
 mod moves;
 mod outcome;
 mod polymorphs;
+mod rekeying;
 mod removals;
 mod rows;
 mod tables;
