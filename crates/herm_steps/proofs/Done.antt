@@ -56,12 +56,16 @@ abbrev pub with_stack : HeldState → List held.Value → HeldState
 with_stack p vs = record { position = p.position; stack = vs; frame = p.frame }
 
 -- an instruction on the frame alone
+pub on_frame : (c : ReadyCode) (i : Instruction) (b : Frame ⊤) (old now : HeldState) (f : HeldFrame) (o : code.Outcome) → old ≡ now → Stands now.frame b
+    → (Stands old.frame b → Effects o f (on_stack old.stack) (effect forget_name c i (on_stack old.stack) b)) → Performs o (with_frame old f) (effect forget_name c i (on_stack now.stack) b)
+on_frame c i b old now f o view h effects =
+    subst (λ q. Performs o (with_frame old f) (effect forget_name c i (on_stack q.stack) b)) view
+    (performs o (with_frame old f) (effect forget_name c i (on_stack old.stack) b) (effects (subst (λ q. Stands q.frame b) (sym view) h)))
+
 pub by_frame : (c : ReadyCode) (x y : Instr) (b : Frame ⊤) (old now : HeldState) (f : HeldFrame) (o : code.Outcome) → x ≡ y → old ≡ now → Stands now.frame b
     → (Stands old.frame b → Effects o f (on_stack old.stack) (effect forget_name c (instr_view y) (on_stack old.stack) b)) → Performs o (with_frame old f) (effect forget_name c (instr_view x) (on_stack now.stack) b)
 by_frame c x y b old now f o is view h effects =
-    subst (λ i. Performs o (with_frame old f) (effect forget_name c (instr_view i) (on_stack now.stack) b)) (sym is)
-    (subst (λ q. Performs o (with_frame old f) (effect forget_name c (instr_view y) (on_stack q.stack) b)) view
-    (performs o (with_frame old f) (effect forget_name c (instr_view y) (on_stack old.stack) b) (effects (subst (λ q. Stands q.frame b) (sym view) h))))
+    subst (λ i. Performs o (with_frame old f) (effect forget_name c (instr_view i) (on_stack now.stack) b)) (sym is) (on_frame c (instr_view y) b old now f o view h effects)
 
 -- an instruction on the stack alone
 pub by_stack : (c : ReadyCode) (i : Instruction) (b : Frame ⊤) (old now : HeldState) (vs : List held.Value) (o : code.Outcome) (d : Completion) → old ≡ now → Stands now.frame b

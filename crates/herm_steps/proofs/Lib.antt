@@ -7,3 +7,4 @@ pub mod SoundSteps
 pub mod Turned
 pub mod Begun
 pub mod Stepped
+pub mod KeyTaken

@@ -5,8 +5,10 @@ ghost use Rattle.herm_forms.specs.Frames as frames;
 ghost use Rattle.herm_code.specs.View.{instr_view};
 ghost use Rattle.herm_code_machine.specs.Effects.{effect};
 ghost use Rattle.herm_frames.specs.Standing.{Stands};
+ghost use Rattle.herm_instructions.specs.Instructions as instructions;
 ghost use Rattle.herm_pieces.specs.View.{ready_view};
 ghost use Rattle.herm_stack.specs.Answers.{on_stack};
+ghost use Rattle.herm_types.specs.View.{path_view};
 ghost use Rattle.herm_steps.specs.Kinds.{is_tabular};
 ghost use Rattle.herm_steps.specs.Performed.{Performs};
 
@@ -14,10 +16,12 @@ use crate::running::Running;
 use herm_code::Instr;
 use herm_frames::Outcome;
 use herm_pieces::Code;
+use herm_types::Path;
 use std::alloc::{AllocError, Global};
 
 impl Running {
-    /// Puts a row into a table, takes one out, or copies one.
+    /// Puts a row into a table, takes one out, or copies one, where the table has the key of its type, or gets it first. Want of
+    /// memory is told too where it cannot have it, or a row is no record with its fields: neither is so in checked code.
     pub fn tabulate(
         &mut self,
         alloc: Global,
@@ -27,6 +31,85 @@ impl Running {
         requires kind { is_tabular (instr_view instruction.now) ≡ true }
         ensures performed { IfOk result (λ o. (b : frames.Frame ⊤) → Stands self.old.frame b → Performs o self.new (effect forget_name (ready_view code.now) (instr_view instruction.now) (on_stack self.old.stack) b)) }
     {
-        Err(AllocError)
+        match instruction {
+            Instr::Insert(row, table) => {
+                let outcome = self.insert(alloc, code, row, table)?;
+                Ok(outcome)
+            }
+            Instr::Remove(target, table, n) => {
+                let outcome = self.remove(alloc, code, target, table, *n)?;
+                Ok(outcome)
+            }
+            Instr::Get(target, table, n) => {
+                let outcome = self.get(alloc, code, target, table, *n)?;
+                Ok(outcome)
+            }
+            _ => Ok(Outcome::Stuck),
+        }
+    }
+
+    /// Moves a row into a table.
+    fn insert(
+        &mut self,
+        alloc: Global,
+        code: &Code,
+        row: &Path,
+        table: &Path,
+    ) -> Result<Outcome, AllocError>
+        ensures performed { IfOk result (λ o. (b : frames.Frame ⊤) → Stands self.old.frame b → Performs o self.new (effect forget_name (ready_view code.now) (instructions.Insert (path_view row.now) (path_view table.now)) (on_stack self.old.stack) b)) }
+    {
+        let of = code.code.vars.as_slice();
+        let Some(outcome) = self.frame.insert_row(alloc, code.types, of, row, table)? else {
+            return Err(AllocError);
+        };
+        Ok(outcome)
+    }
+
+    /// Takes the row out of a table that has the key of so many values on the stack.
+    fn remove(
+        &mut self,
+        alloc: Global,
+        code: &Code,
+        target: &Path,
+        table: &Path,
+        n: u32,
+    ) -> Result<Outcome, AllocError>
+        ensures performed { IfOk result (λ o. (b : frames.Frame ⊤) → Stands self.old.frame b → Performs o self.new (effect forget_name (ready_view code.now) (instructions.Remove (path_view target.now) (path_view table.now) n) (on_stack self.old.stack) b)) }
+    {
+        let Some(key) = self.stack.take_key(alloc, n as usize)? else {
+            return Ok(Outcome::Stuck);
+        };
+        let of = code.code.vars.as_slice();
+        let Some(outcome) = self
+            .frame
+            .take_row(alloc, code.types, of, target, table, &key)?
+        else {
+            return Err(AllocError);
+        };
+        Ok(outcome)
+    }
+
+    /// Copies the row of a table that has the key of so many values on the stack.
+    fn get(
+        &mut self,
+        alloc: Global,
+        code: &Code,
+        target: &Path,
+        table: &Path,
+        n: u32,
+    ) -> Result<Outcome, AllocError>
+        ensures performed { IfOk result (λ o. (b : frames.Frame ⊤) → Stands self.old.frame b → Performs o self.new (effect forget_name (ready_view code.now) (instructions.Get (path_view target.now) (path_view table.now) n) (on_stack self.old.stack) b)) }
+    {
+        let Some(key) = self.stack.take_key(alloc, n as usize)? else {
+            return Ok(Outcome::Stuck);
+        };
+        let of = code.code.vars.as_slice();
+        let Some(outcome) = self
+            .frame
+            .copy_row(alloc, code.types, of, target, table, &key)?
+        else {
+            return Err(AllocError);
+        };
+        Ok(outcome)
     }
 }
