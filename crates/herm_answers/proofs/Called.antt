@@ -59,7 +59,7 @@ composed_from modes inputs lost moved b k is =
     subst (IsComposedFrom b) m.2 (record { call = kept; who = (t.0.frame.number, t.0.frame.calls); caller = refl })
 
 -- the counts of steps and actions make no difference to the callmessage
-abbrev message_in : Composed ⊤ → Value
+abbrev pub message_in : Composed ⊤ → Value
 message_in k = k.message
 
 recounted : (n m : ℕ) (x : Option (Composed ⊤)) → option_map message_in (option_map (recount_composed n m) x) ≡ option_map message_in x
@@ -70,7 +70,7 @@ by_counts : (c : ReadyCode) (arguments : List Argument) (values : List Value) (n
 by_counts c arguments values n m s =
     ap (option_map message_in) (recount-compose n m forget_name (map mode_of arguments) (parts_from values) (flat_map (λ p. excess_over_full c.scope p s) (inouts arguments)) (inouts arguments) s) ∙ recounted n m (composed_of forget_name c arguments values s)
 
-same_messages : (c : ReadyCode) (arguments : List Argument) (values : List Value) (has_step : Bool) (s : Frame ⊤)
+pub same_messages : (c : ReadyCode) (arguments : List Argument) (values : List Value) (has_step : Bool) (s : Frame ⊤)
     → option_map message_in (composed_of forget_name c arguments values (counted_action (counted_if has_step s))) ≡ option_map message_in (composed_of forget_name c arguments values s)
 same_messages c arguments values true s = by_counts c arguments values (suc s.steps) (suc s.actions) s
 same_messages c arguments values false s = by_counts c arguments values s.steps (suc s.actions) s

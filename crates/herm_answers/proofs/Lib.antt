@@ -2,6 +2,12 @@ pub mod Behind
 pub mod Called
 pub mod Comes
 pub mod Heard
+pub mod Messages
 pub mod Out
 pub mod Placed
+pub mod Replied
+pub mod Returned
 pub mod Sent
+pub mod Stays
+pub mod Taken
+pub mod Wants

@@ -2,8 +2,8 @@
 use Rattle.std.specs.Prelude.{◌≡◌, ℕ, List, Option, Some, option_and_then, ⊤}
 use Rattle.herm_model.specs.Paths.{Path}
 use Rattle.herm_model.specs.Values.{Value, cell_at}
-use Rattle.herm_journal.specs.Actions.{to_put}
-use Rattle.herm_journal.specs.Messages.{CellWant}
+use Rattle.herm_journal.specs.Actions.{to_put, to_answer}
+use Rattle.herm_journal.specs.Messages.{CellReply, CellWant}
 use Rattle.herm_journal.specs.Renaming.{forget_name}
 use Rattle.herm_forms.specs.Acts.{given_at, given_back}
 use Rattle.herm_forms.specs.Callmessages.{Composed}
@@ -40,6 +40,10 @@ IsLeft c _ before b stack f = ⊥
 abbrev pub IsPutOf : Value → CellWant ⊤ → Type 0
 IsPutOf m w = (port : ℕ) × (w ≡ to_put port m)
 
+-- what is wanted is to answer a caller with this
+abbrev pub IsAnswerBy : CellReply ⊤ → CellWant ⊤ → Type 0
+IsAnswerBy reply w = (caller call : ℕ) × (w ≡ to_answer caller call reply)
+
 -- The process has the order of this state's action out.
 pub record HoldsOrder (c : ReadyCode) (p : HeldState) (s : CodeState ⊤) : Type 0 where
   pub piece : Piece
@@ -50,6 +54,10 @@ pub record HoldsOrder (c : ReadyCode) (p : HeldState) (s : CodeState ⊤) : Type
   pub there : stack_before_action c piece s.frame.variables s.stack ≡ Some before
   pub left : IsLeft c met.instruction before (counted_action (counted_if piece.has_step s.frame)) (on_stack p.stack) p.frame
 
--- what is wanted is to put this
+-- what this state wants is to put this
 abbrev pub IsWanted : ReadyCode → (message : Value) → CodeState ⊤ → Type 0
 IsWanted c m s = (w : CellWant ⊤) × (code_wanted forget_name c s ≡ Some w) × IsPutOf m w
+
+-- what this state wants is to answer a caller with this
+abbrev pub IsWantedReply : ReadyCode → CellReply ⊤ → CodeState ⊤ → Type 0
+IsWantedReply c reply s = (w : CellWant ⊤) × (code_wanted forget_name c s ≡ Some w) × IsAnswerBy reply w

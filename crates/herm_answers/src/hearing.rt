@@ -48,7 +48,7 @@ pub fn was_heard(
 }
 
 /// The arguments of a call, and what its exceptions keep.
-fn call_of(instruction: &Instr) -> Option<(&[Arg], &[RaiseDecl])>
+pub fn call_of(instruction: &Instr) -> Option<(&[Arg], &[RaiseDecl])>
     ensures call { IfSome result (λ a. (o : Path) × (instr_view instruction.now ≡ instructions.Call o (map argument_view a.0.now) (map raise_decl_view a.1.now))) }
     ensures other { IfNone result (is_call (instr_view instruction.now) ≡ false) }
 {

@@ -46,7 +46,7 @@ fn putting_of(instruction: &Instr) -> Putting
 }
 
 /// The action whose order is out.
-fn ordered<'i>(process: &Running, code: &Code<'i>) -> Option<Met<'i>>
+pub fn ordered<'i>(process: &Running, code: &Code<'i>) -> Option<Met<'i>>
     ensures ordered { (s : CodeState ⊤) (o : HoldsOrder (ready_view code.now) process.now s) → option_map met_view result ≡ Some o.met }
 {
     action_at(code, process.position)
