@@ -1,0 +1,3 @@
+mod SoundStates
+mod Standing
+mod Wanted

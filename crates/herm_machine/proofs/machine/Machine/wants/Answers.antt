@@ -1,0 +1,8 @@
+use Rattle.std.proofs.Common.{sym, subst}
+use Rattle.herm_machine.specs.Machines.{IsAt, code_of}
+use Rattle.herm_machine.proofs.Standing.{inside-at, told-want}
+use Rattle.herm_machine.proofs.machine.Machine.wants.Goals as goal
+
+pub returns-in-None-clause-wanted : goal.returns-in-None-clause-wanted
+returns-in-None-clause-wanted c = λ image main s at.
+    inside-at image main _ s c.in-None.is (subst (λ m. IsAt image main m s) (sym c.self.view_is) at) (λ h. told-want image main _ s c.wants.result h.sound (λ w e. c.wants.ensures.want s w h.stands e) (λ e. c.wants.ensures.nothing s h.stands e))

@@ -1,0 +1,12 @@
+//! One process of an image, as a machine: its local steps, what it wants of a place, and what the answers leave.
+#![tactic(auto)]
+
+mod looking;
+mod machine;
+mod order;
+mod settling;
+mod taking;
+mod types;
+
+pub use machine::Machine;
+pub use order::{Got, Order};

@@ -1,0 +1,287 @@
+//! One process of an image.
+ghost use Rattle.std.specs.Prelude.{◌≡◌, ◌<◌, ◌↔◌, ℕ, List, Some, None, true, false, option_map, option_and_then, slice_get, length, IfOk, OnOk, IsErr, ⊤};
+ghost use Rattle.herm_model.specs.Values.{an_inport};
+ghost use Rattle.herm_journal.specs.Actions.{to_answer, to_put, to_take};
+ghost use Rattle.herm_journal.specs.Entries.{map_reply, texts_of};
+ghost use Rattle.herm_journal.specs.Messages.{CellAction, CellReply, CellWant};
+ghost use Rattle.herm_system.specs.Ledger.{held_by};
+ghost use Rattle.herm_system.specs.Summary.{cut};
+ghost use Rattle.herm_system.specs.Suiting.{Answers, Suits};
+ghost use Rattle.herm_instructions.specs.Images as images;
+ghost use Rattle.herm_code.specs.View.{image_view};
+ghost use Rattle.herm_code_machine.specs.CodeSteps.{code_next};
+ghost use Rattle.herm_code_machine.specs.CodeStates.{CodeState};
+ghost use Rattle.herm_events.specs.View.{reply_trace_view};
+ghost use Rattle.herm_values.specs.View.{leaf, value_view};
+ghost use Rattle.herm_letters.specs.Letters.{IsWholeReply};
+ghost use Rattle.herm_letters.specs.View.{reply_view};
+ghost use Rattle.herm_exchanges.specs.Told.{told, want_view};
+ghost use Rattle.herm_steps.specs.Coming.{coming, end_view};
+ghost use Rattle.herm_machine.specs.Gots.{Fits, IsOrdered, IsSuiting, IsWholeGot, TellsGot};
+ghost use Rattle.herm_machine.specs.Machines.{HasOut, IsAnswerWanted, IsAt, IsInside, IsPutWanted, IsTakeWanted, Reaches, StandsFor, begins_with_step, code_of, end_of, nameless};
+
+use crate::order::Got;
+use crate::settling::settle;
+use crate::taking::{count_aside, is_full, message_of, reply_of};
+use herm_base::{PortNo, ProcNo};
+use herm_code::Image;
+use herm_events::ReplyTrace;
+use herm_exchanges::Want;
+use herm_letters::{Letter, Reply, reply_trace_of};
+use herm_pieces::Code;
+use herm_steps::{End, Next, Running, sound_steps_are_made};
+use std::alloc::{AllocError, Global};
+use std::marker::Model;
+
+/// One process of an image. Contracts see its code made ready, where it is and what it holds, the want whose message or reply was
+/// taken out, and whether a call failed: it is dead from then on. If it is not dead it is at a state of the machine of code
+/// that is sound.
+#[derive(Drop)]
+pub struct Machine<'i> {
+    alloc: Global,
+    code: Code<'i>,
+    running: Running,
+    order: Option<Want>,
+    is_front: bool,
+    is_dead: bool,
+}
+
+impl<'i> Model for Machine<'i> {
+    ghost use Rattle.std.specs.Coded.{codes};
+    ghost use Rattle.herm_values.specs.contracts.value.Value as held;
+    ghost use Rattle.herm_values.specs.contracts.work.WorkItem as item;
+    ghost use Rattle.herm_machine.specs.Machines.{IsMachine, MachineState};
+
+    ghost Value = { MachineState };
+
+    ghost coded = { Prim.hlevel (codes, held.the_row.coded, item.the_row.coded) };
+
+    ghost view = { λ m. record { code = m.code; held = m.running; order = m.order; is_front = m.is_front; is_dead = m.is_dead } };
+
+    ghost invariant = { λ m. IsMachine (record { code = m.code; held = m.running; order = m.order; is_front = m.is_front; is_dead = m.is_dead }) };
+}
+
+impl<'i> Machine<'i> {
+    /// The process with this number begins, of the process module with this number, with the inport of its first port.
+    pub fn begin(
+        alloc: Global,
+        number: ProcNo,
+        image: &'i Image,
+        module_number: u32,
+        first: PortNo,
+    ) -> Result<Machine<'i>, AllocError>
+        requires there { module_number < length image.now.modules }
+        ensures begins { IfOk result (λ m. (main : ℕ) → Reaches (image_view image.now) main m ((nameless (image_view image.now) main).begin module_number number.number (leaf (an_inport first.number)))) }
+    {
+        let Some(code) = Code::of(image, module_number) else {
+            unreachable!()
+        };
+        image.keeps();
+        image.types().keeps();
+        let Some(running) = Running::begin(alloc, &code, number, first)? else {
+            unreachable!()
+        };
+        Ok(Machine {
+            alloc,
+            code,
+            running,
+            order: None,
+            is_front: false,
+            is_dead: false,
+        })
+    }
+
+    /// What it wants of a place, also while its order is out. None while a local step is next, or it has ended, or is dead.
+    pub fn wants(&self) -> Option<Want>
+        ensures wanted { (image : images.Image) (main : ℕ) (s : CodeState ⊤) → IsAt image main self.now s → option_map want_view result ≡ option_and_then told ((nameless image main).wanted s) }
+        ensures dead { self.now.is_dead ≡ true → result ≡ None }
+    {
+        if self.is_dead {
+            return None;
+        }
+        match self.order {
+            Some(want) => Some(want),
+            None => self.running.wants(&self.code),
+        }
+    }
+
+    /// The port at this place among those from which it wants to take a message.
+    pub fn look(&self, place: usize) -> PortNo
+        requires alive { self.now.is_dead ≡ false }
+        requires take { (image : images.Image) (main : ℕ) (s : CodeState ⊤) → IsAt image main self.now s → IsTakeWanted place ((nameless image main).wanted s) }
+        ensures port { (image : images.Image) (main : ℕ) (s : CodeState ⊤) (ports : List ℕ) → IsAt image main self.now s → (nameless image main).wanted s ≡ Some (to_take ports) → slice_get ports place ≡ Some result.number }
+    {
+        let Some(port) = self.running.look(&self.code, place) else {
+            unreachable!()
+        };
+        port
+    }
+
+    /// How it ended, if it has. A dead process has not ended.
+    pub fn ended(&self) -> Option<End>
+        ensures end { (image : images.Image) (main : ℕ) (s : CodeState ⊤) → IsAt image main self.now s → option_map end_view result ≡ end_of (code_of self.now) s }
+        ensures dead { self.now.is_dead ≡ true → result ≡ None }
+    {
+        if self.is_dead {
+            return None;
+        }
+        if self.order.is_some() {
+            return None;
+        }
+        self.running.ended(&self.code)
+    }
+
+    /// Whether what comes next begins with a step. A dead process has no next.
+    pub fn has_step(&self) -> bool
+        ensures step { (image : images.Image) (main : ℕ) (s : CodeState ⊤) → StandsFor image main self.now s → result ≡ begins_with_step (coming (code_next (code_of self.now) s)) }
+    {
+        match self.running.next(&self.code) {
+            Next::Item => false,
+            Next::Reply(_) => false,
+            Next::Action(piece, _) => piece.has_step,
+            Next::Local(piece) => piece.has_step,
+            Next::Nothing => false,
+        }
+    }
+
+    /// Makes its local step, which is next.
+    pub fn local_step(&mut self) -> Result<(), AllocError>
+        requires unwanted { (image : images.Image) (main : ℕ) (s : CodeState ⊤) → IsAt image main self.old s → (nameless image main).wanted s ≡ None }
+        requires goes_on { (image : images.Image) (main : ℕ) (s : CodeState ⊤) → IsAt image main self.old s → end_of (code_of self.old) s ≡ None }
+        ensures step { OnOk result ((image : images.Image) (main : ℕ) (s : CodeState ⊤) → IsAt image main self.old s → Reaches image main self.new ((nameless image main).local_step s)) }
+        ensures failed { IsErr result → self.new.is_dead ≡ true }
+        ensures dead { self.old.is_dead ≡ true → IsErr result }
+    {
+        if self.is_dead {
+            return Err(AllocError);
+        }
+        self.is_dead = true;
+        if is_full(&self.running) {
+            return Err(AllocError);
+        }
+        sound_steps_are_made();
+        let made = self.running.local_step(self.alloc, &self.code)?;
+        if !made {
+            unreachable!()
+        }
+        self.is_dead = false;
+        Ok(())
+    }
+
+    /// Takes out the letter that it wants to put.
+    pub fn letter(&mut self) -> Result<Letter, AllocError>
+        requires inside { IsInside self.old }
+        requires put { (image : images.Image) (main : ℕ) (s : CodeState ⊤) → IsAt image main self.old s → IsPutWanted ((nameless image main).wanted s) }
+        ensures letter { IfOk result (λ l. (image : images.Image) (main : ℕ) (s : CodeState ⊤) → IsAt image main self.old s → (port : ℕ) × ((nameless image main).wanted s ≡ Some (to_put port (value_view l)))) }
+        ensures out { OnOk result ((image : images.Image) (main : ℕ) (s : CodeState ⊤) → IsAt image main self.old s → HasOut image main self.new s) }
+        ensures failed { IsErr result → self.new.is_dead ≡ true }
+        ensures dead { self.old.is_dead ≡ true → IsErr result }
+    {
+        if self.is_dead {
+            return Err(AllocError);
+        }
+        self.is_dead = true;
+        let want = self.running.wants(&self.code);
+        let Some(message) = message_of(&mut self.running, self.alloc, &self.code)? else {
+            unreachable!()
+        };
+        let Ok(letter) = Letter::of(self.alloc, message) else {
+            return Err(AllocError);
+        };
+        self.order = want;
+        self.is_front = false;
+        self.is_dead = false;
+        Ok(letter)
+    }
+
+    /// Takes out the reply that it wants to answer with, and its text twice.
+    pub fn reply(&mut self) -> Result<(Reply, ReplyTrace, ReplyTrace), AllocError>
+        requires inside { IsInside self.old }
+        requires answer { (image : images.Image) (main : ℕ) (s : CodeState ⊤) → IsAt image main self.old s → IsAnswerWanted ((nameless image main).wanted s) }
+        ensures reply { IfOk result (λ r. (image : images.Image) (main : ℕ) (s : CodeState ⊤) → IsAt image main self.old s → (caller call : ℕ) × ((nameless image main).wanted s ≡ Some (to_answer caller call (reply_view r.0)))) }
+        ensures whole { IfOk result (λ r. IsWholeReply r.0) }
+        ensures texts { IfOk result (λ r. (reply_trace_view r.1 ≡ map_reply texts_of (reply_view r.0)) × (reply_trace_view r.2 ≡ map_reply texts_of (reply_view r.0))) }
+        ensures out { OnOk result ((image : images.Image) (main : ℕ) (s : CodeState ⊤) → IsAt image main self.old s → HasOut image main self.new s) }
+        ensures failed { IsErr result → self.new.is_dead ≡ true }
+        ensures dead { self.old.is_dead ≡ true → IsErr result }
+    {
+        if self.is_dead {
+            return Err(AllocError);
+        }
+        self.is_dead = true;
+        let want = self.running.wants(&self.code);
+        let Some((reply, is_front)) = reply_of(&mut self.running, self.alloc, &self.code)? else {
+            unreachable!()
+        };
+        let diary = reply_trace_of(self.alloc, &reply)?;
+        let history = reply_trace_of(self.alloc, &reply)?;
+        self.order = want;
+        self.is_front = is_front;
+        self.is_dead = false;
+        Ok((reply, diary, history))
+    }
+
+    /// Whether what it got is what it waits for. It takes no memory.
+    pub fn suits(&self, got: &Got) -> bool
+        requires whole { IsWholeGot got.now }
+        ensures suits { (image : images.Image) (main : ℕ) (s : CodeState ⊤) (at : ℕ) (a : CellAction ⊤) → IsAt image main self.now s → TellsGot got.now at a → (result ≡ true) ↔ Suits (nameless image main) s at a }
+    {
+        false
+    }
+
+    /// Goes on with what it got for what it wanted, up to its next piece.
+    pub fn took(&mut self, got: Got) -> Result<(), AllocError>
+        requires whole { IsWholeGot got }
+        requires fits { Fits self.old got }
+        requires suits { IsSuiting self.old got }
+        requires ordered { IsOrdered self.old got }
+        ensures answered { OnOk result ((image : images.Image) (main : ℕ) (s : CodeState ⊤) (w : CellWant ⊤) (at : ℕ) (a : CellAction ⊤) → IsAt image main self.old s → (nameless image main).wanted s ≡ Some w → Answers w a → TellsGot got at a → Reaches image main self.new ((nameless image main).answered s at a)) }
+        ensures failed { IsErr result → self.new.is_dead ≡ true }
+        ensures dead { self.old.is_dead ≡ true → IsErr result }
+    {
+        if self.is_dead {
+            return Err(AllocError);
+        }
+        self.is_dead = true;
+        let goes = settle(
+            &mut self.running,
+            self.alloc,
+            &self.code,
+            self.is_front,
+            got,
+        )?;
+        if !goes {
+            unreachable!()
+        }
+        self.order = None;
+        self.is_dead = false;
+        Ok(())
+    }
+
+    /// Counts one action more, where what it got is put aside.
+    pub fn put_aside(&mut self)
+        requires inside { IsInside self.old }
+        requires few { self.old.held.frame.actions < u64.MAX }
+        ensures aside { (image : images.Image) (main : ℕ) (s : CodeState ⊤) → IsAt image main self.old s → StandsFor image main self.new ((nameless image main).put_aside s) }
+        ensures dead { self.new.is_dead ≡ self.old.is_dead }
+    {
+        count_aside(&mut self.running);
+    }
+
+    /// How many steps and how many actions it has made.
+    pub fn counts(&self) -> (u64, u64)
+        ensures counts { (image : images.Image) (main : ℕ) (s : CodeState ⊤) → StandsFor image main self.now s → (result.0 ≡ (nameless image main).steps s) × (result.1 ≡ (nameless image main).actions s) }
+        ensures held { (result.0 ≡ self.now.held.frame.steps) × (result.1 ≡ self.now.held.frame.actions) }
+    {
+        (self.running.frame.steps(), self.running.frame.actions())
+    }
+
+    /// How many cells it has made, how many it holds, and how many it has finalised, each cut at 2^63.
+    pub fn cells(&self) -> (u64, u64, u64)
+        ensures made { (image : images.Image) (main : ℕ) (s : CodeState ⊤) → StandsFor image main self.now s → result.0 ≡ cut ((nameless image main).serial s) }
+        ensures held { (image : images.Image) (main : ℕ) (s : CodeState ⊤) → StandsFor image main self.now s → result.1 ≡ cut (held_by (λ n. 1) (nameless image main) s) }
+        ensures finalised { (image : images.Image) (main : ℕ) (s : CodeState ⊤) → StandsFor image main self.now s → result.2 ≡ cut (length ((nameless image main).finalised s)) }
+    {
+        (0, 0, 0)
+    }
+}
