@@ -1,3 +1,4 @@
+mod Awaited
 mod SoundStates
 mod Standing
 mod Wanted

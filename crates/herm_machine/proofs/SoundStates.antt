@@ -127,7 +127,8 @@ module _ (image : Image) (main : ℕ) where
   answer-sound c s w at a h wanted answers suits =
       let x = h.named in
       let forgets = code-forgets-names ready in
-      let want = map-some (rename_want forget_name) ((code_machine ready).wanted x) w (sym (forgets.wants x) ∙ ap (nameless image main).wanted h.same ∙ wanted) in
+      let seen : (nameless image main).wanted (forget_code x) ≡ (nameless image main).wanted s = ap (λ s. (nameless image main).wanted s) h.same in
+      let want = map-some (rename_want forget_name) ((code_machine ready).wanted x) w (sym (forgets.wants x) ∙ seen ∙ wanted) in
       let n = named-action want.0 a (subst (λ w. Answers w a) (sym want.2) answers) in
       let fits = nameless-suits (code_machine ready) (nameless image main) forget_code forgets x at n.action (subst₂ (λ s a. Suits (nameless image main) s at a) (sym h.same) (sym n.same) suits) in
       let y = (goes-on h.exceptions image main h.good).answers x want.0 at n.action h.sound want.1 n.answers fits in

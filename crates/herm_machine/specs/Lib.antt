@@ -1,3 +1,4 @@
+pub mod Awaited
 pub mod Gots
 pub mod Kinds
 pub mod Machines

@@ -5,6 +5,7 @@ mod looking;
 mod machine;
 mod order;
 mod settling;
+mod suiting;
 mod taking;
 mod types;
 

@@ -17,11 +17,14 @@ ghost use Rattle.herm_letters.specs.Letters.{IsWholeReply};
 ghost use Rattle.herm_letters.specs.View.{reply_view};
 ghost use Rattle.herm_exchanges.specs.Told.{told, want_view};
 ghost use Rattle.herm_steps.specs.Coming.{coming, end_view};
+ghost use Rattle.herm_steps.specs.StandingAt.{StandsAt};
+ghost use Rattle.herm_answers.specs.Orders.{HoldsOrder};
 ghost use Rattle.herm_machine.specs.Gots.{Fits, IsOrdered, IsSuiting, IsWholeGot, TellsGot};
 ghost use Rattle.herm_machine.specs.Machines.{HasOut, IsAnswerWanted, IsAt, IsInside, IsPutWanted, IsTakeWanted, Reaches, StandsFor, begins_with_step, code_of, end_of, nameless};
 
 use crate::order::Got;
 use crate::settling::settle;
+use crate::suiting::{is_awaited, is_heard};
 use crate::taking::{count_aside, is_full, message_of, reply_of};
 use herm_base::{PortNo, ProcNo};
 use herm_code::Image;
@@ -226,7 +229,37 @@ impl<'i> Machine<'i> {
         requires whole { IsWholeGot got.now }
         ensures suits { (image : images.Image) (main : ℕ) (s : CodeState ⊤) (at : ℕ) (a : CellAction ⊤) → IsAt image main self.now s → TellsGot got.now at a → (result ≡ true) ↔ Suits (nameless image main) s at a }
     {
-        false
+        match got {
+            Got::Port(_) => true,
+            Got::Process(_) => true,
+            Got::Placed { .. } => true,
+            Got::Back { .. } => true,
+            Got::Message { port, parcel } => {
+                if self.gave_away() {
+                    return false;
+                }
+                is_awaited(&self.running, &self.code, *port, &parcel.value)
+            }
+            Got::Left(_) => true,
+            Got::Answered => true,
+            Got::Heard { call, reply, .. } => {
+                if self.gave_away() {
+                    return false;
+                }
+                is_heard(&self.running, &self.code, *call, reply)
+            }
+        }
+    }
+
+    /// Whether an order is out with which something was given away.
+    fn gave_away(&self) -> bool
+        ensures out { result ≡ true → (image : images.Image) (main : ℕ) (s : CodeState ⊤) → IsAt image main self.now s → HoldsOrder (code_of self.now) self.now.held s }
+        ensures inside { result ≡ false → (image : images.Image) (main : ℕ) (s : CodeState ⊤) → IsAt image main self.now s → StandsAt self.now.held s }
+    {
+        match self.order {
+            Some(_) => !self.is_front,
+            None => false,
+        }
     }
 
     /// Goes on with what it got for what it wanted, up to its next piece.
