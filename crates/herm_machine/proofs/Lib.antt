@@ -1,4 +1,5 @@
 mod Awaited
+mod Ports
 mod SoundStates
 mod Standing
 mod Wanted

@@ -132,10 +132,11 @@ module _ (image : Image) (main : ℕ) where
       let n = named-action want.0 a (subst (λ w. Answers w a) (sym want.2) answers) in
       let fits = nameless-suits (code_machine ready) (nameless image main) forget_code forgets x at n.action (subst₂ (λ s a. Suits (nameless image main) s at a) (sym h.same) (sym n.same) suits) in
       let y = (goes-on h.exceptions image main h.good).answers x want.0 at n.action h.sound want.1 n.answers fits in
+      let there : option_map forget_code ((code_machine ready).answered x at n.action) ≡ Some (forget_code y.0) = ap (option_map forget_code) y.1 in
       let stays = (stays-sound h.exceptions image main h.good).answers x y.0 want.0 at n.action h.sound want.1 n.answers fits y.1 in
       record {
         behind = forget_code y.0;
-        is = subst₂ (λ s a. (nameless image main).answered s at a ≡ Some (forget_code y.0)) h.same n.same (forgets.answers x at n.action ∙ ap (option_map forget_code) y.1);
+        is = subst₂ (λ s a. (nameless image main).answered s at a ≡ Some (forget_code y.0)) h.same n.same (forgets.answers x at n.action ∙ there);
         sound = record {
           exceptions = h.exceptions;
           good = h.good;

@@ -1,5 +1,5 @@
 //! One process of an image.
-ghost use Rattle.std.specs.Prelude.{◌≡◌, ◌<◌, ◌↔◌, ℕ, List, Some, None, true, false, option_map, option_and_then, slice_get, length, IfOk, OnOk, IsErr, ⊤};
+ghost use Rattle.std.specs.Prelude.{◌≡◌, ◌<◌, ◌↔◌, ℕ, List, Some, None, true, false, is_some, option_map, option_and_then, slice_get, length, IfOk, OnOk, IsErr, ⊤};
 ghost use Rattle.herm_model.specs.Values.{an_inport};
 ghost use Rattle.herm_journal.specs.Actions.{to_answer, to_put, to_take};
 ghost use Rattle.herm_journal.specs.Entries.{map_reply, texts_of};
@@ -97,6 +97,7 @@ impl<'i> Machine<'i> {
     /// What it wants of a place, also while its order is out. None while a local step is next, or it has ended, or is dead.
     pub fn wants(&self) -> Option<Want>
         ensures wanted { (image : images.Image) (main : ℕ) (s : CodeState ⊤) → IsAt image main self.now s → option_map want_view result ≡ option_and_then told ((nameless image main).wanted s) }
+        ensures there { (image : images.Image) (main : ℕ) (s : CodeState ⊤) (w : CellWant ⊤) → IsAt image main self.now s → (nameless image main).wanted s ≡ Some w → is_some result ≡ true }
         ensures dead { self.now.is_dead ≡ true → result ≡ None }
     {
         if self.is_dead {
