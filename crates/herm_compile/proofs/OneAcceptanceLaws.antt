@@ -27,13 +27,14 @@ use Rattle.herm_compile.specs.Places.{line_number_at, column_at}
 use Rattle.herm_compile.specs.Spots.{owner_of, bytes_of}
 use Rattle.herm_compile.specs.ThirdPhase.{HaveProgram}
 use Rattle.herm_compile.specs.FourthPhase.{missing_fault, process_modules, AreUnaccepted}
-use Rattle.herm_compile.specs.OneDefinition.{PlacedFact, placed_fact, told_of, FactsAreOneList, AcceptedOrFaults}
+use Rattle.herm_compile.specs.OneDefinition.{PlacedFact, placed_fact, told_of, FactsAreOneList, AcceptedOrFaults, AcceptedOrRefused}
 use Rattle.herm_compile.specs.declared.fault.Fault.{Fault}
 use Rattle.herm_compile.proofs.FilesAlike.{same_read, same_owners}
 use Rattle.herm_compile.proofs.StatementPlaces.{start_of}
-use Rattle.herm_compile.proofs.OneNamingLaws.{module_starts, starts_read}
+use Rattle.herm_compile.proofs.OneNamingLaws.{module_starts, starts_read, program_or_faults}
 use Rattle.herm_compile.proofs.WrittenPlaces.{body_placed}
-use Rattle.herm_compile.proofs.OneAnswerLaws.{one_program}
+use Rattle.herm_compile.proofs.OneAnswerLaws.{one_program, types_or_faults}
+use Rattle.herm_compile.proofs.PhaseLaws.{no_first_faults}
 
 -- ---- what is told of a process
 
@@ -190,3 +191,17 @@ accepted_or_faults files table processes main faults program accepted u =
     let all = subst (λ (t : NamedTable). (p : Process) → IsIn p processes → IsAccepted t.shapes p) one.0 accepted in
     let theirs = subst (λ (ps : List Process). (p : Process) → IsIn p ps → IsAccepted u.table.shapes p) one.1 all in
     u.some (none_lacking u.table 0 u.program.processes.items u.list theirs u.are)
+
+-- ---- no phase has a fault
+
+no_faults : (faults : List Fault) → map fault_view faults ≡ [] → faults ≡ []
+no_faults [] e = refl
+no_faults (f ∷ faults) e = absurd (cc)
+
+pub accepted_or_refused : AcceptedOrRefused
+accepted_or_refused files table processes main faults program accepted (inl unread) =
+    unread.some (no_faults faults (no_first_faults 0 files program.modules program.owners (map fault_view faults) program.read unread.each))
+accepted_or_refused files table processes main faults program accepted (inr (inl misdefined)) =
+    types_or_faults files table faults (record { modules = program.modules; owners = program.owners; read = program.read; are = program.types }) misdefined
+accepted_or_refused files table processes main faults program accepted (inr (inr (inl misnamed))) = program_or_faults files table processes main faults program misnamed
+accepted_or_refused files table processes main faults program accepted (inr (inr (inr lacking))) = accepted_or_faults files table processes main faults program accepted lacking

@@ -128,3 +128,13 @@ trees_or_fault bytes (faults.Syntax offset) trees has =
 trees_or_fault bytes (faults.Nesting offset) trees has =
     let same = ap (λ (ts : List Token). symbols_of ts) (one_token_list bytes trees.1.tokens has.0 trees.1.read has.1) in
     none_too_deep (symbols_of has.0) has.2.left (subst (λ (s : List Symbol). IsWithinRoom most_brackets s) same trees.1.parsed.within) has.2.deep
+
+-- files that have trees have no fault of the first phase
+no_fault_said : (bytes : List ℕ) (said : Option FileFault) (number : ℕ) (others seen : List Seen) → HasTrees bytes → IsSaid bytes said → seen ≡ fault_list number bytes said ++ others → others ≡ [] → seen ≡ []
+no_fault_said bytes None number others seen trees is e none = e ∙ none
+no_fault_said bytes (Some fault) number others seen trees is e none = absurd (trees_or_fault bytes fault trees is)
+
+pub no_first_faults : (number : ℕ) (files : List (List ℕ)) (modules : List Module) (owners : List ℕ) (seen : List Seen) → HaveModules number files modules owners → AreFirstFaults number files seen → seen ≡ []
+no_first_faults number [] modules owners seen have are = are
+no_first_faults number (bytes ∷ files) modules owners seen have are =
+    no_fault_said bytes are.0 number are.2 seen (have.0, have.1) are.1 are.3 (no_first_faults (suc number) files have.2 have.3 are.2 have.6 are.4)

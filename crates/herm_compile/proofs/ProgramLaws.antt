@@ -18,7 +18,7 @@ use Rattle.herm_compile.specs.View.{Seen, fault_view}
 use Rattle.herm_meaning.specs.Names.{NamedTable}
 use Rattle.herm_model.specs.Statements.{Process}
 use Rattle.herm_compile.specs.ThirdPhase.{HaveProgram}
-use Rattle.herm_compile.specs.Refused.{reported, starts, not_built, AreNotBuilt, AreMissingFacts, IfRefused, IsExactRefusal, IsLater, AreLater}
+use Rattle.herm_compile.specs.Refused.{reported, starts, not_built, AreNotBuilt, AreMissingFacts, IfRefused, AreRefused, IsExactRefusal, IsLater, AreLater}
 use Rattle.herm_compile.specs.declared.fault.CompileFault.{CompileFault}
 use Rattle.herm_compile.specs.declared.fault.CompileFault.TheVariants.{Refused, Memory}
 use Rattle.herm_compile.specs.declared.check.Gap.{Gap}
@@ -197,10 +197,15 @@ pub more_files_later : (bytes more : List ℕ) (files : List (List ℕ)) (fault 
 more_files_later bytes more files (Refused faults) one = inl (record { none = λ names lines f. f; one = one })
 more_files_later bytes more files Memory one = tt
 
+-- files that a phase refuses are rightly refused
+pub by_a_phase : (files : List (List ℕ)) (fault : CompileFault) → IfRefused fault (λ faults. AreRefused files faults) → IsExactRefusal files fault
+by_a_phase files (Refused faults) are = inl are
+by_a_phase files Memory are = tt
+
 -- what is rightly said of files that mean a program whose processes are accepted
 pub later_refused : (files : List (List ℕ)) (types : NamedTable) (processes : List Process) (main : ℕ) (fault : CompileFault) → HaveProgram files types processes main → ((p : Process) → IsIn p processes → IsAccepted types.shapes p)
     → IfRefused fault (λ faults. AreLater files faults) → IsExactRefusal files fault
-later_refused files types processes main (Refused faults) have accepted said = inr (inr (inr (inr (types, processes, main, have, accepted, said))))
+later_refused files types processes main (Refused faults) have accepted said = inr (types, processes, main, have, accepted, said)
 later_refused files types processes main Memory have accepted said = tt
 
 pub each_accepted : (table : TypeTable) (ps : List TypedProcess) (fs : List Flow) (ls : List Labels) (cs : List Coercions) → AreAccepted table ps fs ls cs → (p : Process) → IsIn p (map typed_process_view ps) → IsAccepted table p

@@ -10,6 +10,7 @@ use Rattle.herm_model.specs.Statements.{Process}
 use Rattle.herm_compile.specs.SecondPhase.{HaveTypes, AreMisdefined}
 use Rattle.herm_compile.specs.ThirdPhase.{HaveProgram, AreMisnamed}
 use Rattle.herm_compile.specs.FourthPhase.{AreUnaccepted}
+use Rattle.herm_compile.specs.Refused.{AreRefused}
 use Rattle.herm_compile.specs.declared.fault.Fault.{Fault}
 
 -- Files mean one table of types at most.
@@ -59,3 +60,8 @@ FactsAreOneList = (files : List (List ℕ)) (faults others : List Fault) → Are
 abbrev pub AcceptedOrFaults : Type 0
 AcceptedOrFaults = (files : List (List ℕ)) (table : NamedTable) (processes : List Process) (main : ℕ) (faults : List Fault) → HaveProgram files table processes main
     → ((p : Process) → IsIn p processes → IsAccepted table.shapes p) → AreUnaccepted files faults → ⊥
+
+-- Files that mean a program whose processes are accepted have no fault of any phase.
+abbrev pub AcceptedOrRefused : Type 0
+AcceptedOrRefused = (files : List (List ℕ)) (table : NamedTable) (processes : List Process) (main : ℕ) (faults : List Fault) → HaveProgram files table processes main
+    → ((p : Process) → IsIn p processes → IsAccepted table.shapes p) → AreRefused files faults → ⊥

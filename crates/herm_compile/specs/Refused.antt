@@ -79,12 +79,15 @@ AreLacking (bytes ∷ more ∷ files) faults = ⊥
 abbrev pub AreLater : List (List ℕ) → List Fault → Type 0
 AreLater files faults = AreNotBuilt files faults ⊎ AreLacking files faults
 
--- Files are refused by the first phase that has a fault in them: with one fault for each file that has no trees, or with those
--- of their definitions, or with those of names and types, or with those of typestate, or with what is said of files that mean a
--- program whose processes are accepted (Language reference, "Refusals").
+-- Files are refused by the first phase that has a fault in them, and with its faults: with one for each file that has no trees, or with those
+-- of their definitions, or with those of names and types, or with the facts that statements lack (Language reference, "Refusals").
 abbrev pub AreRefused : List (List ℕ) → List Fault → Type 0
-AreRefused files faults =
-    AreUnread files faults ⊎ AreMisdefined files faults ⊎ AreMisnamed files faults ⊎ AreUnaccepted files faults
+AreRefused files faults = AreUnread files faults ⊎ AreMisdefined files faults ⊎ AreMisnamed files faults ⊎ AreUnaccepted files faults
+
+-- Files are refused by a phase, or with what is said of files that mean a program whose processes are accepted.
+abbrev pub AreRefusedOrLater : List (List ℕ) → List Fault → Type 0
+AreRefusedOrLater files faults =
+    AreRefused files faults
     ⊎ ((types : NamedTable) × (processes : List Process) × (main : ℕ) × HaveProgram files types processes main
     × ((p : Process) → IsIn p processes → IsAccepted types.shapes p) × AreLater files faults)
 
@@ -94,7 +97,7 @@ IfRefused (Refused faults) holds = holds faults.items
 IfRefused Memory holds = Unit {0}
 
 abbrev pub IsExactRefusal : List (List ℕ) → CompileFault → Type 0
-IsExactRefusal files fault = IfRefused fault (λ faults. AreRefused files faults)
+IsExactRefusal files fault = IfRefused fault (λ faults. AreRefusedOrLater files faults)
 
 -- A file that means a program is refused as one of none that is built.
 abbrev pub IsLater : List ℕ → CompileFault → Type 0

@@ -1,5 +1,6 @@
-//! What the compiler gives: the names and lines of a program.
+//! What the compiler gives: programs with their images, and straight-line programs with their lines.
 use herm_base::Word;
+use herm_code::Image;
 use herm_coerce::Coercions;
 use herm_flow::Flow;
 use herm_resolve::Program;
@@ -26,10 +27,21 @@ pub struct Lines {
     pub lines: Vec<Line>,
 }
 
-/// A checked program: its types, its processes by number, and of each process its flow, what is held at each point of it and what
-/// each of its edges finalises; the names of its declared strings, and its lines.
+/// A compiled program: its processes by number, of each its flow, what is held at each point of it and what each of its edges finalises;
+/// and its image, which has its types.
 #[derive(Drop)]
 pub struct Compiled {
+    pub program: Program,
+    pub flows: Vec<Flow>,
+    pub labels: Vec<Labels>,
+    pub coercions: Vec<Coercions>,
+    pub image: Image,
+}
+
+/// A checked program that is a straight-line one: its types, its processes by number, and of each process its flow, what is held at each
+/// point of it and what each of its edges finalises; the names of its declared strings, and its lines.
+#[derive(Drop)]
+pub struct CompiledLines {
     pub types: TypeTable,
     pub program: Program,
     pub flows: Vec<Flow>,

@@ -1,8 +1,9 @@
-//! The compiler: from the bytes of a source file to a checked program.
+//! The compiler: from the bytes of source files to a checked program and its image.
 #![tactic(auto)]
 
 mod acceptance;
 mod check;
+mod checked;
 mod compiled;
 mod definitions;
 mod fault;
@@ -16,48 +17,68 @@ mod refusal;
 mod resolution;
 mod spots;
 mod stop;
+mod straight;
 
-ghost use Rattle.std.specs.Prelude.{◌≡◌, ◌⊎◌, [], ◌∷◌, map, length, IfOk, IfErr};
+ghost use Rattle.std.specs.Prelude.{◌≡◌, map, length, IfOk, IfErr};
 ghost use Rattle.herm_model.specs.Types.{predefined};
+ghost use Rattle.herm_model.specs.TypedPrograms.{IsTypedProgram};
 ghost use Rattle.herm_model.specs.MissingFacts.{IsAccepted};
-ghost use Rattle.herm_lexer.specs.Spelling.{HasTokens};
-ghost use Rattle.herm_compile.specs.Form.{IsOfForm, AreOfForm, IsFormBy, IsProgram, OneReading};
-ghost use Rattle.herm_compile.specs.Straight.{process_of, gaps};
-ghost use Rattle.herm_compile.specs.View.{fault_view};
-ghost use Rattle.herm_compile.specs.FirstPhase.{HasTrees, HaveModules, HaveTrees, TreesOrFault};
-ghost use Rattle.herm_compile.specs.SecondPhase.{HaveTypes, AreTypesOf};
+ghost use Rattle.herm_typed.specs.View.{typed_process_view};
 ghost use Rattle.herm_accept.specs.Accepted.{AreAccepted};
-ghost use Rattle.herm_compile.specs.Phases.{IsDefined, HaveThisProgram, IsOfModules, IsResolution};
-ghost use Rattle.herm_compile.specs.FourthPhase.{IsMeant};
-ghost use Rattle.herm_compile.specs.OneDefinition.{HaveOneTable, AreOneList, TypesOrFaults, HaveOneProgram, NameFaultsAreOneList, ProgramOrFaults, FactsAreOneList, AcceptedOrFaults};
-ghost use Rattle.herm_compile.specs.Refused.{IsExactRefusal, IsLater, AreLater, IfRefused, not_built, reported, starts};
+ghost use Rattle.herm_code.specs.View.{image_view};
+ghost use Rattle.herm_images.specs.CheckedPrograms.{program_view, image_of, StandsForProgram, module_names, process_names};
+ghost use Rattle.herm_compile.specs.Form.{AreOfForm, OneReading};
+ghost use Rattle.herm_compile.specs.Straight.{process_of};
+ghost use Rattle.herm_compile.specs.FirstPhase.{HaveTrees, TreesOrFault};
+ghost use Rattle.herm_compile.specs.SecondPhase.{HaveTypes};
+ghost use Rattle.herm_compile.specs.Phases.{HaveThisProgram, IsOfModules};
+ghost use Rattle.herm_compile.specs.OneDefinition.{HaveOneTable, AreOneList, TypesOrFaults, HaveOneProgram, NameFaultsAreOneList, ProgramOrFaults, FactsAreOneList, AcceptedOrFaults, AcceptedOrRefused};
+ghost use Rattle.herm_compile.specs.Refused.{IsExactRefusal, AreRefused, IfRefused};
+ghost use Rattle.herm_compile.specs.declared.fault.CompileFault.TheVariants.{Memory};
 
-use acceptance::acceptance_of;
-use check::gaps_of;
-use compiled::Lines;
-pub use compiled::{Compiled, Line};
-use definitions::types_of;
+use checked::{Checked, checked_files};
+pub use compiled::{Compiled, CompiledLines, Line};
 pub use fault::{CompileFault, Fault};
-use herm_accept::Accepted;
 use herm_base::Word;
-use herm_lexer::{LexFault, Token, lex};
-use herm_resolve::Program;
-use herm_types::TypeTable;
-use phase::{ReadFiles, read_files};
-use places::starts_of;
-use program::program_of;
-use refusal::faults_of;
-use resolution::resolution_of;
-use std::alloc::{AllocError, Global};
-use stop::Stop;
+use herm_images::image;
+use std::alloc::Global;
+use straight::with_lines;
 
 /// Compiles files, phase by phase; each phase judges the files only where the phases before it have no fault. First each file is read, in
 /// their order: of files that have no trees, the one fault of each is given. Then the definitions of all modules are read into
 /// the table of types, or refused with the faults at their names. Then the processes of all modules are read into the typed
 /// program, or refused with the faults of their names and types. Then the processes of the program are accepted, each with its flow,
-/// labels and coercions, or refused with a fault for each fact that a statement lacks. Of files whose processes are accepted, a single one
-/// is compiled where it is of a straight-line program. All others are refused with the one fault `not built`.
+/// labels and coercions, or refused with a fault for each fact that a statement lacks. Of files whose processes are accepted the image is
+/// made: it is good, and does what the program does.
+///
+/// # Errors
+///
+/// The faults of the first phase that has one, and no others; or want of memory. No memory suffices for code whose indices do not fit into
+/// 32 bits.
 pub fn compile(alloc: Global, files: &[(Word, Vec<u8>)]) -> Result<Compiled, CompileFault>
+    ensures read { IfOk result (λ c. HaveTrees (map (λ file. file.1.items) files.now)) }
+    ensures types { IfOk result (λ c. HaveTypes (map (λ file. file.1.items) files.now) c.image.types) }
+    ensures program { IfOk result (λ c. HaveThisProgram (map (λ file. file.1.items) files.now) c.image.types c.program) }
+    ensures kept { IfOk result (λ c. IsOfModules (map (λ file. file.1.items) files.now) c.image.types c.program) }
+    ensures checked { IfOk result (λ c. AreAccepted c.image.types.shapes c.program.processes.items c.flows.items c.labels.items c.coercions.items) }
+    ensures image { IfOk result (λ c. image_view c.image ≡ image_of c.image.types.shapes c.program (record { flows = c.flows; labels = c.labels; coercions = c.coercions })) }
+    ensures names { IfOk result (λ c. module_names c.image ≡ process_names c.program.processes.items) }
+    ensures stands { IfOk result (λ c. StandsForProgram c.image.types (program_view c.image.types.shapes c.program) c.image) }
+    ensures refused { IfErr result (λ e. IfRefused e (λ faults. AreRefused (map (λ file. file.1.items) files.now) faults)) }
+{
+    match checked_files(alloc, files) {
+        Ok(checked) => with_image(alloc, checked),
+        Err(fault) => Err(fault),
+    }
+}
+
+/// Compiles files as `compile` does, up to the image: of files whose processes are accepted, a single one is compiled where it is of a
+/// straight-line program. All others are refused with the one fault `not built`.
+#[tactic(auto, using(crate::proofs::ProgramLaws::by_a_phase))]
+pub fn compile_lines(
+    alloc: Global,
+    files: &[(Word, Vec<u8>)],
+) -> Result<CompiledLines, CompileFault>
     ensures read { IfOk result (λ c. HaveTrees (map (λ file. file.1.items) files.now)) }
     ensures types { IfOk result (λ c. HaveTypes (map (λ file. file.1.items) files.now) c.types) }
     ensures program { IfOk result (λ c. HaveThisProgram (map (λ file. file.1.items) files.now) c.types c.program) }
@@ -67,14 +88,9 @@ pub fn compile(alloc: Global, files: &[(Word, Vec<u8>)]) -> Result<Compiled, Com
     ensures accepted { IfOk result (λ c. IsAccepted predefined (process_of (length c.names.items) c.lines.items)) }
     ensures refused { IfErr result (λ e. IsExactRefusal (map (λ file. file.1.items) files.now) e) }
 {
-    match read_files(alloc, files) {
-        Ok(read) => {
-            if read.faults.as_slice().is_empty() {
-                return compile_read(alloc, files, &read);
-            }
-            Err(CompileFault::Refused(read.faults))
-        }
-        Err(_) => Err(CompileFault::Memory),
+    match checked_files(alloc, files) {
+        Ok(checked) => with_lines(alloc, files, checked),
+        Err(fault) => Err(fault),
     }
 }
 
@@ -102,225 +118,34 @@ pub fn one_definition()
     ensures accepted_or_faults { AcceptedOrFaults }
 {}
 
-/// Compiles files that all have trees.
-fn compile_read(
-    alloc: Global,
-    files: &[(Word, Vec<u8>)],
-    read: &ReadFiles,
-) -> Result<Compiled, CompileFault>
-    requires trees { HaveTrees (map (λ file. file.1.items) files.now) }
-    requires modules { HaveModules 0 (map (λ file. file.1.items) files.now) read.now.modules.items read.now.owners.items }
-    ensures types { IfOk result (λ c. HaveTypes (map (λ file. file.1.items) files.now) c.types) }
-    ensures program { IfOk result (λ c. HaveThisProgram (map (λ file. file.1.items) files.now) c.types c.program) }
-    ensures kept { IfOk result (λ c. IsOfModules (map (λ file. file.1.items) files.now) c.types c.program) }
-    ensures checked { IfOk result (λ c. AreAccepted c.types.shapes c.program.processes.items c.flows.items c.labels.items c.coercions.items) }
-    ensures form { IfOk result (λ c. AreOfForm (map (λ file. file.1.items) files.now) c.names.items c.lines.items) }
-    ensures accepted { IfOk result (λ c. IsAccepted predefined (process_of (length c.names.items) c.lines.items)) }
-    ensures refused { IfErr result (λ e. IsExactRefusal (map (λ file. file.1.items) files.now) e) }
-{
-    match types_of(alloc, files, read) {
-        Ok(Ok(types)) => compile_typed(alloc, files, read, types),
-        Ok(Err(faults)) => Err(CompileFault::Refused(faults)),
-        Err(_) => Err(CompileFault::Memory),
-    }
-}
+/// Files that mean a program whose processes are accepted have no fault of any phase: so files are refused by their faults exactly where a
+/// phase has one.
+pub fn accepted_or_refused()
+    ensures { AcceptedOrRefused }
+{}
 
-/// Compiles files that all have trees, and whose definitions mean these types.
-fn compile_typed(
-    alloc: Global,
-    files: &[(Word, Vec<u8>)],
-    read: &ReadFiles,
-    types: TypeTable,
-) -> Result<Compiled, CompileFault>
-    requires trees { HaveTrees (map (λ file. file.1.items) files.now) }
-    requires modules { HaveModules 0 (map (λ file. file.1.items) files.now) read.now.modules.items read.now.owners.items }
-    requires types { AreTypesOf read.now.modules.items types }
-    ensures types { IfOk result (λ c. HaveTypes (map (λ file. file.1.items) files.now) c.types) }
-    ensures program { IfOk result (λ c. HaveThisProgram (map (λ file. file.1.items) files.now) c.types c.program) }
-    ensures kept { IfOk result (λ c. IsOfModules (map (λ file. file.1.items) files.now) c.types c.program) }
-    ensures checked { IfOk result (λ c. AreAccepted c.types.shapes c.program.processes.items c.flows.items c.labels.items c.coercions.items) }
-    ensures form { IfOk result (λ c. AreOfForm (map (λ file. file.1.items) files.now) c.names.items c.lines.items) }
-    ensures accepted { IfOk result (λ c. IsAccepted predefined (process_of (length c.names.items) c.lines.items)) }
-    ensures refused { IfErr result (λ e. IsExactRefusal (map (λ file. file.1.items) files.now) e) }
+/// What was checked, with its image.
+fn with_image(alloc: Global, checked: Checked) -> Result<Compiled, CompileFault>
+    requires typed { IsTypedProgram (length checked.types.exceptions) checked.types.shapes (map typed_process_view checked.program.processes.items) checked.program.main }
+    requires checked { AreAccepted checked.types.shapes checked.program.processes.items checked.accepted.flows.items checked.accepted.labels.items checked.accepted.coercions.items }
+    ensures types { IfOk result (λ c. c.image.types ≡ checked.types) }
+    ensures program { IfOk result (λ c. c.program ≡ checked.program) }
+    ensures flows { IfOk result (λ c. c.flows ≡ checked.accepted.flows) }
+    ensures labels { IfOk result (λ c. c.labels ≡ checked.accepted.labels) }
+    ensures coercions { IfOk result (λ c. c.coercions ≡ checked.accepted.coercions) }
+    ensures image { IfOk result (λ c. image_view c.image ≡ image_of checked.types.shapes checked.program checked.accepted) }
+    ensures names { IfOk result (λ c. module_names c.image ≡ process_names checked.program.processes.items) }
+    ensures stands { IfOk result (λ c. StandsForProgram checked.types (program_view checked.types.shapes checked.program) c.image) }
+    ensures memory { IfErr result (λ e. e ≡ Memory) }
 {
-    match resolution_of(alloc, files, read, &types) {
-        Ok(Ok(program)) => compile_program(alloc, files, read, types, program),
-        Ok(Err(faults)) => Err(CompileFault::Refused(faults)),
-        Err(_) => Err(CompileFault::Memory),
-    }
-}
-
-/// Compiles files that mean this program over these types.
-fn compile_program(
-    alloc: Global,
-    files: &[(Word, Vec<u8>)],
-    read: &ReadFiles,
-    types: TypeTable,
-    program: Program,
-) -> Result<Compiled, CompileFault>
-    requires trees { HaveTrees (map (λ file. file.1.items) files.now) }
-    requires modules { HaveModules 0 (map (λ file. file.1.items) files.now) read.now.modules.items read.now.owners.items }
-    requires meant { IsMeant read.now.modules.items types program }
-    ensures types { IfOk result (λ c. HaveTypes (map (λ file. file.1.items) files.now) c.types) }
-    ensures program { IfOk result (λ c. HaveThisProgram (map (λ file. file.1.items) files.now) c.types c.program) }
-    ensures kept { IfOk result (λ c. IsOfModules (map (λ file. file.1.items) files.now) c.types c.program) }
-    ensures checked { IfOk result (λ c. AreAccepted c.types.shapes c.program.processes.items c.flows.items c.labels.items c.coercions.items) }
-    ensures form { IfOk result (λ c. AreOfForm (map (λ file. file.1.items) files.now) c.names.items c.lines.items) }
-    ensures accepted { IfOk result (λ c. IsAccepted predefined (process_of (length c.names.items) c.lines.items)) }
-    ensures refused { IfErr result (λ e. IsExactRefusal (map (λ file. file.1.items) files.now) e) }
-{
-    match acceptance_of(alloc, files, read, &types, &program) {
-        Ok(Ok(accepted)) => compile_accepted(alloc, files, types, program, accepted),
-        Ok(Err(faults)) => Err(CompileFault::Refused(faults)),
-        Err(_) => Err(CompileFault::Memory),
-    }
-}
-
-/// Compiles files that mean this program, whose processes are accepted.
-fn compile_accepted(
-    alloc: Global,
-    files: &[(Word, Vec<u8>)],
-    types: TypeTable,
-    program: Program,
-    accepted: Accepted,
-) -> Result<Compiled, CompileFault>
-    requires trees { HaveTrees (map (λ file. file.1.items) files.now) }
-    requires types { HaveTypes (map (λ file. file.1.items) files.now) types }
-    requires program { HaveThisProgram (map (λ file. file.1.items) files.now) types program }
-    requires kept { IsOfModules (map (λ file. file.1.items) files.now) types program }
-    requires checked { AreAccepted types.shapes program.processes.items accepted.flows.items accepted.labels.items accepted.coercions.items }
-    ensures types { IfOk result (λ c. HaveTypes (map (λ file. file.1.items) files.now) c.types) }
-    ensures program { IfOk result (λ c. HaveThisProgram (map (λ file. file.1.items) files.now) c.types c.program) }
-    ensures kept { IfOk result (λ c. IsOfModules (map (λ file. file.1.items) files.now) c.types c.program) }
-    ensures checked { IfOk result (λ c. AreAccepted c.types.shapes c.program.processes.items c.flows.items c.labels.items c.coercions.items) }
-    ensures form { IfOk result (λ c. AreOfForm (map (λ file. file.1.items) files.now) c.names.items c.lines.items) }
-    ensures accepted { IfOk result (λ c. IsAccepted predefined (process_of (length c.names.items) c.lines.items)) }
-    ensures refused { IfErr result (λ e. IsExactRefusal (map (λ file. file.1.items) files.now) e) }
-{
-    match compile_lines(alloc, files) {
-        Ok(straight) => Ok(Compiled {
-            types,
-            program,
-            flows: accepted.flows,
-            labels: accepted.labels,
-            coercions: accepted.coercions,
-            names: straight.names,
-            lines: straight.lines,
+    match image(alloc, checked.types, &checked.program, &checked.accepted) {
+        Ok(image) => Ok(Compiled {
+            program: checked.program,
+            flows: checked.accepted.flows,
+            labels: checked.accepted.labels,
+            coercions: checked.accepted.coercions,
+            image,
         }),
-        Err(fault) => Err(fault),
-    }
-}
-
-/// Compiles a file that is of a straight-line program.
-fn compile_lines(alloc: Global, files: &[(Word, Vec<u8>)]) -> Result<Lines, CompileFault>
-    requires trees { HaveTrees (map (λ file. file.1.items) files.now) }
-    ensures form { IfOk result (λ c. AreOfForm (map (λ file. file.1.items) files.now) c.names.items c.lines.items) }
-    ensures accepted { IfOk result (λ c. IsAccepted predefined (process_of (length c.names.items) c.lines.items)) }
-    ensures refused { IfErr result (λ e. IfRefused e (λ faults. AreLater (map (λ file. file.1.items) files.now) faults)) }
-{
-    match files {
-        [file] => compile_file(alloc, file.1.as_slice()),
-        [] => Err(refuse_not_built(alloc)),
-        [_, _, ..] => Err(refuse_not_built(alloc)),
-    }
-}
-
-/// Refuses files of no program.
-fn refuse_not_built(alloc: Global) -> CompileFault
-    ensures { IfRefused result (λ faults. map fault_view faults ≡ not_built ∷ []) }
-{
-    match not_built(alloc) {
-        Ok(faults) => CompileFault::Refused(faults),
-        Err(_) => CompileFault::Memory,
-    }
-}
-
-/// Compiles a file that has trees, from its tokens. What has trees has no fault of its bytes.
-fn compile_file(alloc: Global, bytes: &[u8]) -> Result<Lines, CompileFault>
-    requires { HasTrees bytes.now }
-    ensures form { IfOk result (λ c. IsOfForm bytes.now c.names.items c.lines.items) }
-    ensures accepted { IfOk result (λ c. IsAccepted predefined (process_of (length c.names.items) c.lines.items)) }
-    ensures refused { IfErr result (λ e. IsLater bytes.now e) }
-{
-    match lex(alloc, bytes) {
-        Ok(tokens) => compile_tokens(alloc, bytes, tokens.as_slice()),
-        Err(LexFault::Memory) => Err(CompileFault::Memory),
-        Err(LexFault::Byte(_)) => unreachable!(),
-        Err(LexFault::Token(_)) => unreachable!(),
-        Err(LexFault::TooLong(_)) => unreachable!(),
-    }
-}
-
-/// The program that the tokens are of, where no fact is missing in it.
-fn compile_tokens(alloc: Global, bytes: &[u8], tokens: &[Token]) -> Result<Lines, CompileFault>
-    requires { HasTokens bytes.now tokens.now }
-    ensures form { IfOk result (λ c. IsOfForm bytes.now c.names.items c.lines.items) }
-    ensures accepted { IfOk result (λ c. IsAccepted predefined (process_of (length c.names.items) c.lines.items)) }
-    ensures refused { IfErr result (λ e. IsLater bytes.now e) }
-{
-    match program_of(alloc, tokens) {
-        Ok(program) => judge(alloc, bytes, program, tokens),
-        Err(Stop::NotBuilt) => Err(refuse_not_built(alloc)),
-        Err(Stop::Memory) => Err(CompileFault::Memory),
-    }
-}
-
-/// The program, where no fact is missing in it.
-fn judge(
-    alloc: Global,
-    bytes: &[u8],
-    program: Lines,
-    tokens: &[Token],
-) -> Result<Lines, CompileFault>
-    requires { IsFormBy tokens.now bytes.now program.names.items program.lines.items }
-    ensures form { IfOk result (λ c. IsOfForm bytes.now c.names.items c.lines.items) }
-    ensures accepted { IfOk result (λ c. IsAccepted predefined (process_of (length c.names.items) c.lines.items)) }
-    ensures refused { IfErr result (λ e. IsLater bytes.now e) }
-{
-    match lacking(alloc, bytes, &program, tokens) {
-        Ok(faults) => {
-            if faults.as_slice().is_empty() {
-                return Ok(program);
-            }
-            Err(CompileFault::Refused(faults))
-        }
         Err(_) => Err(CompileFault::Memory),
     }
-}
-
-/// A fault for each missing fact, in order.
-fn lacking(
-    alloc: Global,
-    bytes: &[u8],
-    program: &Lines,
-    tokens: &[Token],
-) -> Result<Vec<Fault>, AllocError>
-    requires read { HasTokens bytes.now tokens.now }
-    requires program { IsProgram program.now.names.items program.now.lines.items }
-    ensures { IfOk result (λ faults. map fault_view faults.items ≡
-        map (reported bytes.now program.now.names.items (starts program.now.names.items program.now.lines.items tokens.now)) (gaps program.now.lines.items)) }
-{
-    let names = program.names.as_slice();
-    let lines = program.lines.as_slice();
-    let gaps = gaps_of(alloc, names.len(), lines)?;
-    let starts = starts_of(alloc, names, lines, tokens)?;
-    let faults = faults_of(alloc, bytes, names, starts.as_slice(), gaps.as_slice())?;
-    Ok(faults)
-}
-
-/// The one fault of files of no program.
-fn not_built(alloc: Global) -> Result<Vec<Fault>, AllocError>
-    ensures { IfOk result (λ faults. map fault_view faults.items ≡ not_built ∷ []) }
-{
-    let words = Word::of(alloc, b"not built")?;
-    let mut faults = Vec::new(alloc);
-    faults.push(Fault {
-        file: 0,
-        line: 1,
-        column: 1,
-        code: 12,
-        words,
-        missing: None,
-    })?;
-    Ok(faults)
 }

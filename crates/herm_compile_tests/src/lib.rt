@@ -2,4 +2,8 @@
 #![tactic(auto)]
 
 #[cfg(test)]
-mod compile;
+mod answers;
+#[cfg(test)]
+mod images;
+#[cfg(test)]
+mod lines;

@@ -12,7 +12,7 @@ use Rattle.herm_compile.specs.FirstPhase.{HaveTrees}
 use Rattle.herm_meaning.specs.Names.{NamedTable}
 use Rattle.herm_model.specs.Statements.{Process}
 use Rattle.herm_compile.specs.ThirdPhase.{HaveProgram}
-use Rattle.herm_compile.specs.Refused.{AreRefused}
+use Rattle.herm_compile.specs.Refused.{AreRefusedOrLater}
 use Rattle.herm_model.specs.Types.{predefined}
 use Rattle.herm_model.specs.MissingFacts.{IsAccepted}
 use Rattle.herm_lines.specs.ConsoleLines.{sent}
@@ -41,7 +41,7 @@ IsDone bytes status text report =
 -- are missing in it; a line for each fault
 abbrev pub IsRefusal : List ℕ → List ℕ → ℕ → List ℕ → Option Report → Type 0
 IsRefusal name bytes status text report =
-    (status ≡ 1) × (faults : List Fault) × AreRefused (bytes ∷ []) faults × (text ≡ refusals_text name faults)
+    (status ≡ 1) × (faults : List Fault) × AreRefusedOrLater (bytes ∷ []) faults × (text ≡ refusals_text name faults)
     × (report ≡ None)
 
 -- no file has the name

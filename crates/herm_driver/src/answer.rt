@@ -13,7 +13,7 @@ ghost use Rattle.herm_lines.specs.StraightRuns.{IsRunnable};
 use crate::text::{console, file_line, refusals, usage};
 use crate::words::file_named;
 use herm_base::Word;
-use herm_compile::{CompileFault, Compiled, compile};
+use herm_compile::{CompileFault, CompiledLines, compile_lines};
 use herm_edge::{Loaded, Shelf};
 use herm_lines::{Report, run_lines};
 use std::alloc::{AllocError, Global};
@@ -36,7 +36,7 @@ pub struct Answer {
 
 /// Runs a compiled program: its text is the console's lines.
 #[tactic(auto, using(crate::proofs::Console::console_lemmas))]
-fn run(alloc: Global, compiled: &Compiled) -> Result<Answer, AllocError>
+fn run(alloc: Global, compiled: &CompiledLines) -> Result<Answer, AllocError>
     requires { IsRunnable (length compiled.now.names.items) compiled.now.lines.items }
     ensures status { IfOk result (λ a. a.status ≡ 0) }
     ensures text { IfOk result (λ a. a.text.items
@@ -70,7 +70,7 @@ fn judge(alloc: Global, name: &str, bytes: Vec<u8>) -> Result<Answer, AllocError
     ensures written_only { IfOk result (λ a. IsTextStatus a.status) }
 {
     let files = [(Word::of(alloc, name.as_bytes())?, bytes)];
-    match compile(alloc, &files) {
+    match compile_lines(alloc, &files) {
         Ok(compiled) => {
             let answer = run(alloc, &compiled)?;
             Ok(answer)

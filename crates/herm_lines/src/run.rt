@@ -14,7 +14,7 @@ ghost use Rattle.std.specs.List.{flat_map};
 use crate::texts::push_quoted;
 use crate::{Counts, End, Journal, ProcEnd, Report};
 use herm_base::{PortNo, ProcNo, Word};
-use herm_compile::{Compiled, Line};
+use herm_compile::{CompiledLines, Line};
 use herm_events::{Action, Entry, Place, Stamp, Trace, Traces};
 use std::alloc::{AllocError, Global};
 
@@ -294,7 +294,7 @@ fn start_message(alloc: Global, arg: &[u8]) -> Result<Trace, AllocError>
 /// Runs the lines from the opening state to the final state, with this start argument. The lines begin with the receive,
 /// each other line speaks of one of the names, and each send and each discard finds its string set
 /// (Language reference, "Straight-line programs"). Each report is that of a run of the language's machine.
-pub fn run_lines(alloc: Global, compiled: &Compiled, arg: &[u8]) -> Result<Report, AllocError>
+pub fn run_lines(alloc: Global, compiled: &CompiledLines, arg: &[u8]) -> Result<Report, AllocError>
     requires runnable { IsRunnable (length compiled.now.names.items) compiled.now.lines.items }
     ensures console { IfOk result (λ r. queue_of r.queued.items 0
         ≡ map quoted (sent (length compiled.now.names.items) compiled.now.lines.items)) }

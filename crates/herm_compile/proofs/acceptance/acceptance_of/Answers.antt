@@ -1,6 +1,5 @@
-use Rattle.std.proofs.Common.{sym, subst, map}
+use Rattle.std.proofs.Common.{subst, map}
 use Rattle.herm_accept.specs.Lacking.{IsFaultOf, lack_view}
-use Rattle.herm_typed.specs.View.{typed_process_view}
 use Rattle.herm_compile.proofs.acceptance.acceptance_of.Goals as goal
 
 pub accept-requires-clause-typed : goal.accept-requires-clause-typed

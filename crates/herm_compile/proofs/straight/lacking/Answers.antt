@@ -2,7 +2,7 @@ use Rattle.std.proofs.Common.{length}
 use Rattle.herm_compile.proofs.CheckLaws.{gaps_within}
 use Rattle.herm_compile.proofs.PlaceLaws.{starts_within}
 use Rattle.herm_compile.proofs.ProgramLaws.{steps_of_program}
-use Rattle.herm_compile.proofs.lacking.Goals as goal
+use Rattle.herm_compile.proofs.straight.lacking.Goals as goal
 
 pub faults_of-requires-clause-small : goal.faults_of-requires-clause-small
 faults_of-requires-clause-small c =

@@ -1,6 +1,6 @@
 use Rattle.herm_compile.proofs.GivesLaws.{stops_same}
 use Rattle.herm_compile.proofs.ProgramLaws.{form_read, not_built_later}
-use Rattle.herm_compile.proofs.compile_tokens.Goals as goal
+use Rattle.herm_compile.proofs.straight.compile_tokens.Goals as goal
 
 pub returns-in-Err-NotBuilt-clause-refused : goal.returns-in-Err-NotBuilt-clause-refused
 returns-in-Err-NotBuilt-clause-refused c =

@@ -1,5 +1,5 @@
 use Rattle.herm_compile.proofs.PhaseLaws.{has_memory_fault}
-use Rattle.herm_compile.proofs.compile_file.Goals as goal
+use Rattle.herm_compile.proofs.straight.compile_file.Goals as goal
 
 pub unreachable-requires : goal.unreachable-requires
 unreachable-requires c =

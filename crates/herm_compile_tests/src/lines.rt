@@ -1,82 +1,7 @@
 //! Straight-line programs, their refusals, and the limits of the form and of its tokens.
-use herm_base::Word;
-use herm_check::MissingFact;
-use herm_compile::{CompileFault, Fault, compile};
-use herm_typed::Outcome;
-use herm_types::Fact;
+use crate::answers::{line_answer, line_answer_to};
 use std::alloc::{AllocError, Global};
 use std::test::Fail;
-
-/// What is said of a file.
-fn answer(alloc: Global, bytes: &[u8]) -> Result<String, AllocError> {
-    answer_to(alloc, &[bytes])
-}
-
-/// What is said of files: the lines of their refusal, or how many names and lines the program has.
-fn answer_to(alloc: Global, contents: &[&[u8]]) -> Result<String, AllocError> {
-    let mut files = Vec::new(alloc);
-    for bytes in contents {
-        let file = (Word::of(alloc, b"a.hm")?, bytes.to_vec(alloc)?);
-        files.push(file)?;
-    }
-    match compile(alloc, files.as_slice()) {
-        Ok(compiled) => {
-            let names = compiled.names.len();
-            let lines = compiled.lines.len();
-            format!(in alloc; "{names} {lines}")
-        }
-        Err(CompileFault::Refused(faults)) => {
-            let mut text = String::new(alloc);
-            for fault in faults.as_slice() {
-                write_fault(alloc, &mut text, fault)?;
-            }
-            Ok(text)
-        }
-        Err(CompileFault::Memory) => Err(AllocError),
-    }
-}
-
-/// The file's number, the place, the code, the words, and the missing fact.
-fn write_fault(alloc: Global, text: &mut String, fault: &Fault) -> Result<(), AllocError> {
-    let file = fault.file;
-    let line = fault.line;
-    let column = fault.column;
-    let code = fault.code;
-    let place = format!(in alloc; "{file}/{line}:{column}: F{code} ")?;
-    text.push_str(place.as_str())?;
-    for byte in fault.words.bytes() {
-        text.push(*byte as char)?;
-    }
-    match &fault.missing {
-        Some(missing) => write_missing(alloc, text, missing)?,
-        None => {}
-    }
-    text.push('|')
-}
-
-/// The statement, the kind of fact, its variable, how many parts it goes down, and the numbers on the path to it.
-fn write_missing(
-    alloc: Global,
-    text: &mut String,
-    missing: &MissingFact,
-) -> Result<(), AllocError> {
-    let at = missing.stmt.0;
-    let (kind, path) = match &missing.fact {
-        Fact::Init(path) => ("init", path),
-        Fact::Case(path, _) => ("case", path),
-    };
-    let variable = path.var.0;
-    let down = path.parts.len();
-    let fact = format!(in alloc; " ({at} {kind} {variable} {down}:")?;
-    text.push_str(fact.as_str())?;
-    for hop in &missing.by {
-        let number = hop.stmt.0;
-        let how = if hop.outcome == Outcome::Ok { "" } else { "?" };
-        let step = format!(in alloc; " {number}{how}")?;
-        text.push_str(step.as_str())?;
-    }
-    text.push(')')
-}
 
 #[test]
 fn refusals_have_their_places_and_paths(rt: HostRuntime) -> Result<(), Fail> {
@@ -113,7 +38,7 @@ fn refusals_have_their_places_and_paths(rt: HostRuntime) -> Result<(), Fail> {
     for (body, expected) in cases {
         let mut file = String::from_str(rt.alloc(), head)?;
         file.push_str(body)?;
-        let found = answer(rt.alloc(), file.as_bytes())?;
+        let found = line_answer(rt.alloc(), file.as_bytes())?;
         assert_eq!(rt; found.as_str(), expected);
     }
     Ok(())
@@ -132,7 +57,7 @@ fn names_that_are_taken_are_refused(rt: HostRuntime) -> Result<(), Fail> {
         let file = format!(in rt.alloc();
             "process main(start: main_start) {{ var m: main_message, {declared}; receive m from start; s := \"a\"; }}"
         )?;
-        let found = answer(rt.alloc(), file.as_bytes())?;
+        let found = line_answer(rt.alloc(), file.as_bytes())?;
         assert_eq!(rt; found.as_str(), expected, "{declared}");
     }
     Ok(())
@@ -166,7 +91,7 @@ fn definitions_are_refused_over_all_files(rt: HostRuntime) -> Result<(), Fail> {
         ),
     ];
     for (first, second, expected) in cases {
-        let found = answer_to(rt.alloc(), &[first, second])?;
+        let found = line_answer_to(rt.alloc(), &[first, second])?;
         assert_eq!(rt; found.as_str(), expected);
     }
     Ok(())
@@ -189,7 +114,7 @@ fn a_fault_of_the_bytes_is_the_one_refusal(rt: HostRuntime) -> Result<(), Fail> 
         (b"", "0/0:0: F19 no main|"),
     ];
     for (bytes, expected) in cases {
-        let found = answer(rt.alloc(), bytes)?;
+        let found = line_answer(rt.alloc(), bytes)?;
         assert_eq!(rt; found.as_str(), expected);
     }
     Ok(())
@@ -222,7 +147,7 @@ fn each_file_has_its_one_fault_in_order(rt: HostRuntime) -> Result<(), Fail> {
         (&[good, b"-- a comment\nexception e;"], "1/2:1: F4 syntax|"),
     ];
     for (contents, expected) in cases {
-        let found = answer_to(rt.alloc(), contents)?;
+        let found = line_answer_to(rt.alloc(), contents)?;
         assert_eq!(rt; found.as_str(), expected);
     }
     Ok(())
@@ -241,7 +166,7 @@ fn a_bracket_too_many_comes_first(rt: HostRuntime) -> Result<(), Fail> {
                 file.push('\n')?;
             }
         }
-        let found = answer(rt.alloc(), file.as_bytes())?;
+        let found = line_answer(rt.alloc(), file.as_bytes())?;
         assert_eq!(rt; found.as_str(), expected, "{count}");
     }
     Ok(())
@@ -304,7 +229,7 @@ fn each_limit_is_taken_and_no_more(rt: HostRuntime) -> Result<(), Fail> {
     ];
     for ((names, letters, statements, text), expected) in cases {
         let file = sized(rt.alloc(), names, letters, statements, text)?;
-        let found = answer(rt.alloc(), file.as_bytes())?;
+        let found = line_answer(rt.alloc(), file.as_bytes())?;
         assert_eq!(rt;
             found.as_str(),
             expected,
@@ -320,12 +245,12 @@ fn a_file_has_its_most_bytes_and_no_more(rt: HostRuntime) -> Result<(), Fail> {
     for _ in file.len()..1_048_576 {
         file.push(b' ')?;
     }
-    assert_eq!(rt; answer(rt.alloc(), file.as_slice())?.as_str(), "1 2");
+    assert_eq!(rt; line_answer(rt.alloc(), file.as_slice())?.as_str(), "1 2");
     file.push(b' ')?;
-    let found = answer(rt.alloc(), file.as_slice())?;
+    let found = line_answer(rt.alloc(), file.as_slice())?;
     assert_eq!(rt; found.as_str(), "0/1:1048577: F3 too long|");
     file[0] = b'_';
-    let found = answer(rt.alloc(), file.as_slice())?;
+    let found = line_answer(rt.alloc(), file.as_slice())?;
     assert_eq!(rt; found.as_str(), "0/1:1: F2 token|");
     Ok(())
 }

@@ -2,7 +2,7 @@ use Rattle.std.proofs.Common.{List, sym, subst, ◌∙◌, inr}
 use Rattle.herm_lexer.specs.Spelling.{HasTokens}
 use Rattle.herm_alphabet.specs.declared.token.Token.{Token}
 use Rattle.herm_compile.proofs.ProgramLaws.{accepted, is_lacking}
-use Rattle.herm_compile.proofs.judge.Goals as goal
+use Rattle.herm_compile.proofs.straight.judge.Goals as goal
 
 pub lacking-requires-clause-read : goal.lacking-requires-clause-read
 lacking-requires-clause-read c = subst (λ (ts : List Token). HasTokens c.args.bytes.now ts) c.requires.1 c.requires.0.read
