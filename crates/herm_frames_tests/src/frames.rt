@@ -1,7 +1,7 @@
 //! Instructions on frames by hand, by tables.
 ghost use Rattle.std.specs.Prelude.{◌≡◌, [], IfOk};
 ghost use Rattle.herm_types.specs.Table.{defined_table};
-ghost use Rattle.herm_values.specs.Whole.{AllWhole, IsWhole};
+ghost use Rattle.herm_values.specs.Whole.{IsWhole};
 
 use herm_base::{ExcNo, PortNo, ProcNo, TypeNo, VarNo};
 use herm_frames::{Frame, Outcome};
@@ -47,6 +47,8 @@ enum Change {
     Insert(u32, u32),
     Get(u32, u32, i64),
     Remove(u32, u32, i64),
+    /// The table at a variable gets a field as its key, or cannot have it.
+    Key(u32, u32),
     /// Whether something is read at a part, also behind a component, and whether something stands there.
     Read(u32, u32),
     At(u32, u32),
@@ -97,6 +99,34 @@ const CHANGES: [(Change, Outcome, u64, u64); 42] = [
     (Change::Connect(4, 3), Outcome::Stuck, 14, 7),
     (Change::Inport(5), Outcome::Next, 15, 7),
     (Change::End, Outcome::Next, 15, 13),
+];
+
+/// A table whose key is the first field gets the second one, and then the first, until two rows have the same.
+const KEYS: [(Change, Outcome, u64, u64); 24] = [
+    (Change::Key(1, 0), Outcome::True, 0, 0),
+    (Change::Table(1), Outcome::Next, 1, 0),
+    (Change::New(0, 6), Outcome::Next, 2, 0),
+    (Change::Part(0, 0, 5), Outcome::Next, 3, 0),
+    (Change::Part(0, 1, 8), Outcome::Next, 4, 0),
+    (Change::Insert(0, 1), Outcome::Next, 4, 0),
+    (Change::New(0, 6), Outcome::Next, 5, 0),
+    (Change::Part(0, 0, 6), Outcome::Next, 6, 0),
+    (Change::Part(0, 1, 7), Outcome::Next, 7, 0),
+    (Change::Insert(0, 1), Outcome::Next, 7, 0),
+    (Change::Key(1, 0), Outcome::True, 7, 0),
+    (Change::Get(0, 1, 8), Outcome::Raised(ExcNo(5)), 7, 0),
+    (Change::Key(1, 1), Outcome::True, 7, 0),
+    (Change::Get(0, 1, 5), Outcome::Raised(ExcNo(5)), 7, 0),
+    (Change::Get(0, 1, 8), Outcome::Next, 10, 0),
+    (Change::Insert(0, 1), Outcome::Raised(ExcNo(4)), 10, 0),
+    (Change::Part(0, 1, 9), Outcome::Next, 11, 1),
+    (Change::Insert(0, 1), Outcome::Next, 11, 1),
+    (Change::Remove(2, 1, 7), Outcome::Next, 11, 1),
+    (Change::Key(2, 0), Outcome::False, 11, 1),
+    (Change::Key(1, 0), Outcome::False, 11, 1),
+    (Change::Get(0, 1, 9), Outcome::Next, 14, 1),
+    (Change::Key(1, 1), Outcome::True, 14, 1),
+    (Change::Key(1, 0), Outcome::False, 14, 1),
 ];
 
 /// What is done, what it comes to, and how many cells have been made and finalised then.
@@ -249,6 +279,13 @@ fn placed_by(frame: &mut Frame, alloc: Global, act: Change) -> Result<Outcome, A
             let key = key(alloc, n)?;
             frame.remove_row(&variable(alloc, i), &variable(alloc, j), &key)
         }
+        Change::Key(i, j) => {
+            let is_keyed = frame.key_table(alloc, &variable(alloc, i), &[j])?;
+            if is_keyed {
+                return Ok(Outcome::True);
+            }
+            Ok(Outcome::False)
+        }
         _ => Ok(Outcome::Stuck),
     }
 }
@@ -304,7 +341,12 @@ fn changed_by(
 }
 
 /// Whether each row comes to what it says, one behind the other.
-fn are_changed(frame: &mut Frame, alloc: Global, types: &TypeTable) -> Result<bool, AllocError> {
+fn are_changed(
+    frame: &mut Frame,
+    alloc: Global,
+    types: &TypeTable,
+    changes: &[(Change, Outcome, u64, u64)],
+) -> Result<bool, AllocError> {
     let of = [
         TypeNo(6),
         TypeNo(1),
@@ -313,7 +355,7 @@ fn are_changed(frame: &mut Frame, alloc: Global, types: &TypeTable) -> Result<bo
         TypeNo(3),
         TypeNo(1),
     ];
-    for row in CHANGES {
+    for row in changes {
         let done = changed_by(frame, alloc, types, &of, row.0)?;
         if done != row.1 || frame.made() != row.2 || frame.finalised() != row.3 {
             return Ok(false);
@@ -327,7 +369,17 @@ fn values_are_changed_and_cells_counted(rt: HostRuntime) -> Result<(), Fail> {
     let types = predefined(rt.alloc())?;
     let places = vec![in rt.alloc(); None, None, None, None, None, None]?;
     let mut frame = Frame::new(rt.alloc(), ProcNo { number: 1 }, Variables::of(places));
-    let changed = are_changed(&mut frame, rt.alloc(), &types)?;
+    let changed = are_changed(&mut frame, rt.alloc(), &types, &CHANGES)?;
+    assert!(rt; changed);
+    Ok(())
+}
+
+#[test]
+fn tables_get_other_keys(rt: HostRuntime) -> Result<(), Fail> {
+    let types = predefined(rt.alloc())?;
+    let places = vec![in rt.alloc(); None, None, None, None, None, None]?;
+    let mut frame = Frame::new(rt.alloc(), ProcNo { number: 1 }, Variables::of(places));
+    let changed = are_changed(&mut frame, rt.alloc(), &types, &KEYS)?;
     assert!(rt; changed);
     Ok(())
 }
