@@ -5,3 +5,4 @@ pub mod blocks
 pub mod GoodModules
 pub mod ImagesGood
 pub mod ModulesExist
+pub mod CodeLengths

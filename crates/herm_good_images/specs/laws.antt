@@ -1,3 +1,4 @@
 pub mod EnteredLoops
 pub mod GoodImages
 pub mod CheckedModulesExist
+pub mod CodeLengths

@@ -1,6 +1,7 @@
 // Laws of the images of checked programs.
 
 ghost use Rattle.herm_good_images.specs.laws.EnteredLoops.{LoopsAreEnteredAtHeads, EdgesKeepSlots};
+ghost use Rattle.herm_good_images.specs.laws.CodeLengths.{CodeIsBounded, IndicesFit};
 ghost use Rattle.herm_good_images.specs.laws.GoodImages.{TypedBlocksAreComplete, ImagesAreGood, MainsBegin};
 ghost use Rattle.herm_good_images.specs.laws.CheckedModulesExist.{CheckedProgramsHaveModules};
 
@@ -25,4 +26,10 @@ pub fn images_are_good()
 /// Each checked program has the facts of its labels as lists, and what is dropped along its edges: so it has an image.
 pub fn checked_programs_have_modules()
     ensures { CheckedProgramsHaveModules }
+{}
+
+/// Code is no longer than its nodes, their fronts, and an edge for each exit; so each index of it has 32 bits, where the exits are few.
+pub fn code_is_bounded()
+    ensures bounded { CodeIsBounded }
+    ensures fit { IndicesFit }
 {}
