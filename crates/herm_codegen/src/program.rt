@@ -138,9 +138,9 @@ fn modules_of(
 ///
 /// # Errors
 ///
-/// Where memory is wanting. No memory suffices for code whose indices or constants do not fit into 32 bits. For a program that is accepted
-/// they always fit: a process has at most 1,024 statements, whose expressions, drops and exits are bounded by the text and by the 4,096
-/// paths of its variables (docs/LANGUAGE.md, "Limits").
+/// Where memory is wanting, or an index of the code or the number of a constant does not fit into 32 bits, which more memory does not mend.
+/// Indices fit where the nodes of each process have at most 524,288 exits together (herm_good_images, `code_is_bounded`); no limit of the
+/// language says that they have so few, since a callmessage may declare any number of exceptions.
 pub fn generate(
     alloc: Global,
     types: &TypeTable,
