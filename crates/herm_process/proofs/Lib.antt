@@ -1,0 +1,12 @@
+pub mod Counted
+pub mod DiaryGrown
+pub mod SameTexts
+pub mod SomePort
+pub mod Standings
+pub mod Went
+pub mod GotTold
+pub mod Handed
+pub mod KeptOn
+pub mod Looking
+pub mod NextStands
+pub mod OrdersServed
