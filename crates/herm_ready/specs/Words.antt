@@ -1,0 +1,16 @@
+-- Numbers as bits: number n is bit n % 64 of word n / 64.
+use Rattle.std.specs.Prelude.{ℕ, suc, ◌*◌, ◌/◌, ◌%◌, List, length, filter, slice_index, Bool, nat_eq, nat_lt, ◌≡◌, ◌≤◌}
+use Rattle.std.specs.Int.{bit_at}
+use Rattle.herm_model.specs.Lists.{range}
+
+abbrev pub is_member : List ℕ → ℕ → Bool
+is_member words n = nat_eq (bit_at (slice_index words (n / 64)) (n % 64)) 1
+
+-- the numbers whose bits are 1, rising
+abbrev pub members : List ℕ → List ℕ
+members words = filter (is_member words) (range 0 (64 * length words))
+
+-- there are words for all numbers up to the limit, at most 17
+pub record IsTable (limit : ℕ) (words : List ℕ) : Type 0 where
+  pub long : length words ≡ suc (limit / 64)
+  pub few : limit ≤ 1024
