@@ -19,3 +19,4 @@ mod TablesSeen
 mod TablesStay
 mod TablesTaken
 mod Wrapped
+mod HeldCells

@@ -7,6 +7,7 @@ mod counts;
 mod ends;
 mod excess;
 mod frame;
+mod held;
 mod insertions;
 mod keyed;
 mod loops;

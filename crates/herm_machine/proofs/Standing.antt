@@ -9,17 +9,22 @@ use Rattle.herm_model.proofs.Options.{none-not_some, some-injective, chain-some,
 use Rattle.herm_journal.specs.Actions.{new_port, new_process, to_put, to_take, to_close, to_answer, to_hear, put, close, answer, hear}
 use Rattle.herm_journal.specs.Messages.{CellAction, CellReply, CellWant}
 use Rattle.herm_journal.specs.Renaming.{forget_name}
-use Rattle.herm_system.specs.Machines.{OpenCall, ended}
+use Rattle.herm_model.specs.Lists.{list_of, total}
+use Rattle.herm_journal.specs.Weights.{weigh}
+use Rattle.herm_forms.specs.Weights.{weight_held}
+use Rattle.herm_system.specs.Ledger.{held_by}
+use Rattle.herm_system.specs.Machines.{Held, OpenCall, ended}
 use Rattle.herm_system.specs.Suiting.{Answers, Suits}
 use Rattle.herm_instructions.specs.Images.{Image}
 use Rattle.herm_code_machine.specs.CodeInstance.{code_at, code_machine, own_name, ready_if}
-use Rattle.herm_code_machine.specs.CodeSeen.{code_open_call, type_of_call}
+use Rattle.herm_code_machine.specs.CodeSeen.{code_held, code_open_call, type_of_call}
 use Rattle.herm_code_machine.specs.CodeStates.{CodeState, Position, at_index, at_end, at_end_by, code_begin}
 use Rattle.herm_code_machine.specs.CodeSteps.{CodeNext, an_item, a_reply, an_action, a_local_piece, nothing, code_answered, code_local_step, code_next, code_wanted, met_at, ready_for}
 use Rattle.herm_code_machine.specs.Pieces.{Met, Piece}
 use Rattle.herm_code_machine.specs.ReadyCode.{ReadyCode, labelled_image, ready_code}
 use Rattle.herm_code_machine.specs.laws.GoodImageLaws.{IsGoodOver}
 use Rattle.herm_code_machine.specs.laws.StandingLaws.{IsAtEnd}
+use Rattle.herm_code_machine.proofs.instance.CodeHeld.{weigh-held}
 use Rattle.herm_code_machine.proofs.ReadyProcesses.{processes-stand_so}
 use Rattle.herm_code_machine.proofs.renamed.CodeRenamed.{code_next-renamed, rename_next}
 use Rattle.herm_code.specs.View.{CodeImage, image_view, module_view}
@@ -402,3 +407,7 @@ left-settles got left is front c p new r s w at a from answers tells f =
     let told : a ≡ close (length left.parcels) (map (λ q. value_view q.value) left.parcels) = subst (λ g. TellsGot g at a) is tells in
     subst (λ a. IsBehind r new s (code_answered forget_name c s at a)) (sym told)
     (f (length left.parcels) (subst (λ g. IsFrom g front c p s) is from) (left-closes left w (is-for (gots.Left left) w at a told answers)))
+
+-- the cells that a process holds are those of its frame
+pub held-cells : (image : Image) (main : ℕ) (c : ReadyCode) (s : CodeState ⊤) → IsSoundState image main c s → held_by (λ n. 1) (nameless image main) s ≡ weight_held (λ n. 1) s.frame
+held-cells image main c s h = ap (λ o. total (λ (x : Held ⊤). weigh (λ n. 1) x.value) (list_of (λ c. code_held c s) o)) (code-here image main c s h) ∙ weigh-held (λ n. 1) c s

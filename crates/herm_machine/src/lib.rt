@@ -1,6 +1,7 @@
 //! One process of an image, as a machine: its local steps, what it wants of a place, and what the answers leave.
 #![tactic(auto)]
 
+mod counting;
 mod looking;
 mod machine;
 mod order;

@@ -4,6 +4,8 @@ ghost use Rattle.herm_model.specs.Values.{an_inport};
 ghost use Rattle.herm_journal.specs.Actions.{to_answer, to_put, to_take};
 ghost use Rattle.herm_journal.specs.Entries.{map_reply, texts_of};
 ghost use Rattle.herm_journal.specs.Messages.{CellAction, CellReply, CellWant};
+ghost use Rattle.herm_system.specs.Ledger.{held_by};
+ghost use Rattle.herm_system.specs.Summary.{cut};
 ghost use Rattle.herm_system.specs.Suiting.{Answers, Suits};
 ghost use Rattle.herm_instructions.specs.Images as images;
 ghost use Rattle.herm_code.specs.View.{image_view};
@@ -20,6 +22,7 @@ ghost use Rattle.herm_answers.specs.Orders.{HoldsOrder};
 ghost use Rattle.herm_machine.specs.Gots.{Fits, IsOrdered, IsSuiting, IsWholeGot, TellsGot};
 ghost use Rattle.herm_machine.specs.Machines.{HasOut, IsAnswerWanted, IsAt, IsInside, IsPutWanted, IsTakeWanted, Reaches, StandsFor, begins_with_step, code_of, end_of, nameless};
 
+use crate::counting::counted_cells;
 use crate::order::Got;
 use crate::settling::settle;
 use crate::suiting::{is_awaited, is_heard};
@@ -306,5 +309,14 @@ impl<'i> Machine<'i> {
         ensures held { (result.0 ≡ self.now.held.frame.steps) × (result.1 ≡ self.now.held.frame.actions) }
     {
         (self.running.frame.steps(), self.running.frame.actions())
+    }
+
+    /// How many cells it has made, how many it holds, and how many it has finalised, each cut at 2^63.
+    pub fn cells(&self) -> (u64, u64, u64)
+        ensures made { (image : images.Image) (main : ℕ) (s : CodeState ⊤) → StandsFor image main self.now s → result.0 ≡ cut ((nameless image main).serial s) }
+        ensures held { (image : images.Image) (main : ℕ) (s : CodeState ⊤) → StandsFor image main self.now s → result.1 ≡ cut (held_by (λ n. 1) (nameless image main) s) }
+        ensures finalised { (image : images.Image) (main : ℕ) (s : CodeState ⊤) → StandsFor image main self.now s → result.2 ≡ cut (length ((nameless image main).finalised s)) }
+    {
+        counted_cells(&self.running)
     }
 }

@@ -46,6 +46,13 @@ impl Variables {
         Variables { places }
     }
 
+    /// The places, by number.
+    pub fn places(&self) -> &[Option<Value>]
+        ensures places { result.now ≡ self.now }
+    {
+        self.places.as_slice()
+    }
+
     /// What is read at a path, which may pass through components.
     #[tactic(auto, using(crate::proofs::Forgotten::told))]
     pub fn read(&self, path: &Path) -> Option<&Value>

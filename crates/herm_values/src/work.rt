@@ -39,6 +39,13 @@ impl Work {
         self.items.reserve(n)
     }
 
+    /// How many wait.
+    pub fn len(&self) -> usize
+        ensures count { result ≡ length (waiting self.now) }
+    {
+        self.items.len()
+    }
+
     /// What is to be done first, if there is work.
     pub fn front(&self) -> Option<&WorkItem>
         ensures first { option_map (λ i. item_view i.now) result ≡ slice_get (waiting self.now) 0 }

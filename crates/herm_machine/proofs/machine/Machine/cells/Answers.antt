@@ -1,0 +1,8 @@
+use Rattle.std.proofs.Common.{sym, ap, subst, ◌∙◌}
+use Rattle.herm_system.specs.Summary.{cut}
+use Rattle.herm_steps.specs.StandingAt.{StandsAt}
+use Rattle.herm_machine.proofs.Standing.{held-cells}
+use Rattle.herm_machine.proofs.machine.Machine.cells.Goals as goal
+
+pub returns-clause-held : goal.returns-clause-held
+returns-clause-held c = λ image main s h. c.counted_cells.ensures.held s (subst (λ m. StandsAt m.held s) (sym c.self.view_is) h.stands) ∙ ap cut (sym (held-cells image main _ s h.sound))
