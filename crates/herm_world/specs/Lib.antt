@@ -1,0 +1,11 @@
+pub mod Acting
+pub mod Counted
+pub mod Doing
+pub mod Kept
+pub mod Looks
+pub mod Orders
+pub mod Places
+pub mod Steps
+pub mod Turns
+pub mod Waits
+pub mod Worlds
