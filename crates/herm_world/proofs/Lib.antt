@@ -32,3 +32,10 @@ pub mod WorldLeads
 pub mod WorldStands
 pub mod ActedProcess
 pub mod LookedOne
+pub mod RunsOn
+pub mod StepsShown
+pub mod GoingOn
+pub mod RoundsOn
+pub mod Opened
+pub mod FirstMessage
+pub mod OpenPlaces

@@ -1,8 +1,10 @@
 pub mod Acting
 pub mod Counted
 pub mod Doing
+pub mod Going
 pub mod Kept
 pub mod Looks
+pub mod Opening
 pub mod Orders
 pub mod Places
 pub mod Steps

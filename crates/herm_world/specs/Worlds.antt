@@ -7,13 +7,15 @@ use Rattle.herm_journal.specs.Journals.{part_of_process}
 use Rattle.herm_journal.specs.NextNumbers.{Limits}
 use Rattle.herm_journal.specs.Stamps.{clock_of_process}
 use Rattle.herm_system.specs.Machines.{Standing, ended, out_of_steps, out_of_actions, waiting, local, acting}
-use Rattle.herm_system.specs.Systems.{Event, numbered_from_one}
+use Rattle.herm_system.specs.Rounds.{rounds}
+use Rattle.herm_system.specs.Systems.{Event, IsFinal, numbered_from_one}
 use Rattle.herm_instructions.specs.Images.{Image}
 use Rattle.herm_code_machine.specs.CodeStates.{CodeState}
 use Rattle.herm_waking.specs.KeptRounds.{Worked}
 use Rattle.herm_waking.specs.Unnamed.{bare_turn}
 use Rattle.herm_waking.specs.UnnamedRounds.{BareWorked, bare_stepped, bare_scheduled, bare_rounds}
-use Rattle.herm_code_worlds.specs.CodeWorlds.{nameless, Shows}
+use Rattle.herm_waking.specs.laws.RoundLaws.{GoesAlong}
+use Rattle.herm_code_worlds.specs.CodeWorlds.{named, nameless, Shows}
 use Rattle.herm_code_worlds.specs.laws.WorldOfCode.{WorksAsWorld}
 use Rattle.herm_process.specs.Processes.{ProcessState, IsProcess}
 use Rattle.herm_ready.specs.Table.{ReadySet}
@@ -30,6 +32,11 @@ pub record WorldState : Type 0 where
   pub places : Places
   pub ready : ReadySet
   pub is_dead : Bool
+
+-- the image and the module of main stay
+pub record IsOfSame (old new : WorldState) : Type 0 where
+  pub image : new.image ≡ old.image
+  pub main : new.main ≡ old.main
 
 -- element by element
 abbrev pub AreAlike : {X Y : Type 0} → (X → Y → Type 0) → List X → List Y → Type 0
@@ -111,20 +118,23 @@ Leads results.Ended limits argument events b p old new = bare_stepped (nameless 
 Leads results.Stopped limits argument events b p old new = bare_stepped (nameless old.image old.main) p b ≡ Some b
 Leads results.Memory limits argument events b p old new = ⊤
 
--- It is led along a schedule. Language reference, "Rounds".
-pub record LeadsAlong (ps : List ℕ) (limits : Limits) (argument : Text) (events : List Event) (b : BareWorked (CodeState ⊤)) (old new : WorldState) : Type 0 where
+-- The run goes along a schedule, and the world with it. Language reference, "Rounds".
+pub record LeadsAlong (ps : List ℕ) (limits : Limits) (argument : Text) (events : List Event) (w : Worked (CodeState Name)) (b : BareWorked (CodeState ⊤)) (old new : WorldState) : Type 0 where
   pub further : List Event
   pub run : Worked (CodeState Name)
   pub bare : BareWorked (CodeState ⊤)
+  pub goes : GoesAlong (named old.image old.main) ps w.run run.run
   pub along : bare_scheduled ps (nameless old.image old.main) b ≡ Some bare
   pub shows : ShowsRun limits argument (events ++ further) run bare new
 
--- It is led by rounds to a state in which no process can step. Language reference, "Rounds".
-pub record LeadsToEnd (limits : Limits) (argument : Text) (events : List Event) (b : BareWorked (CodeState ⊤)) (old new : WorldState) : Type 0 where
+-- The run goes by the rounds of the language to its end, in which no process can step, and the world with it. Language reference, "Rounds".
+pub record LeadsToEnd (limits : Limits) (argument : Text) (events : List Event) (w : Worked (CodeState Name)) (b : BareWorked (CodeState ⊤)) (old new : WorldState) : Type 0 where
   pub further : List Event
   pub run : Worked (CodeState Name)
   pub bare : BareWorked (CodeState ⊤)
   pub most : ℕ
+  pub goes : rounds most (named old.image old.main) w.run ≡ Some run.run
+  pub final : IsFinal (named old.image old.main) run.run.system
   pub rounds_to : bare_rounds most (nameless old.image old.main) b ≡ Some bare
   pub shows : ShowsRun limits argument (events ++ further) run bare new
   pub nobody : new.ready.members ≡ []

@@ -1,5 +1,5 @@
 //! The whole system of processes on one thread.
-ghost use Rattle.std.specs.Prelude.{◌≡◌, ◌≤◌, ℕ, List, [], Some, true, false, IfOk, IsErr, OnOk, IsTrue, length, ⊤};
+ghost use Rattle.std.specs.Prelude.{◌≡◌, ◌≤◌, ◌↔◌, ℕ, List, [], Some, true, false, IfOk, IfSome, IsErr, OnOk, IsTrue, length, ⊤};
 ghost use Rattle.herm_model.specs.Typed.{is_text};
 ghost use Rattle.herm_model.specs.TypedPrograms.{main_start};
 ghost use Rattle.herm_journal.specs.Entries.{Text};
@@ -11,19 +11,21 @@ ghost use Rattle.herm_code_machine.specs.CodeStates.{CodeState};
 ghost use Rattle.herm_code_machine.specs.CodeTypes.{first_type};
 ghost use Rattle.herm_code_machine.specs.ReadyCode.{labelled_image};
 ghost use Rattle.herm_waking.specs.KeptRounds.{Worked, first_worked};
-ghost use Rattle.herm_waking.specs.Numbers.{has};
+ghost use Rattle.herm_waking.specs.Numbers.{has, next_from as first_from};
 ghost use Rattle.herm_waking.specs.Unnamed.{bare_standing};
 ghost use Rattle.herm_waking.specs.UnnamedRounds.{BareWorked, bare_first};
 ghost use Rattle.herm_model.specs.Values.{Name};
 ghost use Rattle.herm_code_worlds.specs.CodeWorlds.{named, nameless};
 ghost use Rattle.herm_queue.specs.BookStates.{limits_view};
-ghost use Rattle.herm_world.specs.Worlds.{ShowsRun, MakesNext, Leads, LeadsAlong, LeadsToEnd, IsStanding, changes_nothing};
+ghost use Rattle.herm_world.specs.Worlds.{ShowsRun, MakesNext, Leads, LeadsAlong, LeadsToEnd, IsWorld, IsStanding, changes_nothing, IsOfSame};
 ghost use Rattle.herm_world.specs.Steps.{IsOf};
 ghost use Rattle.herm_world.specs.Turns.{TurnsAs};
 ghost use Rattle.herm_world.specs.declared.turns.Turn.TheVariants.{Local, Act};
 ghost use Rattle.herm_world.specs.declared.world.WorldStep.TheVariants.{Memory};
 
+use crate::beginning::{first_parts, works};
 use crate::parts::Parts;
+use crate::rounds::{go_along, go_rounds};
 use crate::turns::Turn;
 use herm_base::{Limits, ProcNo};
 use herm_code::Image;
@@ -85,7 +87,15 @@ impl<'i> World<'i> {
         ensures main { IfOk result (λ w. (w.main ≡ main)) }
         ensures begins { IfOk result (λ w. ShowsRun (limits_view limits) arg.now [] (first_worked (named (image_view image.now) main) (limits_view limits) arg.now) (bare_first (nameless (image_view image.now) main) main (limits_view limits) arg.now) w) }
     {
-        Err(AllocError)
+        works(image, main);
+        let parts = first_parts(alloc, image, main, &limits, arg)?;
+        Ok(World {
+            image,
+            main,
+            limits,
+            parts,
+            is_dead: false,
+        })
     }
 
     /// Whether the process of this number can step.
@@ -93,6 +103,36 @@ impl<'i> World<'i> {
         ensures kept { result ≡ has p self.now.ready.members }
     {
         self.parts.ready.contains(p)
+    }
+
+    /// What every world keeps: if it is not dead, it shows a run. Nothing is done.
+    pub(crate) fn keeps(&self)
+        ensures kept { self.now.is_dead ≡ false → IsWorld self.now }
+    {
+        let _dead = self.is_dead;
+    }
+
+    /// Whether a process of this number was made.
+    pub(crate) fn is_made(&self, p: u32) -> bool
+        ensures made { (result ≡ true) ↔ ((1 ≤ p) × (p ≤ length self.now.processes)) }
+    {
+        p >= 1 && p as usize <= self.parts.processes.len()
+    }
+
+    /// The first process from this number on that can step.
+    pub(crate) fn next_from(&self, from: u32) -> Option<u32>
+        requires alive { self.now.is_dead ≡ false }
+        ensures first { result ≡ first_from from self.now.ready.members }
+        ensures few { IfSome result (λ p. p ≤ 1024) }
+    {
+        self.parts.ready.next_from(from)
+    }
+
+    /// Whether no process can step.
+    pub(crate) fn is_over(&self) -> bool
+        ensures over { (result ≡ true) ↔ (self.now.ready.members ≡ []) }
+    {
+        self.parts.ready.is_empty()
     }
 
     /// The step of a process that was made: its next event, if it can step.
@@ -104,6 +144,7 @@ impl<'i> World<'i> {
         ensures stays { changes_nothing result ≡ true → self.new ≡ self.old }
         ensures memory { result ≡ Memory → self.new.is_dead ≡ true }
         ensures dead { self.old.is_dead ≡ true → result ≡ Memory }
+        ensures same { IsOfSame self.old self.new }
     {
         if self.is_dead {
             return WorldStep::Memory;
@@ -131,6 +172,7 @@ impl<'i> World<'i> {
         requires made { who.number ≤ length self.old.processes }
         requires turn { IsOf who.number self.old.processes (λ process. TurnsAs Local process self.old.places who.number) }
         ensures leads { OnOk result ((limits : limits_of.Limits) (argument : Text) (events : List Event) (w : Worked (CodeState Name)) (b : BareWorked (CodeState ⊤)) → ShowsRun limits argument events w b self.old → MakesNext limits argument events b who.number self.old self.new) }
+        ensures same { IsOfSame self.old self.new }
         ensures failed { IsErr result → self.new.is_dead ≡ true }
     {
         self.is_dead = true;
@@ -147,6 +189,7 @@ impl<'i> World<'i> {
         requires made { who.number ≤ length self.old.processes }
         requires turn { IsOf who.number self.old.processes (λ process. TurnsAs Act process self.old.places who.number) }
         ensures leads { OnOk result ((limits : limits_of.Limits) (argument : Text) (events : List Event) (w : Worked (CodeState Name)) (b : BareWorked (CodeState ⊤)) → ShowsRun limits argument events w b self.old → MakesNext limits argument events b who.number self.old self.new) }
+        ensures same { IsOfSame self.old self.new }
         ensures failed { IsErr result → self.new.is_dead ≡ true }
     {
         self.is_dead = true;
@@ -162,21 +205,29 @@ impl<'i> World<'i> {
     /// The steps of the processes of these numbers in order. Numbers of processes that are not made, or cannot step then, are passed
     /// over.
     pub fn run(&mut self, schedule: &[u32]) -> Result<(), AllocError>
-        ensures along { OnOk result ((limits : limits_of.Limits) (argument : Text) (events : List Event) (w : Worked (CodeState Name)) (b : BareWorked (CodeState ⊤)) → ShowsRun limits argument events w b self.old → LeadsAlong schedule.now limits argument events b self.old self.new) }
+        ensures along { OnOk result ((limits : limits_of.Limits) (argument : Text) (events : List Event) (w : Worked (CodeState Name)) (b : BareWorked (CodeState ⊤)) → ShowsRun limits argument events w b self.old → LeadsAlong schedule.now limits argument events w b self.old self.new) }
         ensures failed { IsErr result → self.new.is_dead ≡ true }
         ensures dead { self.old.is_dead ≡ true → IsErr result }
+        ensures same { IsOfSame self.old self.new }
     {
-        self.is_dead = true;
-        Err(AllocError)
+        if self.is_dead {
+            return Err(AllocError);
+        }
+        go_along(self, schedule)?;
+        Ok(())
     }
 
     /// Rounds over the processes that can step, until none can.
     pub fn rounds(&mut self) -> Result<(), AllocError>
-        ensures ends { OnOk result ((limits : limits_of.Limits) (argument : Text) (events : List Event) (w : Worked (CodeState Name)) (b : BareWorked (CodeState ⊤)) → ShowsRun limits argument events w b self.old → LeadsToEnd limits argument events b self.old self.new) }
+        ensures ends { OnOk result ((limits : limits_of.Limits) (argument : Text) (events : List Event) (w : Worked (CodeState Name)) (b : BareWorked (CodeState ⊤)) → ShowsRun limits argument events w b self.old → LeadsToEnd limits argument events w b self.old self.new) }
         ensures failed { IsErr result → self.new.is_dead ≡ true }
         ensures dead { self.old.is_dead ≡ true → IsErr result }
+        ensures same { IsOfSame self.old self.new }
     {
-        self.is_dead = true;
-        Err(AllocError)
+        if self.is_dead {
+            return Err(AllocError);
+        }
+        go_rounds(self)?;
+        Ok(())
     }
 }

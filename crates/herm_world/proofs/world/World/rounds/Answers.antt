@@ -1,0 +1,9 @@
+use Rattle.std.proofs.Common.{subst}
+use Rattle.herm_world.specs.Worlds.{IsWorld}
+use Rattle.herm_world.proofs.RoundsOn.{led-to-end}
+use Rattle.herm_world.proofs.world.World.rounds.Goals as goal
+
+pub returns-clause-ends : goal.returns-clause-ends
+returns-clause-ends c = λ limits argument events w b shows.
+    let is = subst IsWorld c.self.view_is ((c.self.invariant c.if-self.false).1) in
+    led-to-end c.args.self.now c.go_rounds.new.world is.works limits argument events w b shows c.in_ok-go_rounds.ensures.goes
