@@ -39,3 +39,4 @@ pub mod RoundsOn
 pub mod Opened
 pub mod FirstMessage
 pub mod OpenPlaces
+pub mod MainFirst

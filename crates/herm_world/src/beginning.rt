@@ -1,5 +1,5 @@
 //! How a world begins: its first message, its places, and a process of main.
-ghost use Rattle.std.specs.Prelude.{◌≡◌, ◌<◌, [], false, IfOk, IsTrue, Some, length, ℕ, ⊤};
+ghost use Rattle.std.specs.Prelude.{◌≡◌, ◌<◌, ◌↔◌, [], false, true, IfOk, IsTrue, Some, length, ℕ, ⊤};
 ghost use Rattle.herm_model.specs.Typed.{is_text};
 ghost use Rattle.herm_model.specs.TypedPrograms.{main_start};
 ghost use Rattle.herm_code.specs.View.{image_view};
@@ -39,6 +39,9 @@ const CONSOLE: ProcNo = ProcNo { number: 0 };
 const MAIN_PORT: PortNo = PortNo { number: 1 };
 
 const MAIN: ProcNo = ProcNo { number: 1 };
+
+/// The number of the type main_start.
+const MAIN_START: u32 = 7;
 
 /// The greatest number of a process.
 const MOST_PROCESSES: u32 = 1024;
@@ -82,6 +85,22 @@ fn first_places(alloc: Global, limits: &Limits, arg: &[u8]) -> Result<Places, Al
         replies,
         book: Book::new(alloc, limits),
     })
+}
+
+/// Whether there is a module of this number whose port is of the type main_start, as that of main is to be.
+pub fn is_main(image: &Image, main: u32) -> bool
+    ensures starts { (result ≡ true) ↔ (first_type (labelled_image (image_view image.now) main) main ≡ Some main_start) }
+{
+    let place = main as usize;
+    let modules = image.modules();
+    if place >= modules.len() {
+        return false;
+    }
+    let vars = modules[place].vars.as_slice();
+    if vars.is_empty() {
+        return false;
+    }
+    vars[0].0 == MAIN_START
 }
 
 /// What is known of the image: it works as a world, and has the module of main. Nothing is done.

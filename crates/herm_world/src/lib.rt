@@ -13,4 +13,5 @@ mod turns;
 mod waits;
 mod world;
 
+pub use beginning::is_main;
 pub use world::{World, WorldStep};
