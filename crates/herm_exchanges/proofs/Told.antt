@@ -12,7 +12,7 @@ use Rattle.herm_types.specs.View.{path_view}
 use Rattle.herm_code.specs.View.{choice_view}
 use Rattle.herm_code.specs.declared.instr.Arm.{Arm}
 use Rattle.herm_code_machine.specs.CodeActions.{ports_of_choices}
-use Rattle.herm_exchanges.specs.Told.{a_put, a_take, an_answer, told}
+use Rattle.herm_exchanges.specs.Told.{a_put, a_take, an_answer, told, told_among}
 
 -- equal wants tell the same
 pub same_told : (v w : CellWant ⊤) → Some v ≡ Some w → told v ≡ told w
@@ -149,3 +149,17 @@ only_other (Some p) ports zero other e = absurd (other refl)
 only_other (Some p) ports (suc n) other e = ap (λ w. slice_get (ports_in w) (suc n)) e
 
 pub ruleset only_looking = (only_first, only_other)
+
+-- what is told of arms, of which this is the first, with the port at its path
+pub among_told : (arms : List Arm) (a : Arm) (rest : List Arm) (s : Frame ⊤) (o : Option ℕ) → arms ≡ a ∷ rest → o ≡ inport_at (path_view a.port) s → option_map (λ p. a_take p (length arms)) o ≡ told_among (ports_of_choices (map choice_view arms)) s
+among_told arms a rest s o is at =
+    ap (λ o. option_map (λ p. a_take p (length arms)) o) at
+    ∙ ap (λ n. option_map (λ p. a_take p n) (inport_at (path_view a.port) s)) (ap length is ∙ ap suc (long rest))
+    ∙ ap (λ xs. told_among (ports_of_choices (map choice_view xs)) s) (sym is)
+  where
+    long : (xs : List Arm) → length xs ≡ length (ports_of_choices (map choice_view xs))
+    long [] = refl
+    long (x ∷ xs) = ap suc (long xs)
+
+pub none_told : (arms : List Arm) (s : Frame ⊤) → arms ≡ [] → None ≡ told_among (ports_of_choices (map choice_view arms)) s
+none_told arms s is = ap (λ xs. told_among (ports_of_choices (map choice_view xs)) s) (sym is)

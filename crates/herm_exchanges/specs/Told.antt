@@ -1,7 +1,14 @@
 -- What is told of a want: all but the message or the reply that goes.
-use Rattle.std.specs.Prelude.{ℕ, suc, [], ◌∷◌, length, Option, Some, None, ⊤}
+use Rattle.std.specs.Prelude.{ℕ, suc, List, [], ◌∷◌, length, Option, Some, None, option_and_then, option_map, ⊤}
+use Rattle.herm_model.specs.Paths.{Path}
+use Rattle.herm_model.specs.Values.{cell_at}
 use Rattle.herm_journal.specs.Actions.{new_port, new_process, to_put, to_take, to_close, to_answer, to_hear}
 use Rattle.herm_journal.specs.Messages.{CellWant}
+use Rattle.herm_forms.specs.Exchanges.{inport_at, outport_at}
+use Rattle.herm_forms.specs.Frames.{Frame}
+use Rattle.herm_forms.specs.ReturnForms.{caller_of}
+use Rattle.herm_instructions.specs.Instructions.{Instruction, New, Send, Receive, Select, Call, Return, ReturnBy, Create}
+use Rattle.herm_code_machine.specs.CodeActions.{ports_of_choices}
 use Rattle.herm_exchanges.specs.declared.wants.Want.{Want}
 use Rattle.herm_exchanges.specs.declared.wants.Want.TheVariants as wants
 
@@ -34,3 +41,25 @@ want_view (wants.Take ports) = a_take ports.first.number ports.count
 want_view (wants.Close port) = a_close port.number
 want_view (wants.Answer caller call) = an_answer caller.number call
 want_view wants.Hear = a_hearing
+
+-- the first of the ports at these paths, where it is, and how many they are
+abbrev pub told_among : List Path → Frame ⊤ → Option Told
+told_among [] b = None
+told_among (i ∷ paths) b = option_map (λ port. a_take port (suc (length paths))) (inport_at i b)
+
+-- the call whose callmessage is at this path
+abbrev pub told_call : Path → Frame ⊤ → Option Told
+told_call m b = option_map (λ (c : ℕ × ℕ). an_answer c.0 c.1) (option_and_then caller_of (cell_at m b.variables))
+
+-- What is told of an instruction's want, whether or not what goes with it is there: nothing of one that is no action, nor where
+-- there is no port, or no callmessage. Code reference, "Pieces".
+abbrev pub told_of : Instruction → Frame ⊤ → Option Told
+told_of (New x t) b = Some a_port
+told_of (Send x o trim) b = option_map a_put (outport_at o b)
+told_of (Receive x i) b = told_among (i ∷ []) b
+told_of (Select choices) b = told_among (ports_of_choices choices) b
+told_of (Call o arguments keeps) b = option_map a_put (outport_at o b)
+told_of (Return m) b = told_call m b
+told_of (ReturnBy m e kept) b = told_call m b
+told_of (Create o n) b = Some (a_process n)
+told_of _ b = None

@@ -1,5 +1,5 @@
 //! What instructions want that are actions, and what waits on a work list.
-ghost use Rattle.std.specs.Prelude.{◌≡◌, ℕ, List, Some, map, option_map, option_and_then, slice_get, ⊤};
+ghost use Rattle.std.specs.Prelude.{◌≡◌, ◌∷◌, [], ℕ, List, Some, map, option_map, option_and_then, slice_get, ⊤};
 ghost use Rattle.herm_model.specs.Values as model;
 ghost use Rattle.herm_model.specs.Values.{cell_at};
 ghost use Rattle.herm_journal.specs.Actions.{to_take};
@@ -14,9 +14,10 @@ ghost use Rattle.herm_values.specs.View.{value_view};
 ghost use Rattle.herm_values.specs.Works.{item_view};
 ghost use Rattle.herm_code.specs.View.{choice_view, instr_view};
 ghost use Rattle.herm_code_machine.specs.CodeActions.{code_wants, ports_of_choices};
+ghost use Rattle.herm_code_machine.specs.CodeSeen.{ports_of};
 ghost use Rattle.herm_code_machine.specs.ReadyCode.{ReadyCode};
 ghost use Rattle.herm_frames.specs.Standing.{Stands};
-ghost use Rattle.herm_exchanges.specs.Told.{a_put, a_take, an_answer, told, want_view};
+ghost use Rattle.herm_exchanges.specs.Told.{a_put, a_take, an_answer, told, told_among, told_call, told_of, want_view};
 
 use crate::ports::{inport_at, outport_at};
 use herm_base::{PortNo, ProcNo};
@@ -45,9 +46,10 @@ pub enum Want {
     Hear,
 }
 
-/// What an instruction wants that is an action.
+/// What an instruction wants that is an action. None of one that is no action, and where there is no port or no callmessage.
 pub fn want_of(frame: &Frame, instruction: &Instr) -> Option<Want>
     ensures want { (c : ReadyCode) (stack : List model.Value) (s : frames.Frame ⊤) (w : CellWant ⊤) → Stands frame.now s → code_wants forget_name c (instr_view instruction.now) stack s ≡ Some w → option_map want_view result ≡ told w }
+    ensures exactly { (s : frames.Frame ⊤) → Stands frame.now s → option_map want_view result ≡ told_of (instr_view instruction.now) s }
 {
     match instruction {
         Instr::New(_, _) => Some(Want::MakePort),
@@ -85,6 +87,7 @@ fn take_from(frame: &Frame, port: &Path) -> Option<Want>
 /// A message is taken from one of the inports at the paths of arms.
 fn take_among(frame: &Frame, arms: &[Arm]) -> Option<Want>
     ensures want { (s : frames.Frame ⊤) (w : CellWant ⊤) → Stands frame.now s → exchanges.select_wants (ports_of_choices (map choice_view arms.now)) s ≡ Some w → option_map want_view result ≡ told w }
+    ensures exactly { (s : frames.Frame ⊤) → Stands frame.now s → option_map want_view result ≡ told_among (ports_of_choices (map choice_view arms.now)) s }
 {
     let count = arms.len();
     let Some((arm, _)) = arms.split_first() else {
@@ -98,7 +101,7 @@ fn take_among(frame: &Frame, arms: &[Arm]) -> Option<Want>
 
 /// The call is answered whose callmessage stands at a path.
 fn answer_of(frame: &Frame, message: &Path) -> Option<Want>
-    ensures want { (s : frames.Frame ⊤) → Stands frame.now s → option_map want_view result ≡ option_map (λ c. an_answer c.0 c.1) (option_and_then caller_of (cell_at (path_view message.now) s.variables)) }
+    ensures want { (s : frames.Frame ⊤) → Stands frame.now s → option_map want_view result ≡ told_call (path_view message.now) s }
 {
     match frame.at(message) {
         Some(v) => answer_to(v),
@@ -109,7 +112,7 @@ fn answer_of(frame: &Frame, message: &Path) -> Option<Want>
 /// The call of a callmessage is answered.
 #[tactic(auto, using(herm_values::proofs::Seen::layers))]
 fn answer_to(v: &Value) -> Option<Want>
-    ensures want { option_map want_view result ≡ option_map (λ c. an_answer c.0 c.1) (caller_of (value_view v.now)) }
+    ensures want { option_map want_view result ≡ option_map (λ (c : ℕ × ℕ). an_answer c.0 c.1) (caller_of (value_view v.now)) }
 {
     match v {
         Value::Bool(_) => None,
@@ -126,9 +129,10 @@ fn answer_to(v: &Value) -> Option<Want>
     }
 }
 
-/// The port of an arm's inport, which is the one at this place that a process looks at.
+/// The port of an arm's inport, which is the one at this place that a process looks at. None where there is no arm or no inport.
 pub fn port_of_arm(frame: &Frame, arms: &[Arm], place: usize) -> Option<PortNo>
     ensures port { (s : frames.Frame ⊤) (ports : List ℕ) → Stands frame.now s → exchanges.ports_at (ports_of_choices (map choice_view arms.now)) s ≡ Some ports → option_map (λ p. p.number) result ≡ slice_get ports place }
+    ensures exactly { (s : frames.Frame ⊤) → Stands frame.now s → option_map (λ p. p.number) result ≡ option_and_then (λ i. exchanges.inport_at i s) (slice_get (ports_of_choices (map choice_view arms.now)) place) }
 {
     match arm_at(arms, place) {
         Some(arm) => inport_at(frame, &arm.port),
@@ -136,10 +140,11 @@ pub fn port_of_arm(frame: &Frame, arms: &[Arm], place: usize) -> Option<PortNo>
     }
 }
 
-/// The port at a place among those that an instruction looks at.
+/// The port at a place among those that an instruction looks at. None where it looks at none there.
 #[tactic(auto, using(crate::proofs::Told::looking))]
 pub fn port_at(frame: &Frame, instruction: &Instr, place: usize) -> Option<PortNo>
     ensures port { (c : ReadyCode) (stack : List model.Value) (s : frames.Frame ⊤) (ports : List ℕ) → Stands frame.now s → code_wants forget_name c (instr_view instruction.now) stack s ≡ Some (to_take ports) → option_map (λ p. p.number) result ≡ slice_get ports place }
+    ensures exactly { (s : frames.Frame ⊤) → Stands frame.now s → option_map (λ p. p.number) result ≡ option_and_then (λ i. exchanges.inport_at i s) (slice_get (ports_of (instr_view instruction.now)) place) }
 {
     match instruction {
         Instr::New(_, _) => None,
@@ -158,6 +163,7 @@ pub fn port_at(frame: &Frame, instruction: &Instr, place: usize) -> Option<PortN
 #[tactic(auto, using(crate::proofs::Told::only_looking))]
 fn only_port(frame: &Frame, port: &Path, place: usize) -> Option<PortNo>
     ensures port { (s : frames.Frame ⊤) (ports : List ℕ) → Stands frame.now s → exchanges.receive_wants (path_view port.now) s ≡ Some (to_take ports) → option_map (λ p. p.number) result ≡ slice_get ports place }
+    ensures exactly { (s : frames.Frame ⊤) → Stands frame.now s → option_map (λ p. p.number) result ≡ option_and_then (λ i. exchanges.inport_at i s) (slice_get (path_view port.now ∷ []) place) }
 {
     if place == 0 {
         return inport_at(frame, port);

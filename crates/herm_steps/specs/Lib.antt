@@ -9,4 +9,5 @@ pub mod Sent
 pub mod SoundSteps
 pub mod StandingAt
 pub mod Stepped
+pub mod ToldNext
 pub mod Turns

@@ -12,6 +12,7 @@ ghost use Rattle.herm_pieces.specs.View.{ready_view};
 ghost use Rattle.herm_exchanges.specs.Told.{told, want_view};
 ghost use Rattle.herm_steps.specs.Coming.{coming, wants_nothing};
 ghost use Rattle.herm_steps.specs.StandingAt.{StandsAt};
+ghost use Rattle.herm_steps.specs.ToldNext.{looked_next, told_front, told_next};
 
 use crate::next::Next;
 use crate::running::Running;
@@ -21,10 +22,11 @@ use herm_pieces::Code;
 
 impl Running {
     /// What it wants of a place: what the machine of code wants, without what is carried. None while a local step or nothing
-    /// comes next.
+    /// comes next, and at an action without its port or callmessage.
     pub fn wants(&self, code: &Code) -> Option<Want>
         ensures want { (s : CodeState ⊤) (w : CellWant ⊤) → StandsAt self.now s → code_wanted forget_name (ready_view code.now) s ≡ Some w → option_map want_view result ≡ told w }
         ensures nothing { (s : CodeState ⊤) → StandsAt self.now s → wants_nothing (coming (code_next (ready_view code.now) s)) ≡ true → result ≡ None }
+        ensures exactly { (s : CodeState ⊤) → StandsAt self.now s → option_map want_view result ≡ told_next (coming (code_next (ready_view code.now) s)) s.frame }
     {
         match self.next(code) {
             Next::Item => self.work_wanted(),
@@ -35,9 +37,10 @@ impl Running {
         }
     }
 
-    /// The port at a place among those that it looks at, where it wants to take a message.
+    /// The port at a place among those that it looks at, where it wants to take a message. None where it looks at none there.
     pub fn look(&self, code: &Code, place: usize) -> Option<PortNo>
         ensures port { (s : CodeState ⊤) (ports : List ℕ) → StandsAt self.now s → code_wanted forget_name (ready_view code.now) s ≡ Some (to_take ports) → option_map (λ p. p.number) result ≡ slice_get ports place }
+        ensures exactly { (s : CodeState ⊤) → StandsAt self.now s → option_map (λ p. p.number) result ≡ looked_next place (coming (code_next (ready_view code.now) s)) s.frame }
     {
         match self.next(code) {
             Next::Item => None,
@@ -51,6 +54,7 @@ impl Running {
     /// What the front of its work list wants.
     fn work_wanted(&self) -> Option<Want>
         ensures want { (item : model.Value) (w : CellWant ⊤) → slice_get (map item_view self.now.frame.work) 0 ≡ Some item → work_wants item ≡ Some w → option_map want_view result ≡ told w }
+        ensures exactly { option_map want_view result ≡ told_front (map item_view self.now.frame.work) }
     {
         match self.frame.front() {
             Some(item) => Some(work_want(item)),

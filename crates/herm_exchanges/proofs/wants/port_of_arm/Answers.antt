@@ -11,7 +11,11 @@ returns-in-Some c = record {
       c.inport_at.ensures.port s h
       ∙ arm_port c.args.arms.now c.args.place s (Some c.in-Some.arm.now) c.in-Some.ensures.arm
       ∙ looked_at (ports_of_choices (map choice_view c.args.arms.now)) s c.args.place ports e;
+  exactly = λ s h. c.inport_at.ensures.port s h ∙ arm_port c.args.arms.now c.args.place s (Some c.in-Some.arm.now) c.in-Some.ensures.arm;
 }
 
 pub returns-in-None : goal.returns-in-None
-returns-in-None c = record { port = λ s ports h e. arm_port c.args.arms.now c.args.place s None c.in-None.ensures.arm ∙ looked_at (ports_of_choices (map choice_view c.args.arms.now)) s c.args.place ports e }
+returns-in-None c = record {
+  port = λ s ports h e. arm_port c.args.arms.now c.args.place s None c.in-None.ensures.arm ∙ looked_at (ports_of_choices (map choice_view c.args.arms.now)) s c.args.place ports e;
+  exactly = λ s h. arm_port c.args.arms.now c.args.place s None c.in-None.ensures.arm;
+}
