@@ -1,6 +1,7 @@
 //! What a message leaves that was taken.
-ghost use Rattle.std.specs.Prelude.{◌≡◌, ◌<◌, ℕ, length, map, option_map, option_and_then, IfOk, IfSome, ⊤};
+ghost use Rattle.std.specs.Prelude.{◌≡◌, ◌<◌, ℕ, length, map, option_map, option_and_then, IfOk, IfSome, IsErr, ⊤};
 ghost use Rattle.herm_model.specs.Outcomes.{arm};
+ghost use Rattle.herm_model.specs.Values.{cell_at};
 ghost use Rattle.herm_journal.specs.Actions.{take};
 ghost use Rattle.herm_forms.specs.Exchanges as exchanges;
 ghost use Rattle.herm_forms.specs.Exchanges.{place_of_port};
@@ -10,8 +11,10 @@ ghost use Rattle.herm_values.specs.View.{value_view};
 ghost use Rattle.herm_values.specs.Whole.{IsWhole};
 ghost use Rattle.herm_code.specs.View.{choice_view};
 ghost use Rattle.herm_code_machine.specs.CodeActions.{ports_of_choices, targets_of_choices};
+ghost use Rattle.herm_places.specs.Held.{seen_places};
 ghost use Rattle.herm_frames.specs.Completed.{outcome_view, Completes};
 ghost use Rattle.herm_frames.specs.Standing.{Stands};
+ghost use Rattle.herm_frames.specs.Waiting.{Waits};
 ghost use Rattle.herm_exchanges.specs.Arms.{first_looking, have_ports, is_port};
 
 use crate::ports::inport_at;
@@ -26,6 +29,7 @@ use std::alloc::AllocError;
 pub fn receive(frame: &mut Frame, target: &Path, message: Value) -> Result<Outcome, AllocError>
     requires whole { IsWhole message }
     ensures settles { IfOk result (λ r. (s : frames.Frame ⊤) (number : ℕ) → Stands frame.old s → Completes (outcome_view r) frame.new (exchanges.receive (path_view target.now) (take number (value_view message)) s)) }
+    ensures refused { IsErr result → Waits (cell_at (path_view target.now) (seen_places frame.old.variables)) }
 {
     let outcome = frame.put_at_end(target, message, Outcome::Next)?;
     Ok(outcome)

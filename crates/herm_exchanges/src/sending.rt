@@ -1,8 +1,9 @@
 //! What a `Send` puts, and what its answer leaves.
-ghost use Rattle.std.specs.Prelude.{◌≡◌, ℕ, Some, None, map, option_map, option_and_then, IfOk, IfSome, OnOk, ⊤};
+ghost use Rattle.std.specs.Prelude.{◌≡◌, ℕ, Some, None, map, option_map, option_and_then, IfOk, IfSome, IsErr, OnOk, ⊤};
 ghost use Rattle.herm_model.specs.Outcomes.{ok, raised, disconnected};
 ghost use Rattle.herm_model.specs.Paths as paths;
 ghost use Rattle.herm_model.specs.Values as model;
+ghost use Rattle.herm_model.specs.Values.{cell_at};
 ghost use Rattle.herm_journal.specs.Actions.{put, to_put};
 ghost use Rattle.herm_forms.specs.Exchanges as exchanges;
 ghost use Rattle.herm_forms.specs.Frames as frames;
@@ -10,8 +11,10 @@ ghost use Rattle.herm_forms.specs.Frames.{cleared, drop, putting};
 ghost use Rattle.herm_types.specs.View.{path_view};
 ghost use Rattle.herm_values.specs.View.{value_view};
 ghost use Rattle.herm_values.specs.Whole.{IsWhole};
+ghost use Rattle.herm_places.specs.Held.{seen_places};
 ghost use Rattle.herm_frames.specs.Completed.{outcome_view, Completes};
 ghost use Rattle.herm_frames.specs.Standing.{Stands};
+ghost use Rattle.herm_frames.specs.Waiting.{Waits};
 
 use herm_base::ExcNo;
 use herm_frames::{Frame, Outcome};
@@ -54,6 +57,7 @@ pub fn take_message(
 pub fn came_back(frame: &mut Frame, source: &Path, message: Value) -> Result<Outcome, AllocError>
     requires whole { IsWhole message }
     ensures settles { IfOk result (λ r. (s : frames.Frame ⊤) → Stands frame.old s → Completes (outcome_view r) frame.new (putting (path_view source.now) (raised disconnected) (value_view message) s)) }
+    ensures refused { IsErr result → Waits (cell_at (path_view source.now) (seen_places frame.old.variables)) }
 {
     let outcome = frame.put_at_end(source, message, Outcome::Raised(DISCONNECTED))?;
     Ok(outcome)

@@ -1,4 +1,5 @@
 mod Awaited
+mod CountedOut
 mod Ports
 mod SoundStates
 mod Standing

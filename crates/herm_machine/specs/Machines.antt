@@ -4,12 +4,13 @@ use Rattle.herm_model.specs.Values.{Name, Value}
 use Rattle.herm_journal.specs.Actions.{to_put, to_take, to_answer}
 use Rattle.herm_journal.specs.Messages.{CellReply, CellWant}
 use Rattle.herm_system.specs.Machines.{Machine}
+use Rattle.herm_forms.specs.Frames.{Frame, counted_action}
 use Rattle.herm_instructions.specs.Images.{Image}
 use Rattle.herm_code_machine.specs.CodeInstance.{code_at, nameless_code}
 use Rattle.herm_code_machine.specs.CodeLocal.{IsSoundCodeIn}
 use Rattle.herm_code_machine.specs.CodeRenaming.{forget_code}
 use Rattle.herm_code_machine.specs.CodeStates.{CodeState}
-use Rattle.herm_code_machine.specs.CodeSteps.{code_next}
+use Rattle.herm_code_machine.specs.CodeSteps.{code_next, counted_if}
 use Rattle.herm_code_machine.specs.ReadyCode.{ReadyCode, labelled_image}
 use Rattle.herm_code_machine.specs.laws.GoodImageLaws.{IsGoodOver}
 use Rattle.herm_pieces.specs.View.{ready_view}
@@ -65,6 +66,12 @@ begins_with_step (coming_reply index instruction) = false
 begins_with_step (coming_action p m) = p.has_step
 begins_with_step (coming_piece p) = p.has_step
 begins_with_step coming_nothing = false
+
+-- The frame as it is counted while an order is out: the action of a piece is counted when its message or reply goes out, with
+-- the step of the piece; the answer for the front of the work list is counted when it comes.
+abbrev pub counted_out : (is_front : Bool) → Coming → Frame ⊤ → Frame ⊤
+counted_out true n b = b
+counted_out false n b = counted_action (counted_if (begins_with_step n) b)
 
 -- what is wanted is to put a message, to take one, to answer a call
 abbrev pub IsPutWanted : Option (CellWant ⊤) → Type 0

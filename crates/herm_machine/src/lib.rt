@@ -10,5 +10,7 @@ mod suiting;
 mod taking;
 mod types;
 
+pub use herm_exchanges::{PortList, Want};
+pub use herm_steps::End;
 pub use machine::Machine;
 pub use order::{Got, Order};

@@ -4,6 +4,9 @@ ghost use Rattle.herm_model.specs.Values.{an_inport};
 ghost use Rattle.herm_journal.specs.Actions.{to_answer, to_put, to_take};
 ghost use Rattle.herm_journal.specs.Entries.{map_reply, texts_of};
 ghost use Rattle.herm_journal.specs.Messages.{CellAction, CellReply, CellWant};
+ghost use Rattle.herm_forms.specs.Frames as frames;
+ghost use Rattle.herm_forms.specs.Weights.{weight_held};
+ghost use Rattle.herm_frames.specs.Standing.{Stands};
 ghost use Rattle.herm_system.specs.Ledger.{held_by};
 ghost use Rattle.herm_system.specs.Summary.{cut};
 ghost use Rattle.herm_system.specs.Suiting.{Answers, Suits};
@@ -20,9 +23,10 @@ ghost use Rattle.herm_steps.specs.Coming.{coming, end_view};
 ghost use Rattle.herm_steps.specs.StandingAt.{StandsAt};
 ghost use Rattle.herm_answers.specs.Orders.{HoldsOrder};
 ghost use Rattle.herm_machine.specs.Gots.{Fits, IsOrdered, IsSuiting, IsWholeGot, TellsGot};
-ghost use Rattle.herm_machine.specs.Machines.{HasOut, IsAnswerWanted, IsAt, IsInside, IsPutWanted, IsTakeWanted, Reaches, StandsFor, begins_with_step, code_of, end_of, nameless};
+ghost use Rattle.herm_machine.specs.Machines.{HasOut, IsAnswerWanted, IsAt, IsInside, IsPutWanted, IsTakeWanted, Reaches, StandsFor, begins_with_step, code_of, counted_out, end_of, nameless};
 
-use crate::counting::counted_cells;
+use crate::counting::{counted, counted_cells};
+use crate::looking::has_step_at;
 use crate::order::Got;
 use crate::settling::settle;
 use crate::suiting::{is_awaited, is_heard};
@@ -136,10 +140,14 @@ impl<'i> Machine<'i> {
         self.running.ended(&self.code)
     }
 
-    /// Whether what comes next begins with a step. A dead process has no next.
+    /// Whether what comes next begins with a step, also while its order is out. A dead process has no next.
     pub fn has_step(&self) -> bool
         ensures step { (image : images.Image) (main : ℕ) (s : CodeState ⊤) → StandsFor image main self.now s → result ≡ begins_with_step (coming (code_next (code_of self.now) s)) }
+        ensures out { (image : images.Image) (main : ℕ) (s : CodeState ⊤) → HasOut image main self.now s → result ≡ begins_with_step (coming (code_next (code_of self.now) s)) }
     {
+        if self.gave_away() {
+            return has_step_at(&self.running, &self.code);
+        }
         match self.running.next(&self.code) {
             Next::Item => false,
             Next::Reply(_) => false,
@@ -303,19 +311,22 @@ impl<'i> Machine<'i> {
         count_aside(&mut self.running);
     }
 
-    /// How many steps and how many actions it has made.
+    /// How many steps and how many actions it has made. While the order of an action is out, its own are among them.
     pub fn counts(&self) -> (u64, u64)
         ensures counts { (image : images.Image) (main : ℕ) (s : CodeState ⊤) → StandsFor image main self.now s → (result.0 ≡ (nameless image main).steps s) × (result.1 ≡ (nameless image main).actions s) }
+        ensures out { (image : images.Image) (main : ℕ) (s : CodeState ⊤) → HasOut image main self.now s → (result.0 ≡ (counted_out self.now.is_front (coming (code_next (code_of self.now) s)) s.frame).steps) × (result.1 ≡ (counted_out self.now.is_front (coming (code_next (code_of self.now) s)) s.frame).actions) }
         ensures held { (result.0 ≡ self.now.held.frame.steps) × (result.1 ≡ self.now.held.frame.actions) }
     {
-        (self.running.frame.steps(), self.running.frame.actions())
+        counted(&self.running)
     }
 
-    /// How many cells it has made, how many it holds, and how many it has finalised, each cut at 2^63.
+    /// How many cells it has made, how many it holds, and how many it has finalised, each cut at 2^63. While an order is out, those
+    /// of what is left of it.
     pub fn cells(&self) -> (u64, u64, u64)
         ensures made { (image : images.Image) (main : ℕ) (s : CodeState ⊤) → StandsFor image main self.now s → result.0 ≡ cut ((nameless image main).serial s) }
         ensures held { (image : images.Image) (main : ℕ) (s : CodeState ⊤) → StandsFor image main self.now s → result.1 ≡ cut (held_by (λ n. 1) (nameless image main) s) }
         ensures finalised { (image : images.Image) (main : ℕ) (s : CodeState ⊤) → StandsFor image main self.now s → result.2 ≡ cut (length ((nameless image main).finalised s)) }
+        ensures left { (b : frames.Frame ⊤) → Stands self.now.held.frame b → (result.0 ≡ cut b.serial) × (result.1 ≡ cut (weight_held (λ n. 1) b)) × (result.2 ≡ cut (length b.finalised)) }
     {
         counted_cells(&self.running)
     }

@@ -4,6 +4,7 @@ pub mod Led
 pub mod Counted
 pub mod Done
 pub mod SoundSteps
+pub mod KeysThere
 pub mod Turned
 pub mod Begun
 pub mod Stepped

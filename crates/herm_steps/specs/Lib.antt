@@ -1,6 +1,7 @@
 pub mod Coming
 pub mod Behind
 pub mod HeldStates
+pub mod KeysThere
 pub mod Kinds
 pub mod KindsOfCode
 pub mod Operators

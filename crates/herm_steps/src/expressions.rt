@@ -1,5 +1,5 @@
 //! Instructions of expressions.
-ghost use Rattle.std.specs.Prelude.{◌≡◌, IfOk, IfSome, IfNone, false, ⊤};
+ghost use Rattle.std.specs.Prelude.{◌≡◌, IfOk, IfSome, IfNone, IsErr, false, ⊤};
 ghost use Rattle.herm_journal.specs.Renaming.{forget_name};
 ghost use Rattle.herm_forms.specs.Frames as frames;
 ghost use Rattle.herm_code.specs.View.{instr_view};
@@ -7,6 +7,8 @@ ghost use Rattle.herm_code_machine.specs.Effects.{effect};
 ghost use Rattle.herm_code_machine.specs.ReadyCode.{ReadyCode};
 ghost use Rattle.herm_frames.specs.Standing.{Stands};
 ghost use Rattle.herm_instructions.specs.Instructions as instructions;
+ghost use Rattle.herm_instructions.specs.Instructions.{Apply, Combine, as_text};
+ghost use Rattle.herm_model.specs.Expressions.{concatenated};
 ghost use Rattle.herm_pieces.specs.View.{ready_view};
 ghost use Rattle.herm_stack.specs.Answers.{effect_of, on_stack};
 ghost use Rattle.herm_types.specs.View.{path_view};
@@ -77,7 +79,8 @@ pub enum Combined {
     Other,
 }
 
-/// Applies an operator to the top of the stack. None where the instruction is of another kind.
+/// Applies an operator to the top of the stack. None where the instruction is of another kind. The decimal text alone takes
+/// memory.
 pub fn apply_operator(
     alloc: Global,
     stack: &mut Stack,
@@ -85,6 +88,7 @@ pub fn apply_operator(
 ) -> Result<Option<Completion>, AllocError>
     ensures effect { IfOk result (λ r. IfSome r (λ d. (c : ReadyCode) (s : frames.Frame ⊤) → effect forget_name c (instr_view instruction.now) (on_stack stack.old) s ≡ effect_of d (on_stack stack.new) s)) }
     ensures other { IfOk result (λ r. IfNone r (is_applying (instr_view instruction.now) ≡ false)) }
+    ensures memory { IsErr result → instr_view instruction.now ≡ Apply as_text }
 {
     match applied_by(instruction) {
         Applied::One(o) => Ok(Some(stack.apply(o))),
@@ -96,7 +100,8 @@ pub fn apply_operator(
     }
 }
 
-/// Combines the top two of the stack. None where the instruction is of another kind.
+/// Combines the top two of the stack. None where the instruction is of another kind. One string behind the other alone takes
+/// memory.
 pub fn combine_operands(
     alloc: Global,
     stack: &mut Stack,
@@ -104,6 +109,7 @@ pub fn combine_operands(
 ) -> Result<Option<Completion>, AllocError>
     ensures effect { IfOk result (λ r. IfSome r (λ d. (c : ReadyCode) (s : frames.Frame ⊤) → effect forget_name c (instr_view instruction.now) (on_stack stack.old) s ≡ effect_of d (on_stack stack.new) s)) }
     ensures other { IfOk result (λ r. IfNone r (is_combining (instr_view instruction.now) ≡ false)) }
+    ensures memory { IsErr result → instr_view instruction.now ≡ Combine concatenated }
 {
     match combined_by(instruction) {
         Combined::Two(o) => Ok(Some(stack.combine(o))),

@@ -26,4 +26,4 @@ pub use messages::{count_piece, take_sent};
 pub use next::Next;
 pub use operands::{push_operand, push_operands};
 pub use running::{End, Running};
-pub use sound_steps::sound_steps_are_made;
+pub use sound_steps::{runs_are_keyed, sound_steps_are_made};

@@ -5,9 +5,7 @@ use Rattle.herm_frames.specs.Completed.{outcome_view}
 use Rattle.herm_exchanges.proofs.Made.{port_made}
 use Rattle.herm_exchanges.proofs.making.new_inport.Goals as goal
 
-pub returns : goal.returns
-returns c = record {
-  settles = λ s h.
-      port_made _ c.in-Some.port.number (path_view c.args.target.now) s c.put_at_end.new.self (outcome_view c.in_ok-outcome.outcome) (ap (option_map (λ p. p.number)) c.in-Some.is)
-      (c.in_ok-outcome.ensures.putting (record s { serial = suc s.serial }) ok (c.make_cell.ensures.stands s h) refl);
-}
+pub returns-clause-settles : goal.returns-clause-settles
+returns-clause-settles c = λ s h.
+    port_made _ c.in-Some.port.number (path_view c.args.target.now) s c.put_at_end.new.self (outcome_view c.in_ok-outcome.outcome) (ap (option_map (λ p. p.number)) c.in-Some.is)
+    (c.in_ok-outcome.ensures.putting (record s { serial = suc s.serial }) ok (c.make_cell.ensures.stands s h) refl)
