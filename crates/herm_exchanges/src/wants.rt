@@ -1,7 +1,6 @@
 //! What instructions want that are actions, and what waits on a work list.
 ghost use Rattle.std.specs.Prelude.{◌≡◌, ◌∷◌, [], ℕ, List, Some, map, option_map, option_and_then, slice_get, ⊤};
 ghost use Rattle.herm_model.specs.Values as model;
-ghost use Rattle.herm_model.specs.Values.{cell_at};
 ghost use Rattle.herm_journal.specs.Actions.{to_take};
 ghost use Rattle.herm_journal.specs.Messages.{CellWant};
 ghost use Rattle.herm_journal.specs.Renaming.{forget_name};

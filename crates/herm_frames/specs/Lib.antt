@@ -3,6 +3,7 @@ pub mod Counts
 pub mod EmptyPlaces
 pub mod Excesses
 pub mod HeldFrames
+pub mod KeyedBehind
 pub mod KeyedTables
 pub mod Keyings
 pub mod Leaving

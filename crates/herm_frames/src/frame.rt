@@ -13,6 +13,7 @@ ghost use Rattle.herm_values.specs.Whole.{IsWhole};
 ghost use Rattle.herm_values.specs.Works.{item_view};
 ghost use Rattle.herm_places.specs.Held.{keyed_places, seen_places};
 ghost use Rattle.herm_frames.specs.Completed.{outcome_view, Completes};
+ghost use Rattle.herm_frames.specs.KeyedBehind.{LeavesKeyed};
 ghost use Rattle.herm_frames.specs.Standing.{Stands};
 ghost use Rattle.herm_frames.specs.Waiting.{Waits};
 
@@ -297,6 +298,7 @@ impl Frame {
     ) -> Result<Outcome, AllocError>
         requires whole { IsWhole v }
         ensures putting { IfOk result (λ r. (s : frames.Frame ⊤) (o : model.Outcome) → Stands self.old s → outcome_view outcome ≡ Some o → Completes (outcome_view r) self.new (putting (path_view path.now) o (value_view v) s)) }
+        ensures keyed { IfOk result (λ r. LeavesKeyed r self.new (put_at (path_view path.now) (keyed_view v) (keyed_places self.old.variables))) }
         ensures refused { IsErr result → Waits (cell_at (path_view path.now) (seen_places self.old.variables)) }
     {
         let is_there = self.put(path, v)?;

@@ -1,10 +1,11 @@
 //! Values that are placed, made and let go.
-ghost use Rattle.std.specs.Prelude.{◌≡◌, ◌∷◌, [], IfOk, OnOk, IsErr, List, Some, None, ⊤, length, map};
+ghost use Rattle.std.specs.Prelude.{◌≡◌, ◌∷◌, [], ℕ, IfOk, OnOk, IsErr, List, Some, None, ⊤, length, map, slice_get};
 ghost use Rattle.herm_journal.specs.Renaming.{forget_name};
 ghost use Rattle.herm_model.specs.Finalising.{clear_all};
 ghost use Rattle.herm_model.specs.Outcomes.{ok};
+ghost use Rattle.herm_model.specs.Types.{rows};
 ghost use Rattle.herm_model.specs.Values as model;
-ghost use Rattle.herm_model.specs.Values.{Kind, Parts, cell, cell_at, gaps, no_parts};
+ghost use Rattle.herm_model.specs.Values.{Kind, Parts, cell, cell_at, gaps, no_parts, put_at};
 ghost use Rattle.herm_forms.specs.Forms as forms;
 ghost use Rattle.herm_forms.specs.Frames.{Frame as ModelFrame, drop, making, putting};
 ghost use Rattle.herm_instructions.specs.Instructions as instructions;
@@ -17,6 +18,7 @@ ghost use Rattle.herm_values.specs.View.{value_view};
 ghost use Rattle.herm_values.specs.Whole.{AllWhole, IsWhole};
 ghost use Rattle.herm_frames.specs.Completed.{Completes, Effects, outcome_view};
 ghost use Rattle.herm_frames.specs.EmptyPlaces.{nothings};
+ghost use Rattle.herm_frames.specs.KeyedBehind.{LeavesKeyed};
 ghost use Rattle.herm_frames.specs.Standing.{Stands};
 ghost use Rattle.herm_frames.specs.Waiting.{Waits};
 
@@ -86,6 +88,7 @@ impl Frame {
     pub fn make_at(&mut self, target: &Path, v: Value) -> Result<Outcome, AllocError>
         requires whole { IsWhole v }
         ensures making { IfOk result (λ r. (s : ModelFrame ⊤) (k : Kind) (ps : Parts ⊤) → Stands self.old s → value_view v ≡ cell tt k ps → Completes (outcome_view r) self.new (making forget_name k ps (putting (path_view target.now) ok) s)) }
+        ensures keyed { IfOk result (λ r. LeavesKeyed r self.new (put_at (path_view target.now) (keyed_view v) (keyed_places self.old.variables))) }
         ensures refused { IsErr result → Waits (cell_at (path_view target.now) (seen_places self.old.variables)) }
     {
         self.make_cell();
@@ -104,7 +107,8 @@ impl Frame {
         Ok(r)
     }
 
-    /// Makes an empty record or an empty table. A new inport is an action, and no new value.
+    /// Makes an empty record or an empty table, whose key has the fields that its type says. A new inport is an action, and no new
+    /// value.
     pub fn new_value(
         &mut self,
         alloc: Global,
@@ -113,6 +117,7 @@ impl Frame {
         t: TypeNo,
     ) -> Result<Outcome, AllocError>
         ensures effect { IfOk result (λ r. (c : ReadyCode) (stack : List model.Value) (s : ModelFrame ⊤) → c.scope.types ≡ types.now.shapes → Stands self.old s → Effects r self.new stack (effect forget_name c (instructions.New (path_view target.now) t.0) stack s)) }
+        ensures keyed { IfOk result (λ r. (row : ℕ) (key : List ℕ) → slice_get types.now.shapes t.0 ≡ Some (rows row key) → LeavesKeyed r self.new (put_at (path_view target.now) (cell key model.a_table no_parts) (keyed_places self.old.variables))) }
     {
         if t.0 as usize >= types.len() {
             return Ok(Outcome::Stuck);

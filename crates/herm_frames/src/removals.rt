@@ -1,9 +1,9 @@
 //! Values that move away, without what they hold beyond full ones.
-ghost use Rattle.std.specs.Prelude.{◌≡◌, IfOk, IfSome, OnOk, List, flat_map, map, option_map, ⊤};
+ghost use Rattle.std.specs.Prelude.{◌≡◌, ℕ, IfOk, IfSome, OnOk, List, Some, flat_map, map, option_map, ⊤};
 ghost use Rattle.herm_journal.specs.Renaming.{forget_name};
 ghost use Rattle.herm_model.specs.Finalising.{clear_all};
 ghost use Rattle.herm_model.specs.Values as model;
-ghost use Rattle.herm_model.specs.Values.{cell, cell_at, clear_at, no_parts, part};
+ghost use Rattle.herm_model.specs.Values.{Cell, Parts, cell, cell_at, clear_at, no_parts, part, put_at};
 ghost use Rattle.herm_forms.specs.Excess.{excess_over_full};
 ghost use Rattle.herm_forms.specs.Frames.{Frame as ModelFrame, cleared, drop};
 ghost use Rattle.herm_instructions.specs.Instructions as instructions;
@@ -11,9 +11,11 @@ ghost use Rattle.herm_code_machine.specs.ReadyCode.{ReadyCode};
 ghost use Rattle.herm_code_machine.specs.Effects.{effect};
 ghost use Rattle.herm_types.specs.View.{path_view};
 ghost use Rattle.herm_places.specs.Held.{keyed_places};
+ghost use Rattle.herm_values.specs.Keyed.{keyed_view};
 ghost use Rattle.herm_values.specs.View.{value_view};
 ghost use Rattle.herm_values.specs.Whole.{IsWhole};
 ghost use Rattle.herm_frames.specs.Completed.{Effects};
+ghost use Rattle.herm_frames.specs.KeyedBehind.{LeavesKeyed};
 ghost use Rattle.herm_frames.specs.Scopes.{IsOf};
 ghost use Rattle.herm_frames.specs.Standing.{Stands};
 
@@ -68,13 +70,14 @@ impl Frame {
         ensures taken { IfOk result (λ o. (c : ReadyCode) (s : ModelFrame ⊤) → IsOf types.now of.now c → Stands self.old s → option_map value_view o ≡ cell_at (path_view source.now) (drop (excess_over_full c.scope (path_view source.now) s) s).variables) }
         ensures stands { OnOk result ((c : ReadyCode) (s : ModelFrame ⊤) → IsOf types.now of.now c → Stands self.old s → Stands self.new (cleared (path_view source.now) (drop (excess_over_full c.scope (path_view source.now) s) s))) }
         ensures left { OnOk result ((c : ReadyCode) (s : ModelFrame ⊤) → IsOf types.now of.now c → Stands self.old s → keyed_places self.new.variables ≡ clear_at (path_view source.now) (clear_all (excess_over_full c.scope (path_view source.now) s) (keyed_places self.old.variables))) }
+        ensures keyed { IfOk result (λ o. (c : ReadyCode) (s : ModelFrame ⊤) → IsOf types.now of.now c → Stands self.old s → option_map keyed_view o ≡ cell_at (path_view source.now) (clear_all (excess_over_full c.scope (path_view source.now) s) (keyed_places self.old.variables))) }
         ensures whole { IfOk result (λ o. IfSome o IsWhole) }
     {
         self.drop_excess(alloc, types, of, source)?;
         Ok(self.take(source))
     }
 
-    /// Moves a value from one path to another.
+    /// Moves a value from one path to another. The tables in it keep the fields of their keys.
     pub fn move_value(
         &mut self,
         alloc: Global,
@@ -84,6 +87,7 @@ impl Frame {
         target: &Path,
     ) -> Result<Outcome, AllocError>
         ensures effect { IfOk result (λ r. (c : ReadyCode) (stack : List model.Value) (s : ModelFrame ⊤) → IsOf types.now of.now c → Stands self.old s → Effects r self.new stack (effect forget_name c (instructions.Move (path_view source.now) (path_view target.now)) stack s)) }
+        ensures keyed { IfOk result (λ r. (c : ReadyCode) (s : ModelFrame ⊤) (ps : Parts (List ℕ)) (v : Cell (List ℕ)) → IsOf types.now of.now c → Stands self.old s → ps ≡ clear_all (excess_over_full c.scope (path_view source.now) s) (keyed_places self.old.variables) → cell_at (path_view source.now) ps ≡ Some v → LeavesKeyed r self.new (put_at (path_view target.now) v (clear_at (path_view source.now) ps))) }
     {
         let Some(v) = self.take_full(alloc, types, of, source)? else {
             return Ok(Outcome::Stuck);

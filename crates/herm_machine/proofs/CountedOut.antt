@@ -1,5 +1,5 @@
 -- What is counted while an order is out.
-use Rattle.std.proofs.Common.{◌≡◌, ℕ, List, [], ◌∷◌, Bool, true, false, Option, Some, None, option_map, map, flat_map, refl, sym, ap, subst, ◌∙◌}
+use Rattle.std.proofs.Common.{◌≡◌, ℕ, List, Bool, true, false, Some, option_map, map, flat_map, sym, ap, subst, ◌∙◌}
 use Rattle.std.specs.Prelude.{⊤}
 use Rattle.herm_model.specs.Paths.{Path}
 use Rattle.herm_model.specs.Values.{Value}

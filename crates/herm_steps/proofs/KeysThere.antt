@@ -9,13 +9,11 @@ use Rattle.herm_model.specs.TypedExpressions.{HasShape}
 use Rattle.herm_model.specs.Typed.{a_value, exactly, greatest_rows, HaveTypes, HasType, is_bounded, partly}
 use Rattle.herm_model.specs.TypedStatements.{IsSource, IsTableOf}
 use Rattle.herm_model.specs.Types.{TypeTable, Shape, rows, fields, type_at}
-use Rattle.herm_model.specs.Values.{Name, a_table, Cell, cell, Kind, kind_of, Parts, read_at, size, Value, an_inport, no_parts}
-use Rattle.herm_model.specs.WellFormedTables.{IsWellFormedTable}
+use Rattle.herm_model.specs.Values.{Name, a_table, cell, Kind, kind_of, Parts, read_at, size, Value, an_inport, no_parts}
 use Rattle.herm_model.proofs.Options.{none-not_some, some-injective}
 use Rattle.herm_model.proofs.Typing.{Fits-renamed}
 use Rattle.herm_journal.specs.Renaming.{forget_name}
 use Rattle.herm_forms.specs.Acts.{key_at, key_fields}
-use Rattle.herm_forms.specs.Modules.{Module}
 use Rattle.herm_forms.proofs.forms.ReadTypes.{is-table, read-typed}
 use Rattle.herm_instructions.specs.Images.{CodeModule, Image, instruction_at}
 use Rattle.herm_instructions.specs.Instructions.{Instruction, Insert, Remove, Get}

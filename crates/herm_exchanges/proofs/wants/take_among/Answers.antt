@@ -1,4 +1,4 @@
-use Rattle.std.proofs.Common.{Some, None}
+use Rattle.std.proofs.Common.{Some}
 use Rattle.herm_exchanges.proofs.Told.{among_told, first_told}
 use Rattle.herm_exchanges.proofs.wants.take_among.Goals as goal
 

@@ -1,4 +1,4 @@
-use Rattle.std.proofs.Common.{◌≡◌, Some, None, option_map, sym, ap, ◌∙◌}
+use Rattle.std.proofs.Common.{◌≡◌, Some, option_map, sym, ap, ◌∙◌}
 use Rattle.herm_model.proofs.Options.{none-not_some, some-injective}
 use Rattle.herm_code_machine.specs.Pieces as pieces
 use Rattle.herm_pieces.specs.View.{piece_view, ready_view}
