@@ -1,8 +1,9 @@
 -- An instruction that takes its key from the stack.
 use Rattle.std.proofs.Common.{◌≡◌, ℕ, List, Option, Some, None, option_map, Vec, Global, refl, sym, ap, subst, ◌∙◌}
-use Rattle.std.specs.Prelude.{⊤, IfSome}
+use Rattle.std.specs.Prelude.{⊤, IfNone, IfSome}
 use Rattle.herm_journal.specs.Renaming.{forget_name}
 use Rattle.herm_model.specs.Values.{Scalar, Value}
+use Rattle.herm_model.proofs.Options.{none-not_some}
 use Rattle.herm_forms.specs.Frames.{Frame, Completion, stuck}
 use Rattle.herm_instructions.specs.Instructions.{Instruction}
 use Rattle.herm_code_machine.specs.Effects.{effect}
@@ -24,6 +25,11 @@ use Rattle.herm_steps.proofs.Done.{performs, with_frame, with_stack}
 -- what is said of an outcome, where there is one
 pub some_of : {X : Type 0} (P : X → Type 0) (o : Option X) (x : X) → o ≡ Some x → IfSome o P → P x
 some_of P o x is h = subst (λ o. IfSome o P) is h
+
+-- and where there is none
+pub none_of : {X : Type 0} {A : Type 0} (o : Option X) → o ≡ None → IfNone o A → A
+none_of None is h = h
+none_of (Some x) is h = none-not_some (sym is)
 
 module _ (c : ReadyCode) (i : Instruction) (b : Frame ⊤) (n : ℕ) (next : List Scalar → Completion ⊤) (old now : HeldState) (vs : List held.Value) (r : Option (Vec keys.Scalar Global)) (view : old ≡ now)
     (is : (stack : List Value) → effect forget_name c i stack b ≡ with_key n next stack) (taken : with_key n next (on_stack old.stack) ≡ with_key_of next (on_stack vs) (option_map (λ (k : Vec keys.Scalar Global). key_view k.items) r)) where

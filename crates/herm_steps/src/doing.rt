@@ -1,5 +1,5 @@
 //! Instructions that are neither steps nor actions.
-ghost use Rattle.std.specs.Prelude.{◌≡◌, ◌<◌, IfOk, OnOk, Some, true, length, ⊤};
+ghost use Rattle.std.specs.Prelude.{◌≡◌, ◌<◌, IfOk, IfNone, IfSome, OnOk, Some, true, length, ⊤};
 ghost use Rattle.herm_journal.specs.Renaming.{forget_name};
 ghost use Rattle.herm_forms.specs.Frames as frames;
 ghost use Rattle.herm_code.specs.View.{instr_view};
@@ -12,6 +12,7 @@ ghost use Rattle.herm_pieces.specs.View.{position_view, ready_view};
 ghost use Rattle.herm_stack.specs.Answers.{on_stack};
 ghost use Rattle.herm_steps.specs.Behind.{IsBehind};
 ghost use Rattle.herm_steps.specs.Coming.{end_position, end_view};
+ghost use Rattle.herm_steps.specs.KeysThere.{CanBeKeyed};
 ghost use Rattle.herm_steps.specs.KindsOfCode.{IsEndOf};
 ghost use Rattle.herm_steps.specs.Performed.{Performs, behind_effect};
 ghost use Rattle.herm_steps.specs.StandingAt.{StandsAt};
@@ -25,7 +26,8 @@ use herm_pieces::{Code, Position};
 use std::alloc::{AllocError, Global};
 
 impl Running {
-    /// Does the instruction at an index, which is neither a step nor an action. False where it is stuck.
+    /// Does the instruction at an index, which is neither a step nor an action. False where it is stuck. A table that is refused the
+    /// key of its type is told as want of memory: no run of a sound process has one.
     pub fn do_instruction(
         &mut self,
         alloc: Global,
@@ -40,7 +42,9 @@ impl Running {
             self.end_at(alloc, code, end)?;
             return Ok(true);
         }
-        let outcome = self.perform(alloc, code, instruction)?;
+        let Some(outcome) = self.perform(alloc, code, instruction)? else {
+            return Err(AllocError);
+        };
         Ok(self.go_on(code, index, instruction, outcome))
     }
 
@@ -65,35 +69,36 @@ impl Running {
         }
     }
 
-    /// Performs an instruction, by its kind.
+    /// Performs an instruction, by its kind. None only where a table cannot have the key of its type.
     fn perform(
         &mut self,
         alloc: Global,
         code: &Code,
         instruction: &Instr,
-    ) -> Result<Outcome, AllocError>
-        ensures performed { IfOk result (λ o. (b : frames.Frame ⊤) → Stands self.old.frame b → Performs o self.new (effect forget_name (ready_view code.now) (instr_view instruction.now) (on_stack self.old.stack) b)) }
+    ) -> Result<Option<Outcome>, AllocError>
+        ensures performed { IfOk result (λ o. IfSome o (λ o. (b : frames.Frame ⊤) → Stands self.old.frame b → Performs o self.new (effect forget_name (ready_view code.now) (instr_view instruction.now) (on_stack self.old.stack) b))) }
+        ensures refused { IfOk result (λ o. IfNone o ((b : frames.Frame ⊤) → Stands self.old.frame b → CanBeKeyed (ready_view code.now) (instr_view instruction.now) b → ⊥)) }
     {
         match kind_of(instruction) {
             Kind::Pushing => {
                 let outcome = self.push(alloc, code, instruction)?;
-                Ok(outcome)
+                Ok(Some(outcome))
             }
             Kind::Applying => {
                 let outcome = self.apply(alloc, code, instruction)?;
-                Ok(outcome)
+                Ok(Some(outcome))
             }
             Kind::Combining => {
                 let outcome = self.combine(alloc, code, instruction)?;
-                Ok(outcome)
+                Ok(Some(outcome))
             }
             Kind::Placing => {
                 let outcome = self.place(alloc, code, instruction)?;
-                Ok(outcome)
+                Ok(Some(outcome))
             }
             Kind::Holding => {
                 let outcome = self.hold(alloc, code, instruction)?;
-                Ok(outcome)
+                Ok(Some(outcome))
             }
             Kind::Tabular => {
                 let outcome = self.tabulate(alloc, code, instruction)?;
@@ -101,10 +106,10 @@ impl Running {
             }
             Kind::Looping => {
                 let outcome = self.visit(alloc, code, instruction)?;
-                Ok(outcome)
+                Ok(Some(outcome))
             }
-            Kind::Leading => Ok(self.lead(code, instruction)),
-            Kind::Other => Ok(Outcome::Stuck),
+            Kind::Leading => Ok(Some(self.lead(code, instruction))),
+            Kind::Other => Ok(Some(Outcome::Stuck)),
         }
     }
 }

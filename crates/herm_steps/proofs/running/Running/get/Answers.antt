@@ -1,4 +1,4 @@
-use Rattle.std.proofs.Common.{List, refl, sym, ap}
+use Rattle.std.proofs.Common.{List, refl, sym, ap, subst}
 use Rattle.std.specs.Prelude.{⊤}
 use Rattle.herm_journal.specs.Renaming.{forget_name}
 use Rattle.herm_model.specs.Values.{Scalar}
@@ -12,9 +12,10 @@ use Rattle.herm_frames.specs.Standing.{Stands}
 use Rattle.herm_frames.specs.declared.outcome.Outcome.{Outcome}
 use Rattle.herm_instructions.specs.Instructions.{Get}
 use Rattle.herm_pieces.specs.View.{ready_view}
+use Rattle.herm_steps.specs.HeldStates.{HeldState}
 use Rattle.herm_types.specs.View.{path_view}
 use Rattle.herm_values.specs.View.{key_view}
-use Rattle.herm_steps.proofs.KeyTaken.{by_key, some_of}
+use Rattle.herm_steps.proofs.KeyTaken.{by_key, none_of, some_of}
 use Rattle.herm_steps.proofs.running.Running.get.Goals as goal
 
 pub returns : goal.returns
@@ -31,4 +32,9 @@ returns c = record {
       c.in_ok-outcome.field-0 c.in-Some-2.outcome c.in-Some-2.is c.in_ok-outcome.ensures.copied in
       by_key code (Get r t c.args.n) b c.args.n next _ _ c.take_key.new.self c.in_ok-key.field-0 c.self.view_is (λ stack. refl) (c.in_ok-key.ensures.key next) c.in-Some.key c.copy_row.new.self c.in-Some-2.outcome c.in-Some.is h
       (completes code b (refl, ap numbers_of (sym c.as_slice-of.ensures.value)));
+  refused = tt;
 }
+
+pub returns-in_default-2-clause-refused : goal.returns-in_default-2-clause-refused
+returns-in_default-2-clause-refused c = λ b h keyed.
+    none_of c.in_ok-outcome.field-0 c.in_default-2.is c.in_ok-outcome.ensures.none (ready_view c.args.code.now) b (refl, ap numbers_of (sym c.as_slice-of.ensures.value)) (subst (λ (p : HeldState). Stands p.frame b) (sym c.self.view_is) h) keyed

@@ -1,4 +1,4 @@
-use Rattle.std.proofs.Common.{List, refl, sym, ap}
+use Rattle.std.proofs.Common.{List, refl, sym, ap, subst}
 use Rattle.std.specs.Prelude.{⊤}
 use Rattle.herm_journal.specs.Renaming.{forget_name}
 use Rattle.herm_model.specs.Values.{Value}
@@ -12,9 +12,10 @@ use Rattle.herm_frames.specs.declared.outcome.Outcome.{Outcome}
 use Rattle.herm_instructions.specs.Instructions.{Insert}
 use Rattle.herm_pieces.specs.View.{ready_view}
 use Rattle.herm_stack.specs.Answers.{on_stack}
+use Rattle.herm_steps.specs.HeldStates.{HeldState}
 use Rattle.herm_types.specs.View.{path_view}
 use Rattle.herm_steps.proofs.Done.{on_frame}
-use Rattle.herm_steps.proofs.KeyTaken.{some_of}
+use Rattle.herm_steps.proofs.KeyTaken.{none_of, some_of}
 use Rattle.herm_steps.proofs.running.Running.insert.Goals as goal
 
 pub returns : goal.returns
@@ -29,4 +30,9 @@ returns c = record {
       c.in_ok-outcome.field-0 c.in-Some.outcome c.in-Some.is c.in_ok-outcome.ensures.effect in
       on_frame code i b _ _ c.insert_row.new.self c.in-Some.outcome c.self.view_is h
       (effects code (on_stack c.self.inside.stack) b (refl, ap numbers_of (sym c.as_slice-of.ensures.value)));
+  refused = tt;
 }
+
+pub returns-in_default-clause-refused : goal.returns-in_default-clause-refused
+returns-in_default-clause-refused c = λ b h keyed.
+    none_of c.in_ok-outcome.field-0 c.in_default.is c.in_ok-outcome.ensures.none (ready_view c.args.code.now) b (refl, ap numbers_of (sym c.as_slice-of.ensures.value)) (subst (λ (p : HeldState). Stands p.frame b) (sym c.self.view_is) h) keyed.0 keyed.1
