@@ -1,26 +1,18 @@
 -- What is written for blocks, line by line.
 use Rattle.std.specs.Prelude.{◌≡◌, ℕ, ◌+◌, List, [], ◌∷◌, ◌++◌, map, flat_map}
-use Rattle.herm_base.specs.declared.numbers.ExcNo.{ExcNo}
 use Rattle.herm_model.specs.Types.{TypeTable}
 use Rattle.herm_model.specs.Expressions.{Literal}
-use Rattle.herm_model.specs.Outcomes.{Outcome, raised}
+use Rattle.herm_model.specs.Outcomes.{Outcome}
 use Rattle.herm_instructions.specs.Instructions.{Instruction, Step}
-use Rattle.herm_instructions.specs.Images.{Landing}
 use Rattle.herm_translated.specs.Departures.{edge_code}
 use Rattle.herm_translated.specs.CodeBlocks.{CodeBlock}
 use Rattle.herm_translated.specs.Layout.{Line, edge_at, line_by}
 use Rattle.herm_code.specs.View.{instr_view}
+use Rattle.herm_fronts.specs.Blocks.{landings_view}
 use Rattle.herm_fronts.specs.Operands.{instruction_of}
 use Rattle.herm_fronts.specs.Forms.{front_operands, behind_operands}
 use Rattle.herm_fronts.specs.Lengths.{count_front, count_block}
 use Rattle.herm_codegen.specs.declared.lines.Lines.{Lines}
-
-abbrev pub landings_view : List (ExcNo × ℕ) → List Landing
-landings_view ls = map (λ l. record { exception = (l.0).0; index = l.1 }) ls
-
--- where an exception lands
-abbrev pub landing_to : (exit_at : Outcome → ℕ) → (exception : ℕ) → Landing
-landing_to exit_at e = record { exception = e; index = exit_at (raised e) }
 
 -- these lines were written behind what was there
 pub record AreAppended (lines : List Line) (old new : Lines) : Type 0 where

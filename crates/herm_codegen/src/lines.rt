@@ -7,9 +7,9 @@ ghost use Rattle.herm_translated.specs.Layout.{landings_by, line_by};
 ghost use Rattle.herm_code.specs.View.{instr_view};
 ghost use Rattle.herm_fronts.specs.Operands.{instruction_of};
 ghost use Rattle.herm_fronts.specs.Forms.{form_seen};
-ghost use Rattle.herm_fronts.specs.Blocks.{departure_view, exits_view, starts_view};
+ghost use Rattle.herm_fronts.specs.Blocks.{departure_view, exits_view, landings_view, starts_view};
 ghost use Rattle.herm_fronts.specs.Lengths.{count_front, count_block};
-ghost use Rattle.herm_codegen.specs.Emitted.{landings_view, landing_to, AreAppended, keyed_exit, keyed_front, keyed_code, keyed_lines, keyed_lines_from, fronts_in};
+ghost use Rattle.herm_codegen.specs.Emitted.{AreAppended, keyed_exit, keyed_front, keyed_code, keyed_lines, keyed_lines_from, fronts_in};
 ghost use Rattle.herm_blocks.specs.Views.{block_view};
 ghost use Rattle.herm_fronts.specs.View.{item_view, key_view};
 
@@ -19,13 +19,13 @@ use herm_blocks::Block;
 use herm_code::Instr;
 use herm_fronts::behind::{Site, behind_operands};
 use herm_fronts::constants::{Key, place};
-use herm_fronts::departures::{Departure, Exits, Starts, exit_at, push_edge};
+use herm_fronts::departures::{Departure, Exits, Starts, push_edge};
+use herm_fronts::exits::landings_at;
 use herm_fronts::expressions::Item;
 use herm_fronts::frame::Frame;
 use herm_fronts::numbers::sum;
 use herm_fronts::operands::operands_of;
 use herm_fronts::raised::exceptions_of;
-use herm_typed::Outcome;
 use indexmap::IndexSet;
 use std::alloc::{AllocError, Global};
 
@@ -34,22 +34,6 @@ use std::alloc::{AllocError, Global};
 pub struct Lines {
     pub code: Vec<Instr>,
     pub landings: Vec<Vec<(ExcNo, u32)>>,
-}
-
-/// Where the edges of these exceptions begin.
-fn landings_at(
-    alloc: Global,
-    exits: &Exits<'_>,
-    exceptions: &[ExcNo],
-) -> Result<Vec<(ExcNo, u32)>, AllocError>
-    ensures { IfOk result (λ v. landings_view v.items ≡ map (landing_to (exits_view exits.now)) (map (λ n. n.0) exceptions.now)) }
-{
-    let mut found = Vec::with_capacity(alloc, exceptions.len())?;
-    'exceptions: for e in exceptions {
-        let index = exit_at(exits, Outcome::Raised(*e))?;
-        found.push((*e, index))?;
-    }
-    Ok(found)
 }
 
 /// Each exception that an instruction can raise, and where its edge begins.

@@ -2,10 +2,10 @@
 ghost use Rattle.std.specs.Prelude.{◌≡◌, map, IfOk};
 ghost use Rattle.herm_code.specs.View.{instr_view, module_view};
 ghost use Rattle.herm_fronts.specs.Frames.{table_of, variables_of};
-ghost use Rattle.herm_fronts.specs.Blocks.{departure_view, starts_view};
+ghost use Rattle.herm_fronts.specs.Blocks.{departure_view, landings_view, starts_view};
 ghost use Rattle.herm_fronts.specs.View.{key_view};
 ghost use Rattle.herm_blocks.specs.Views.{block_view};
-ghost use Rattle.herm_codegen.specs.Emitted.{landings_view, fronts_in};
+ghost use Rattle.herm_codegen.specs.Emitted.{fronts_in};
 ghost use Rattle.herm_codegen.specs.Listed.{listed_view};
 ghost use Rattle.herm_codegen.specs.Modules.{entry_lines, all_lines, all_labels, keyed_module};
 

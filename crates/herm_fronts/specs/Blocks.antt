@@ -1,7 +1,9 @@
 -- What edges and blocks of the generator stand for.
 use Rattle.std.specs.Prelude.{ℕ, List, map, get_or}
+use Rattle.herm_base.specs.declared.numbers.ExcNo.{ExcNo}
 use Rattle.herm_model.specs.Paths as paths
-use Rattle.herm_model.specs.Outcomes.{Outcome}
+use Rattle.herm_model.specs.Outcomes.{Outcome, raised}
+use Rattle.herm_instructions.specs.Images.{Landing}
 use Rattle.herm_types.specs.View.{path_view, fact_view}
 use Rattle.herm_typed.specs.View.{outcome_view}
 use Rattle.herm_translated.specs.Departures as model
@@ -33,6 +35,13 @@ marked_view d = record { departure = departure_view d; makes = map fact_view d.m
 -- the index at which the edge of an outcome begins
 abbrev pub exits_view : Exits → Outcome → ℕ
 exits_view e o = edge_at e.first (map departure_view e.edges.now) o
+
+abbrev pub landings_view : List (ExcNo × ℕ) → List Landing
+landings_view ls = map (λ l. record { exception = (l.0).0; index = l.1 }) ls
+
+-- where an exception lands
+abbrev pub landing_to : (exit_at : Outcome → ℕ) → (exception : ℕ) → Landing
+landing_to exit_at e = record { exception = e; index = exit_at (raised e) }
 
 -- the index at which a block begins, which for none is behind the last
 abbrev pub starts_view : Starts → ℕ → ℕ

@@ -5,6 +5,7 @@ pub mod Forms
 pub mod Shared
 pub mod View
 pub mod Blocks
+pub mod Exits
 pub mod Walked
 pub mod Lengths
 pub mod Held

@@ -5,6 +5,7 @@ pub mod behind;
 mod calls;
 pub mod constants;
 pub mod departures;
+pub mod exits;
 pub mod expressions;
 pub mod frame;
 pub mod held;

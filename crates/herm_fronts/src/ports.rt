@@ -9,7 +9,8 @@ ghost use Rattle.herm_translated.specs.Fronts.{choices_from, trimmed};
 ghost use Rattle.herm_code.specs.View.{instr_view, choice_view};
 ghost use Rattle.herm_fronts.specs.Blocks.{exits_view};
 
-use crate::departures::{Exits, exit_at};
+use crate::departures::Exits;
+use crate::exits::{next_exit, walk_along};
 use crate::frame::Frame;
 use crate::numbers::small;
 use crate::one::one;
@@ -60,12 +61,13 @@ fn choices(
 ) -> Result<Vec<Arm>, AllocError>
     ensures { IfOk result (λ v. map choice_view v.items ≡ choices_from (exits_view exits.now) 0 (map typed_arm_view arms.now)) }
 {
-    let mut found = Vec::new(alloc);
+    let mut found = Vec::with_capacity(alloc, arms.len())?;
+    let mut walk = walk_along(exits);
     'arms: for (place, arm) in arms.iter().enumerate() {
         let place = small(place)?;
         let port = copy_path(alloc, &arm.0.path)?;
         let target = copy_path(alloc, &arm.1.path)?;
-        let index = exit_at(exits, Outcome::Arm(place))?;
+        let index = next_exit(exits, &mut walk, Outcome::Arm(place))?;
         found.push(Arm {
             port,
             target,

@@ -10,14 +10,14 @@ ghost use Rattle.herm_fronts.specs.Frames.{table_of, variables_of};
 ghost use Rattle.herm_code.specs.View.{instr_view};
 ghost use Rattle.herm_fronts.specs.Blocks.{exits_view};
 
-use crate::departures::{Exits, exit_at};
+use crate::departures::Exits;
+use crate::exits::component_exits;
 use crate::frame::Frame;
-use crate::numbers::small;
 use crate::one::one;
 use crate::paths::copy_path;
 use crate::shapes::component_count;
 use herm_code::Instr;
-use herm_typed::{Outcome, TypedPath};
+use herm_typed::TypedPath;
 use std::alloc::{AllocError, Global};
 
 pub fn unite(
@@ -51,19 +51,6 @@ pub fn reveal(alloc: Global, v: &TypedPath, component: u32) -> Result<Vec<Instr>
 {
     let variant = copy_path(alloc, &v.path)?;
     one(alloc, Instr::Reveal(variant, component))
-}
-
-/// The index to which each of so many components leads.
-fn component_exits(alloc: Global, exits: &Exits<'_>, count: usize) -> Result<Vec<u32>, AllocError>
-    ensures { IfOk result (λ v. v.items ≡ map (λ c. exits_view exits.now (component c)) (range 0 count)) }
-{
-    let count = small(count)?;
-    let mut found = Vec::new(alloc);
-    'components: for c in 0..count {
-        let at = exit_at(exits, Outcome::Component(c))?;
-        found.push(at)?;
-    }
-    Ok(found)
 }
 
 pub fn case(

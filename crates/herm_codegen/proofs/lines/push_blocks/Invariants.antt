@@ -2,8 +2,8 @@ use Rattle.std.proofs.Common.{◌≡◌, ◌++◌, map, drop}
 use Rattle.herm_fronts.specs.Frames.{table_of, variables_of}
 use Rattle.herm_translated.specs.Layout.{Line}
 use Rattle.herm_code.specs.View.{instr_view}
-use Rattle.herm_fronts.specs.Blocks.{starts_view}
-use Rattle.herm_codegen.specs.Emitted.{landings_view, keyed_lines_from, fronts_in}
+use Rattle.herm_fronts.specs.Blocks.{landings_view, starts_view}
+use Rattle.herm_codegen.specs.Emitted.{keyed_lines_from, fronts_in}
 use Rattle.herm_blocks.specs.Views.{block_view}
 use Rattle.herm_fronts.specs.View.{key_view}
 use Rattle.herm_codegen.proofs.lines.push_blocks.Given as goal

@@ -1,8 +1,0 @@
-use Rattle.std.proofs.Common.{◌≡◌, ◌++◌, map, drop}
-use Rattle.herm_model.specs.Outcomes.{raised}
-use Rattle.herm_fronts.specs.Blocks.{exits_view}
-use Rattle.herm_codegen.specs.Emitted.{landings_view, landing_to}
-use Rattle.herm_codegen.proofs.lines.landings_at.Given as goal
-
-abbrev pub invariant-exceptions : goal.invariant-exceptions
-invariant-exceptions l = landings_view l.found.items ++ map (landing_to (exits_view l.exits)) (map (λ n. n.0) (drop l.e-index l.exceptions)) ≡ map (landing_to (exits_view l.exits)) (map (λ n. n.0) l.exceptions)
