@@ -1,0 +1,131 @@
+-- Entries that are sorted by their place in the order are a journal, if those of each process rise.
+use Rattle.std.proofs.Common.{◌≡◌, ℕ, suc, ◌+◌, ◌*◌, ◌<◌, ◌≤◌, Bool, true, false, List, [], ◌∷◌, map, filter, nat_eq, refl, sym, ap, subst, ◌∙◌, arith, inl, inr, ◌⊎◌}
+use Rattle.std.proofs.lemmas.Bool.{cond-true, cond-false, cases_Bool}
+use Rattle.std.proofs.lemmas.Bool.Decides.{nat_tests}
+use Rattle.std.specs.List.Sorted.{IsNonDecreasingBy, IsStableByKey}
+use Rattle.std.specs.Ordering.{nat_cmp}
+use Rattle.herm_journal.specs.Entries as source
+use Rattle.herm_journal.specs.Journals.{IsBefore, IsRising, IsRisingFrom, part_of_process}
+use Rattle.herm_events.specs.View.{entry_view, entries_view}
+use Rattle.herm_events.specs.declared.entry.Entry.{Entry}
+use Rattle.herm_gather.specs.Orders.{place_in_order}
+use Rattle.herm_gather.proofs.SameClasses.{AreAtLeast, Rises, filters-swap, rises_from_sort, rises_kept, same_class, same_from_classes}
+
+abbrev is_of : ℕ → Entry → Bool
+is_of p e = nat_eq e.proc.number p
+
+abbrev AreOf : ℕ → List Entry → Type 0
+AreOf p [] = Unit {0}
+AreOf p (e ∷ es) = (e.proc.number ≡ p) × AreOf p es
+
+part-kept : (p : ℕ) (es : List Entry) → part_of_process p (entries_view es) ≡ entries_view (filter (is_of p) es)
+part-kept p [] = refl
+part-kept p (e ∷ es) =
+    elim (cases_Bool (is_of p e)) [
+      | inl with ↦
+          cond-true (nat_eq e.proc.number p) (entry_view e ∷ part_of_process p (entries_view es)) (part_of_process p (entries_view es)) with
+          ∙ ap (λ l. entry_view e ∷ l) (part-kept p es) ∙ sym (ap entries_view (cond-true (is_of p e) (e ∷ filter (is_of p) es) (filter (is_of p) es) with))
+      | inr without ↦
+          cond-false (nat_eq e.proc.number p) (entry_view e ∷ part_of_process p (entries_view es)) (part_of_process p (entries_view es)) without
+          ∙ part-kept p es ∙ sym (ap entries_view (cond-false (is_of p e) (e ∷ filter (is_of p) es) (filter (is_of p) es) without))
+    ]
+
+is-of : (p q : ℕ) → nat_eq q p ≡ true → q ≡ p
+is-of p q h = grind (arith, nat_tests)
+
+are-of : (p : ℕ) (es : List Entry) → AreOf p (filter (is_of p) es)
+are-of p [] = tt
+are-of p (e ∷ es) =
+    elim (cases_Bool (is_of p e)) [
+      | inl with ↦ subst (AreOf p) (sym (cond-true (is_of p e) (e ∷ filter (is_of p) es) (filter (is_of p) es) with)) (is-of p e.proc.number with, are-of p es)
+      | inr without ↦ subst (AreOf p) (sym (cond-false (is_of p e) (e ∷ filter (is_of p) es) (filter (is_of p) es) without)) (are-of p es)
+    ]
+
+at-least-le : (n m : ℕ) (es : List Entry) → n ≤ m → AreAtLeast place_in_order m es → AreAtLeast place_in_order n es
+at-least-le n m [] le h = tt
+at-least-le n m (e ∷ es) le h = let first = h.0 in (omega arith, at-least-le n m es le h.1)
+
+-- entries of one process that rise are in order
+before-place : (e f : Entry) → e.proc.number ≡ f.proc.number → IsBefore (entry_view e) (entry_view f) → place_in_order e ≤ place_in_order f
+before-place e f same (inl less) = omega arith
+before-place e f same (inr both) = let stamps = both.0 in omega arith
+
+placed-from : (p : ℕ) (e : Entry) (es : List Entry) → e.proc.number ≡ p → AreOf p es → IsRisingFrom (entry_view e) (entries_view es) → AreAtLeast place_in_order (place_in_order e) es × Rises place_in_order es
+placed-from p e [] its all rising = (tt, tt)
+placed-from p e (f ∷ es) its all rising =
+    let rest = placed-from p f es all.0 all.1 rising.1 in
+    let le : place_in_order e ≤ place_in_order f = before-place e f (its ∙ sym all.0) rising.0 in
+    ((le, at-least-le (place_in_order e) (place_in_order f) es le rest.0), rest)
+
+placed : (p : ℕ) (es : List Entry) → AreOf p es → IsRising (entries_view es) → Rises place_in_order es
+placed p [] all rising = tt
+placed p (e ∷ es) all rising = placed-from p e es all.0 all.1 rising
+
+-- each process has the same entries in the same order
+pub same-parts : (xs ys : List Entry) → ((p : ℕ) → IsRising (part_of_process p (entries_view xs))) → IsNonDecreasingBy place_in_order ys → IsStableByKey place_in_order nat_cmp xs ys
+    → (p : ℕ) → part_of_process p (entries_view ys) ≡ part_of_process p (entries_view xs)
+same-parts xs ys rise sorted stable p =
+    part-kept p ys
+    ∙ ap entries_view
+    (same_from_classes place_in_order (filter (is_of p) ys) (filter (is_of p) xs) (rises_kept place_in_order (is_of p) ys (rises_from_sort place_in_order ys sorted))
+    (placed p (filter (is_of p) xs) (are-of p xs) (subst IsRising (part-kept p xs) (rise p)))
+    (λ x. filters-swap (same_class place_in_order x) (is_of p) ys ∙ ap (filter (is_of p)) (stable x) ∙ filters-swap (is_of p) (same_class place_in_order x) xs))
+    ∙ sym (part-kept p xs)
+
+-- numbers of processes are small
+abbrev pub AreFew : List Entry → Type 0
+AreFew [] = Unit {0}
+AreFew (e ∷ es) = (e.proc.number < 2048) × AreFew es
+
+stamps-or : (s t p q : ℕ) → q < 2048 → s * 2048 + p ≤ t * 2048 + q → (s < t) ⊎ ((s ≡ t) × (p ≤ q))
+stamps-or s t p q few le = grind (arith)
+
+less-or : (p q : ℕ) → p ≤ q → (p < q) ⊎ (p ≡ q)
+less-or p q le = grind (arith)
+
+equal-true : (n p : ℕ) → n ≡ p → nat_eq n p ≡ true
+equal-true n p e = grind (arith, nat_tests)
+
+first-two : (p : ℕ) (e f : Entry) (es : List Entry) → e.proc.number ≡ p → f.proc.number ≡ p
+    → part_of_process p (entries_view (e ∷ f ∷ es)) ≡ entry_view e ∷ entry_view f ∷ part_of_process p (entries_view es)
+first-two p e f es a b =
+    cond-true (nat_eq e.proc.number p) (entry_view e ∷ part_of_process p (entries_view (f ∷ es))) (part_of_process p (entries_view (f ∷ es))) (equal-true e.proc.number p a)
+    ∙ ap (λ l. entry_view e ∷ l)
+    (cond-true (nat_eq f.proc.number p) (entry_view f ∷ part_of_process p (entries_view es)) (part_of_process p (entries_view es)) (equal-true f.proc.number p b))
+
+rising-tail : (e : source.Entry) (es : List source.Entry) → IsRisingFrom e es → IsRising es
+rising-tail e [] r = tt
+rising-tail e (f ∷ fs) r = r.1
+
+tail-rises : (p : ℕ) (e : Entry) (es : List Entry) → IsRising (part_of_process p (entries_view (e ∷ es))) → IsRising (part_of_process p (entries_view es))
+tail-rises p e es h =
+    let rest = part_of_process p (entries_view es) in
+    elim (cases_Bool (nat_eq e.proc.number p)) [
+      | inl with ↦ rising-tail (entry_view e) rest (subst IsRising (cond-true (nat_eq e.proc.number p) (entry_view e ∷ rest) rest with) h)
+      | inr without ↦ subst IsRising (cond-false (nat_eq e.proc.number p) (entry_view e ∷ rest) rest without) h
+    ]
+
+before-as : (e f : Entry) → (e.stamp.0 < f.stamp.0) ⊎ ((e.stamp.0 ≡ f.stamp.0) × (e.proc.number ≤ f.proc.number)) → (e.proc.number ≡ f.proc.number → IsBefore (entry_view e) (entry_view f)) → IsBefore (entry_view e) (entry_view f)
+before-as e f (inl less) same = inl less
+before-as e f (inr both) same =
+    elim (less-or e.proc.number f.proc.number both.1) [
+      | inl less ↦ inr (both.0, less)
+      | inr equal ↦ same equal
+    ]
+
+-- and they rise
+pub journal-rises : (ys : List Entry) → AreFew ys → Rises place_in_order ys → ((p : ℕ) → IsRising (part_of_process p (entries_view ys))) → IsRising (entries_view ys)
+journal-rises [] few sorted rise = tt
+journal-rises (e ∷ []) few sorted rise = tt
+journal-rises (e ∷ f ∷ es) few sorted rise = (
+  before-as e f (stamps-or e.stamp.0 f.stamp.0 e.proc.number f.proc.number few.1.0 sorted.0.0)
+      (λ same. (subst IsRising (first-two f.proc.number e f es same refl) (rise f.proc.number)).0),
+  journal-rises (f ∷ es) few.1 sorted.1 (λ p. tail-rises p e (f ∷ es) (rise p)),
+)
+
+few-of : (e : Entry) → e.proc.number < 2048
+few-of e = omega (arith, e.proc.in_range)
+
+pub are-few : (es : List Entry) → AreFew es
+are-few [] = tt
+are-few (e ∷ es) = (few-of e, are-few es)

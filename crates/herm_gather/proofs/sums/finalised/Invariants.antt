@@ -1,0 +1,9 @@
+use Rattle.std.proofs.Common.{◌≡◌, ◌≤◌, ◌+◌, ◌^◌, ℕ, drop}
+use Rattle.herm_system.specs.Summary.{cut}
+use Rattle.herm_waking.specs.AddedCounts.{added}
+use Rattle.herm_gather.specs.declared.counting.ProcCounts.{ProcCounts}
+use Rattle.herm_gather.proofs.sums.finalised.Given as goal
+
+-- what is added so far, with the rest, is the whole
+abbrev pub invariant-loop-process : goal.invariant-loop-process
+invariant-loop-process l = (cut (l.finalised + added (λ (x : ProcCounts). x.finalised) (drop l.process-index l.processes)) ≡ added (λ (x : ProcCounts). x.finalised) l.processes) × (l.finalised ≤ 2 ^ 63)

@@ -1,0 +1,4 @@
+pub mod AskedView
+pub mod NamelessEntries
+pub mod ReportTexts
+pub mod StringsReadBack
