@@ -1,0 +1,4 @@
+pub mod StringTexts
+pub mod Texts
+pub mod Strings
+pub mod Described
