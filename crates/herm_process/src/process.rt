@@ -1,7 +1,9 @@
 //! One process of an image, with its diary.
 ghost use Rattle.std.specs.Prelude.{◌≡◌, ◌<◌, ◌≤◌, ℕ, List, [], Some, None, true, false, IfOk, IsErr, IsSome, OnOk, length, slice_get, ⊤};
 ghost use Rattle.herm_journal.specs.Messages.{CellWant};
+ghost use Rattle.herm_system.specs.Ledger.{held_by};
 ghost use Rattle.herm_system.specs.Machines.{acting, local};
+ghost use Rattle.herm_system.specs.Summary.{cut};
 ghost use Rattle.herm_instructions.specs.Images as images;
 ghost use Rattle.herm_code.specs.View.{image_view};
 ghost use Rattle.herm_code_machine.specs.CodeStates.{CodeState};
@@ -253,6 +255,17 @@ impl<'i> Process<'i> {
             sums.steps.min(u32::MAX as u64) as u32,
             sums.actions.min(u32::MAX as u64) as u32,
         )
+    }
+
+    /// How many cells it has made, how many it holds, and how many it has finalised, each cut at 2^63, while no order is out.
+    pub fn cells(&self) -> (u64, u64, u64)
+        requires free { self.now.ordered ≡ None }
+        ensures made { (image : images.Image) (main : ℕ) (x : CodeState ⊤) → IsProcess image main self.now x → result.0 ≡ cut ((nameless image main).serial x) }
+        ensures held { (image : images.Image) (main : ℕ) (x : CodeState ⊤) → IsProcess image main self.now x → result.1 ≡ cut (held_by (λ n. 1) (nameless image main) x) }
+        ensures finalised { (image : images.Image) (main : ℕ) (x : CodeState ⊤) → IsProcess image main self.now x → result.2 ≡ cut (length ((nameless image main).finalised x)) }
+    {
+        let cells = self.machine.cells();
+        cells
     }
 
     /// Its sums; while an order is out, those from before it.

@@ -5,3 +5,4 @@ mod ReplyActs
 mod BookActs
 mod CellsSeen
 mod StampsOfPlaces
+pub mod Weighed

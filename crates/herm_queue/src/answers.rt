@@ -1,10 +1,15 @@
 //! The replies that wait for a process.
 ghost use Rattle.std.specs.Prelude.{◌≡◌, ◌++◌, ◌∷◌, [], ◌<◌, ◌≤◌, ◌-◌, None, IfSome, IfNone, OnOk};
+ghost use Rattle.herm_model.specs.Lists.{total};
+ghost use Rattle.herm_journal.specs.Weights.{weigh_reply};
+ghost use Rattle.herm_system.specs.Summary.{cut};
 ghost use Rattle.herm_events.specs.View.{reply_trace_view};
 ghost use Rattle.herm_letters.specs.Letters.{IsWholeReply};
+ghost use Rattle.herm_letters.specs.View.{reply_view};
 ghost use Rattle.herm_queue.specs.CellStates.{reply_text};
 ghost use Rattle.herm_queue.specs.ReplyStates.{IsReady};
 
+use crate::left::{cells_of_replies, sum};
 use herm_events::ReplyTrace;
 use herm_letters::Reply;
 use std::alloc::{AllocError, Global};
@@ -101,5 +106,14 @@ impl Answers {
             },
             None => None,
         }
+    }
+
+    /// How many cells the replies have.
+    #[tactic(auto, using(crate::proofs::Weighed::joined_cut))]
+    pub fn cells(&self) -> u64
+        ensures cells { result ≡ cut (total (λ r. weigh_reply (λ n. 1) (reply_view r.1)) self.now.waiting) }
+    {
+        let (first, second) = self.waiting.as_slices();
+        sum(cells_of_replies(first), cells_of_replies(second))
     }
 }

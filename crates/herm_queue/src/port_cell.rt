@@ -1,18 +1,22 @@
 //! Ports: their messages, with clock and history.
-ghost use Rattle.std.specs.Prelude.{◌≡◌, ◌++◌, ◌∷◌, [], ◌<◌, ◌≤◌, ◌^◌, ◌↔◌, false, true, cond, IfOk, IfSome, IfNone, OnOk, Some, None, option_map, length};
+ghost use Rattle.std.specs.Prelude.{◌≡◌, ◌++◌, ◌∷◌, [], ◌<◌, ◌≤◌, ◌^◌, ◌↔◌, false, true, cond, IfOk, IfSome, IfNone, OnOk, Some, None, option_map, length, map};
 ghost use Rattle.herm_journal.specs.Actions.{put, take, close};
 ghost use Rattle.herm_journal.specs.Ports.{empty_port, port_with};
+ghost use Rattle.herm_journal.specs.Weights.{weigh_all};
+ghost use Rattle.herm_system.specs.Summary.{cut};
 ghost use Rattle.herm_events.specs.View.{place_view};
+ghost use Rattle.herm_values.specs.View.{value_view};
 ghost use Rattle.herm_values.specs.Whole.{IsWhole};
 ghost use Rattle.herm_letters.specs.Letters.{IsParcel};
 ghost use Rattle.herm_queue.specs.CellStates.{value_text, IsActed};
 ghost use Rattle.herm_queue.specs.MessageStates.{queue_of, values_of};
 ghost use Rattle.herm_queue.specs.PortStates.{port_cell, IsPort, number_of, stamp_of, text_in, IsBack};
 
+use crate::left::cells_of_parcels;
 use crate::log::Log;
 use crate::messages::Messages;
 use herm_base::{PortNo, ProcNo};
-use herm_events::{Action, History, Place, Stamp, Trace};
+use herm_events::{Action, History, Place, Stamp, Trace, Traces};
 use herm_letters::{Letter, Parcel, Parcels};
 use herm_values::Value;
 use std::alloc::{AllocError, Global};
@@ -63,6 +67,15 @@ pub enum Put {
         value: Value,
         trace: Trace,
     },
+}
+
+/// What is left at a port: whether it is open, the texts of its messages in queue order, and how many cells these have, cut at 2^63.
+#[derive(Drop)]
+pub struct Left {
+    pub port: PortNo,
+    pub is_open: bool,
+    pub texts: Traces,
+    pub cells: u64,
 }
 
 impl PortCell {
@@ -281,6 +294,30 @@ impl PortCell {
         ensures kept { IsPort self.now }
     {
         self.log.history()
+    }
+
+    /// Whether it is open.
+    pub fn is_open(&self) -> bool
+        ensures is_open { result ≡ self.now.held.is_open }
+    {
+        self.is_open
+    }
+
+    /// What is left there. It takes no memory.
+    pub fn into_left(self) -> Left
+        ensures number { result.port.number ≡ self.number }
+        ensures is_open { result.is_open ≡ self.held.is_open }
+        ensures texts { result.texts ≡ map (λ m. value_text m.1) self.held.queue }
+        ensures cells { result.cells ≡ cut (weigh_all (λ n. 1) (map (λ m. value_view m.1) self.held.queue)) }
+    {
+        let mut messages = self.messages;
+        let (parcels, texts) = messages.hand_over();
+        Left {
+            port: self.port,
+            is_open: self.is_open,
+            texts,
+            cells: cells_of_parcels(parcels),
+        }
     }
 
     /// Its history alone.

@@ -1,8 +1,12 @@
 //! Reply cells: the answers that a process is to hear, with clock and history.
 ghost use Rattle.std.specs.Prelude.{◌≡◌, ◌<◌, ◌≤◌, ◌^◌, ◌↔◌, [], None, IfSome, IfNone, OnOk};
 ghost use Rattle.herm_journal.specs.Actions.{answer, hear};
+ghost use Rattle.herm_model.specs.Lists.{total};
+ghost use Rattle.herm_journal.specs.Weights.{weigh_reply};
+ghost use Rattle.herm_system.specs.Summary.{cut};
 ghost use Rattle.herm_events.specs.View.{place_view, reply_trace_view};
 ghost use Rattle.herm_letters.specs.Letters.{IsWholeReply};
+ghost use Rattle.herm_letters.specs.View.{reply_view};
 ghost use Rattle.herm_queue.specs.CellStates.{reply_text, IsActed};
 ghost use Rattle.herm_queue.specs.ReplyStates.{reply_cell_of, IsReplyCell};
 
@@ -164,5 +168,12 @@ impl ReplyCell {
         ensures kept { IsReplyCell self }
     {
         self.log.into_history()
+    }
+
+    /// How many cells the replies have that wait there, cut at 2^63.
+    pub fn cells(&self) -> u64
+        ensures cells { result ≡ cut (total (λ r. weigh_reply (λ n. 1) (reply_view r.1)) self.now.waiting) }
+    {
+        self.answers.cells()
     }
 }
