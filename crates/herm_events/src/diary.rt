@@ -70,4 +70,14 @@ impl Diary {
     {
         self.recorded.as_slice()
     }
+
+    /// The entries alone, in order. It takes no memory.
+    #[tactic(auto, using(crate::proofs::Appended::rise_is_rising))]
+    pub fn into_entries(self) -> Vec<Entry>
+        ensures entries { entries_view result.items ≡ self.entries }
+        ensures kept { AreOfProcess self.process self.entries }
+        ensures rising { IsRising self.entries }
+    {
+        self.recorded
+    }
 }
