@@ -40,3 +40,9 @@ pub mod Opened
 pub mod FirstMessage
 pub mod OpenPlaces
 pub mod MainFirst
+pub mod DiariesJoined
+pub mod AlikeOn
+pub mod ProcessEnds
+pub mod EndsReported
+pub mod NumbersReported
+pub mod RunsReported

@@ -7,6 +7,7 @@ pub mod Looks
 pub mod Opening
 pub mod Orders
 pub mod Places
+pub mod Reported
 pub mod Steps
 pub mod Turns
 pub mod Waits

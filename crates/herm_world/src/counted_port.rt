@@ -1,7 +1,10 @@
 //! A port with the count of its messages.
-ghost use Rattle.std.specs.Prelude.{◌≡◌, ◌<◌, ◌≤◌, ◌^◌, ◌↔◌, [], false, true, cond, IfOk, IfSome, IfNone, OnOk, Some, None, is_some, option_map, length};
+ghost use Rattle.std.specs.Prelude.{◌≡◌, ◌<◌, ◌≤◌, ◌^◌, ◌↔◌, [], false, true, cond, IfOk, IfSome, IfNone, OnOk, Some, None, is_some, option_map, length, map};
 ghost use Rattle.herm_journal.specs.Actions.{put, take, close};
 ghost use Rattle.herm_journal.specs.Ports.{empty_port, port_with};
+ghost use Rattle.herm_journal.specs.Weights.{weigh_all};
+ghost use Rattle.herm_system.specs.Summary.{cut};
+ghost use Rattle.herm_values.specs.View.{value_view};
 ghost use Rattle.herm_letters.specs.Letters.{IsParcel};
 ghost use Rattle.herm_queue.specs.CellStates.{value_text, IsActed};
 ghost use Rattle.herm_queue.specs.MessageStates.{queue_of, values_of};
@@ -11,7 +14,7 @@ ghost use Rattle.herm_queue.specs.PortStates.{port_cell, number_of, stamp_of, te
 use herm_base::{PortNo, ProcNo};
 use herm_events::Stamp;
 use herm_letters::{Letter, Parcel, Parcels};
-use herm_queue::{PortCell, Put};
+use herm_queue::{Left, PortCell, Put};
 use std::alloc::{AllocError, Global};
 use std::marker::Model;
 
@@ -207,5 +210,15 @@ impl CountedPort {
         self.reserve()?;
         self.cell.wait_here(who);
         Ok(())
+    }
+
+    /// What is left there. It takes no memory.
+    pub fn into_left(self) -> Left
+        ensures number { result.port.number ≡ self.number }
+        ensures is_open { result.is_open ≡ self.held.is_open }
+        ensures texts { result.texts ≡ map (λ m. value_text m.1) self.held.queue }
+        ensures cells { result.cells ≡ cut (weigh_all (λ n. 1) (map (λ m. value_view m.1) self.held.queue)) }
+    {
+        self.cell.into_left()
     }
 }

@@ -1,8 +1,12 @@
 //! A reply cell with the count of its replies.
 ghost use Rattle.std.specs.Prelude.{◌≡◌, ◌<◌, ◌≤◌, ◌^◌, ◌↔◌, [], true, None, IfSome, IfOk, OnOk};
 ghost use Rattle.herm_journal.specs.Actions.{answer, hear};
+ghost use Rattle.herm_model.specs.Lists.{total};
+ghost use Rattle.herm_journal.specs.Weights.{weigh_reply};
+ghost use Rattle.herm_system.specs.Summary.{cut};
 ghost use Rattle.herm_events.specs.View.{reply_trace_view};
 ghost use Rattle.herm_letters.specs.Letters.{IsWholeReply};
+ghost use Rattle.herm_letters.specs.View.{reply_view};
 ghost use Rattle.herm_queue.specs.CellStates.{reply_text};
 ghost use Rattle.herm_world.specs.Counted.{ReplyActs};
 
@@ -109,5 +113,12 @@ impl CountedReplies {
             }
             None => return Ok(None),
         }
+    }
+
+    /// How many cells the replies have that wait there, cut at 2^63.
+    pub fn cells(&self) -> u64
+        ensures cells { result ≡ cut (total (λ r. weigh_reply (λ n. 1) (reply_view r.1)) self.now.waiting) }
+    {
+        self.cell.cells()
     }
 }

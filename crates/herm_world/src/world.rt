@@ -15,6 +15,10 @@ ghost use Rattle.herm_waking.specs.Numbers.{has, next_from as first_from};
 ghost use Rattle.herm_waking.specs.Unnamed.{bare_standing};
 ghost use Rattle.herm_waking.specs.UnnamedRounds.{BareWorked, bare_first};
 ghost use Rattle.herm_model.specs.Values.{Name};
+ghost use Rattle.herm_events.specs.View.{entries_view};
+ghost use Rattle.herm_journal.specs.Journals.{ordered};
+ghost use Rattle.herm_waking.specs.UnnamedReport.{bare_fates, bare_queues, bare_counts};
+ghost use Rattle.herm_report.specs.View.{proc_ends_view, numbered_queues, counts_view};
 ghost use Rattle.herm_code_worlds.specs.CodeWorlds.{named, nameless};
 ghost use Rattle.herm_queue.specs.BookStates.{limits_view};
 ghost use Rattle.herm_world.specs.Worlds.{ShowsRun, MakesNext, Leads, LeadsAlong, LeadsToEnd, IsWorld, IsStanding, changes_nothing, IsOfSame};
@@ -25,10 +29,12 @@ ghost use Rattle.herm_world.specs.declared.world.WorldStep.TheVariants.{Memory};
 
 use crate::beginning::{first_parts, works};
 use crate::parts::Parts;
+use crate::reports::report_of;
 use crate::rounds::{go_along, go_rounds};
 use crate::turns::Turn;
 use herm_base::{Limits, ProcNo};
 use herm_code::Image;
+use herm_report::Report;
 use std::alloc::{AllocError, Global};
 use std::marker::Model;
 
@@ -229,5 +235,19 @@ impl<'i> World<'i> {
         }
         go_rounds(self)?;
         Ok(())
+    }
+
+    /// What is reported of the run, where no process can step: its journal by stamp and then by process, what became of each process, what
+    /// is queued at each port, and its numbers.
+    pub fn report(self, alloc: Global) -> Result<Report, AllocError>
+        requires alive { self.is_dead ≡ false }
+        requires nobody { self.ready.members ≡ [] }
+        ensures journal { IfOk result (λ r. (limits : limits_of.Limits) (argument : Text) (events : List Event) (w : Worked (CodeState Name)) (b : BareWorked (CodeState ⊤)) → ShowsRun limits argument events w b self.entry → entries_view r.journal.entries.items ≡ ordered w.run.journal) }
+        ensures ends { IfOk result (λ r. (limits : limits_of.Limits) (argument : Text) (events : List Event) (w : Worked (CodeState Name)) (b : BareWorked (CodeState ⊤)) → ShowsRun limits argument events w b self.entry → proc_ends_view r.ends.items ≡ bare_fates (nameless self.entry.image self.entry.main) b.system) }
+        ensures queued { IfOk result (λ r. (limits : limits_of.Limits) (argument : Text) (events : List Event) (w : Worked (CodeState Name)) (b : BareWorked (CodeState ⊤)) → ShowsRun limits argument events w b self.entry → numbered_queues r.queued.items ≡ bare_queues b.system) }
+        ensures counts { IfOk result (λ r. (limits : limits_of.Limits) (argument : Text) (events : List Event) (w : Worked (CodeState Name)) (b : BareWorked (CodeState ⊤)) → ShowsRun limits argument events w b self.entry → counts_view r.counts ≡ bare_counts (nameless self.entry.image self.entry.main) b.system) }
+    {
+        let report = report_of(alloc, self.parts)?;
+        Ok(report)
     }
 }
