@@ -1,0 +1,7 @@
+//! Tests of worlds.
+#![tactic(auto)]
+
+#[cfg(test)]
+mod programs;
+#[cfg(test)]
+mod worlds;
