@@ -1,14 +1,17 @@
 -- What is due to the words, from what a shelf answers.
-use Rattle.std.proofs.Common.{◌≡◌, ◌≤◌, ◌⊎◌, inl, inr, ℕ, List, [], ◌∷◌, ◌++◌, Option, Some, None, length, take, refl, ap, subst, IfSome, MatchOption, option_map, arith}
+use Rattle.std.proofs.Common.{◌≡◌, ◌≢◌, ◌≤◌, ◌⊎◌, inl, inr, ℕ, List, [], ◌∷◌, ◌++◌, Option, Some, None, length, take, refl, ap, subst, IfSome, MatchOption, option_map, arith}
 use Rattle.herm_edge.specs.Faults.{Rose}
 use Rattle.herm_edge.specs.Shelf.{File, Load, FileAnswer, given, not_there, not_read, no_memory, IfHere, file_at}
 use Rattle.herm_edge.specs.View.{loaded_view}
 use Rattle.herm_edge.specs.declared.shelf.Loaded.{Loaded}
 use Rattle.herm_edge.specs.declared.shelf.Loaded.TheVariants.{Here, Missing, Failed, Memory}
 use Rattle.herm_driver.specs.Loads.{load_limit, load_of, CountsFaults, IsTold, AreTold, FirstAreLoaded}
-use Rattle.herm_driver.specs.Due.{IsDone, IsRefusal, IsNotFound, IsUnreadable, IsDueToFiles, IsDueBy, IsDueByLoads, IsDueToWords, IsCaused, IsDueTo, IsUsage, IsDueAt, IsReadFault, IsChosen}
+use Rattle.herm_claim.specs.Claim.{Claim}
+use Rattle.herm_claim.specs.laws.ClaimLaws.{IsClaimed}
+use Rattle.herm_claim.proofs.ClaimsExact.{five-statuses}
+use Rattle.herm_driver.specs.Due.{told_of, IsNotFound, IsUnreadable, IsDueBy, IsDueByLoads, IsDueToWords, IsCaused, IsDueTo, IsUsage, IsChosen, IsTextStatus}
 use Rattle.herm_driver.specs.Words.{named_file}
-use Rattle.herm_lines.specs.declared.report.Report.{Report}
+use Rattle.herm_report.specs.declared.report.Report.{Report}
 
 -- one answer for one name is told, where the shelf's answer is
 told-one : (contents : Option (List File)) (name : List ℕ) (answer : FileAnswer) →
@@ -26,7 +29,7 @@ pub due-given : {S : Type 0} (loads : S → Load → S → Type 0) (faults : S �
     faults after ≡ faults before →
     length bytes ≤ load_limit →
     IfSome contents (λ files. option_map (take load_limit) (file_at files name) ≡ Some bytes) →
-    IsDone bytes status text report ⊎ IsRefusal name bytes status text report →
+    Claim (record { name = name; bytes = bytes } ∷ []) status text (told_of report status text) →
     IsDueByLoads loads faults contents before after (name ∷ []) status text report
 due-given loads faults contents before after name bytes status text report loaded kept within told due =
     record { answers = given bytes ∷ []; loaded = (after, loaded, within, refl); counted = kept; told = told-one contents name (given bytes) told; due = due }
@@ -66,16 +69,17 @@ first-loaded {S} loads name limit loaded before after e asked within =
     let Q : ℕ → Type 0 = λ n. IfHere loaded (λ bytes. length bytes ≤ n) in
     first-answered loads name loaded before after (subst P e asked) (subst Q e within)
 
-files-caused : (read : List File) (before after status : ℕ) (text : List ℕ) (report : Option Report) →
-    after ≡ before → IsDueToFiles read status text report → IsCaused before after status
-files-caused [] before after status text report kept due = absurd due
-files-caused (file ∷ []) before after status text report kept (inl done) = inr ((λ e. absurd (omega arith)), kept)
-files-caused (file ∷ []) before after status text report kept (inr refused) = inr ((λ e. absurd (omega arith)), kept)
-files-caused (file ∷ more ∷ files) before after status text report kept due = absurd due
+-- a status that a claim has
+claimed-caused : (before after status : ℕ) → after ≡ before → IsClaimed status → IsCaused before after status
+claimed-caused before after status kept (inl e) = inr ((λ three. absurd (omega arith)), kept)
+claimed-caused before after status kept (inr (inl e)) = inr ((λ three. absurd (omega arith)), kept)
+claimed-caused before after status kept (inr (inr (inl e))) = inr ((λ three. absurd (omega arith)), kept)
+claimed-caused before after status kept (inr (inr (inr (inl e)))) = inr ((λ three. absurd (omega arith)), kept)
+claimed-caused before after status kept (inr (inr (inr (inr e)))) = inr ((λ three. absurd (omega arith)), kept)
 
 answers-caused : (read : List File) (names : List (List ℕ)) (answers : List FileAnswer) (before after status : ℕ) (text : List ℕ) (report : Option Report) →
     CountsFaults answers before after → IsDueBy read names answers status text report → IsCaused before after status
-answers-caused read [] [] before after status text report counted due = files-caused read before after status text report counted due
+answers-caused read [] [] before after status text report counted due = claimed-caused before after status counted (five-statuses read status text (told_of report status text) due)
 answers-caused read [] (answer ∷ answers) before after status text report counted due = absurd due
 answers-caused read (name ∷ names) [] before after status text report counted due = absurd due
 answers-caused read (name ∷ names) (given bytes ∷ answers) before after status text report counted due =
@@ -87,7 +91,7 @@ answers-caused read (name ∷ names) (no_memory ∷ answers) before after status
 -- what a file is due by its first bytes
 due_of_bytes : (file : Option (List ℕ)) (name bytes : List ℕ) (status : ℕ) (text : List ℕ) (report : Option Report) →
     option_map (take load_limit) file ≡ Some bytes →
-    IsDone bytes status text report ⊎ IsRefusal name bytes status text report →
+    Claim (record { name = name; bytes = bytes } ∷ []) status text (told_of report status text) →
     IsDueTo name file status text report
 due_of_bytes None name bytes status text report e due = absurd (cc)
 due_of_bytes (Some file) name bytes status text report e due =
@@ -111,9 +115,9 @@ chosen-of-answer files name (no_memory ∷ answers) before after status text rep
 told-at : {S : Type 0} (loads : S → Load → S → Type 0) (faults : S → ℕ) (contents : Option (List File)) (before after : S) (named : Option (List ℕ)) (status : ℕ) (text : List ℕ) (report : Option Report) →
     MatchOption (option_map (λ name. name ∷ []) named) (IsUsage status text report × (after ≡ before))
     (λ names. IsDueByLoads loads faults contents before after names status text report) →
-    IfSome contents (λ files. IsDueAt named files status text report ⊎ (Rose (faults before) (faults after) × IsReadFault named status text report))
+    IfSome contents (λ files. MatchOption named (IsUsage status text report) (λ name. IsDueTo name (file_at files name) status text report ⊎ (Rose (faults before) (faults after) × IsUnreadable name status text report)))
 told-at loads faults None before after named status text report due = tt
-told-at loads faults (Some files) before after None status text report due = inl due.0
+told-at loads faults (Some files) before after None status text report due = due.0
 told-at loads faults (Some files) before after (Some name) status text report due =
     chosen-of-answer files name due.answers (faults before) (faults after) status text report due.told due.counted due.due
 
@@ -137,12 +141,38 @@ caused-at loads faults contents before after None status text report due = inr (
 caused-at loads faults contents before after (Some name) status text report due =
     answers-caused [] (name ∷ []) due.answers (faults before) (faults after) status text report due.counted due.due
 
+pub loads-caused : {S : Type 0} (loads : S → Load → S → Type 0) (faults : S → ℕ) (contents : Option (List File)) (before after : S) (name : List ℕ) (status : ℕ) (text : List ℕ) (report : Option Report) →
+    IsDueByLoads loads faults contents before after (name ∷ []) status text report → IsCaused (faults before) (faults after) status
+loads-caused loads faults contents before after name status text report due =
+    answers-caused [] (name ∷ []) due.answers (faults before) (faults after) status text report due.counted due.due
+
 pub due-caused : {S : Type 0} (loads : S → Load → S → Type 0) (faults : S → ℕ) (contents : Option (List File)) (before after : S) (words : List (List ℕ)) (status : ℕ) (text : List ℕ) (report : Option Report) →
     IsDueToWords loads faults contents before after words status text report →
     IsCaused (faults before) (faults after) status
 due-caused loads faults contents before after words status text report due =
     caused-at loads faults contents before after (named_file words) status text report due
 
+-- a claim's status is one of a text, and not that of words that are not taken
+claimed-written : (status : ℕ) → IsClaimed status → IsTextStatus status
+claimed-written status (inl e) = ((λ four. absurd (omega arith)), (λ five. absurd (omega arith)))
+claimed-written status (inr (inl e)) = ((λ four. absurd (omega arith)), (λ five. absurd (omega arith)))
+claimed-written status (inr (inr (inl e))) = ((λ four. absurd (omega arith)), (λ five. absurd (omega arith)))
+claimed-written status (inr (inr (inr (inl e)))) = ((λ four. absurd (omega arith)), (λ five. absurd (omega arith)))
+claimed-written status (inr (inr (inr (inr e)))) = ((λ four. absurd (omega arith)), (λ five. absurd (omega arith)))
+
+claimed-taken : (status : ℕ) → IsClaimed status → status ≢ 2
+claimed-taken status (inl e) = λ two. absurd (omega arith)
+claimed-taken status (inr (inl e)) = λ two. absurd (omega arith)
+claimed-taken status (inr (inr (inl e))) = λ two. absurd (omega arith)
+claimed-taken status (inr (inr (inr (inl e)))) = λ two. absurd (omega arith)
+claimed-taken status (inr (inr (inr (inr e)))) = λ two. absurd (omega arith)
+
+pub claim-written : (files : List File) (status : ℕ) (text : List ℕ) (report : Option Report) → Claim files status text (told_of report status text) → IsTextStatus status
+claim-written files status text report claim = claimed-written status (five-statuses files status text (told_of report status text) claim)
+
+pub claim-taken : (files : List File) (status : ℕ) (text : List ℕ) (report : Option Report) → Claim files status text (told_of report status text) → status ≢ 2
+claim-taken files status text report claim = claimed-taken status (five-statuses files status text (told_of report status text) claim)
+
 pub ruleset load_lemmas = (due-given, due-missing, due-failed)
 
-pub ruleset word_lemmas = (told-chosen, due-caused)
+pub ruleset word_lemmas = (told-chosen, due-caused, loads-caused)

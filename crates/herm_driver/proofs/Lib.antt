@@ -1,3 +1,4 @@
-pub mod Console
 pub mod Chosen
-pub mod Runnable
+pub mod Ended
+pub mod ConsoleTexts
+pub mod Claimed

@@ -1,48 +1,20 @@
 -- What a call of the program is due, by the words and what a shelf answers or tells of the named files.
 -- (Language reference, "Statuses and texts")
-use Rattle.std.specs.Prelude.{◌≡◌, ◌≢◌, ◌⊎◌, ℕ, ◌<◌, List, [], ◌∷◌, ◌++◌, Option, Some, None, IfSome, MatchOption, length, take}
+use Rattle.std.specs.Prelude.{◌≡◌, ◌≢◌, ◌⊎◌, ℕ, ◌<◌, List, [], ◌∷◌, ◌++◌, Option, Some, None, IfSome, MatchOption, option_map, length, take}
 use Rattle.herm_edge.specs.Faults.{Rose}
 use Rattle.herm_edge.specs.Shelf.{File, Load, FileAnswer, given, not_there, not_read, no_memory, file_at}
 use Rattle.herm_edge.specs.Sink.{written_after}
-use Rattle.herm_compile.specs.declared.compiled.Line.{Line}
-use Rattle.herm_compile.specs.declared.fault.Fault.{Fault}
-use Rattle.herm_compile.specs.Form.{IsOfForm}
-use Rattle.herm_compile.specs.Straight.{process_of}
-use Rattle.herm_compile.specs.FirstPhase.{HaveTrees}
-use Rattle.herm_meaning.specs.Names.{NamedTable}
-use Rattle.herm_model.specs.Statements.{Process}
-use Rattle.herm_compile.specs.ThirdPhase.{HaveProgram}
-use Rattle.herm_compile.specs.Refused.{AreRefusedOrLater}
-use Rattle.herm_model.specs.Types.{predefined}
-use Rattle.herm_model.specs.MissingFacts.{IsAccepted}
-use Rattle.herm_lines.specs.ConsoleLines.{sent}
-use Rattle.herm_lines.specs.StraightRuns.{IsReported}
-use Rattle.herm_lines.specs.View.{report_view}
-use Rattle.herm_lines.specs.declared.report.Report.{Report}
+use Rattle.herm_system.specs.Reports as language
+use Rattle.herm_report.specs.View.{report_view}
+use Rattle.herm_report.specs.declared.report.Report.{Report}
+use Rattle.herm_claim.specs.Claim.{Claim}
 use Rattle.herm_driver.specs.Words.{named_file, named_files}
 use Rattle.herm_driver.specs.Loads.{load_limit, AreLoaded, CountsFaults, AreTold}
-use Rattle.herm_driver.specs.Texts.{usage_text, read_fault_text, not_found_text, console_text}
-use Rattle.herm_driver.specs.RefusalLines.{refusals_text}
+use Rattle.herm_driver.specs.Texts.{usage_text, read_fault_text, not_found_text}
 
--- the report, with the status and the text, is that of a run of these lines in the source machine
-abbrev pub IsReportOf : ℕ → List Line → ℕ → List ℕ → Option Report → Type 0
-IsReportOf count lines status text None = ⊥
-IsReportOf count lines status text (Some report) = IsReported count lines [] (report_view report status text)
-
--- The bytes have trees, they mean a typed program without a fault, which is of the form that is built and accepted, and whose run is
--- reported, with the status and the text: the status is 0, and the text has a line for each string that is sent.
-abbrev pub IsDone : List ℕ → ℕ → List ℕ → Option Report → Type 0
-IsDone bytes status text report =
-    (status ≡ 0) × HaveTrees (bytes ∷ []) × (types : NamedTable) × (processes : List Process) × (main : ℕ) × HaveProgram (bytes ∷ []) types processes main × (names : List (List ℕ)) × (lines : List Line) × IsOfForm bytes names lines
-    × IsAccepted predefined (process_of (length names) lines) × (text ≡ console_text (sent (length names) lines))
-    × IsReportOf (length names) lines status text report
-
--- the bytes are refused: they have a fault, or their definitions, their names or their types have, or they are of no program that is built, or facts
--- are missing in it; a line for each fault
-abbrev pub IsRefusal : List ℕ → List ℕ → ℕ → List ℕ → Option Report → Type 0
-IsRefusal name bytes status text report =
-    (status ≡ 1) × (faults : List Fault) × AreRefusedOrLater (bytes ∷ []) faults × (text ≡ refusals_text name faults)
-    × (report ≡ None)
+-- what is told of a run, in the words of the language: its report, with the status and the text
+abbrev pub told_of : Option Report → ℕ → List ℕ → Option language.Report
+told_of report status text = option_map (λ (r : Report). report_view r status text) report
 
 -- no file has the name
 abbrev pub IsNotFound : List ℕ → ℕ → List ℕ → Option Report → Type 0
@@ -52,16 +24,10 @@ IsNotFound name status text report = (status ≡ 10) × (text ≡ not_found_text
 abbrev pub IsUnreadable : List ℕ → ℕ → List ℕ → Option Report → Type 0
 IsUnreadable name status text report = (status ≡ 3) × (text ≡ read_fault_text name) × (report ≡ None)
 
--- what files are due whose bytes were read: they are done or refused. One file is taken today.
-abbrev pub IsDueToFiles : List File → ℕ → List ℕ → Option Report → Type 0
-IsDueToFiles [] status text report = ⊥
-IsDueToFiles (file ∷ []) status text report = IsDone file.bytes status text report ⊎ IsRefusal file.name file.bytes status text report
-IsDueToFiles (file ∷ more ∷ files) status text report = ⊥
-
 -- What is due by the answers for the named files, with those that were read before them: the first that is not its bytes
--- decides, and where all are, the files do.
+-- decides, and of files whose bytes were all read the claim holds.
 abbrev pub IsDueBy : List File → List (List ℕ) → List FileAnswer → ℕ → List ℕ → Option Report → Type 0
-IsDueBy read [] [] status text report = IsDueToFiles read status text report
+IsDueBy read [] [] status text report = Claim read status text (told_of report status text)
 IsDueBy read [] (answer ∷ answers) status text report = ⊥
 IsDueBy read (name ∷ names) [] status text report = ⊥
 IsDueBy read (name ∷ names) (given bytes ∷ answers) status text report =
@@ -95,26 +61,18 @@ IsDueToWords loads faults contents before after words status text report =
     (IsUsage status text report × (after ≡ before))
     (λ names. IsDueByLoads loads faults contents before after names status text report)
 
--- what a named file is due that a shelf tells: it is not found, or done, or refused
+-- what a named file is due that a shelf tells: it is not found, or the claim holds of its first bytes
 abbrev pub IsDueTo : List ℕ → Option (List ℕ) → ℕ → List ℕ → Option Report → Type 0
 IsDueTo name None status text report = IsNotFound name status text report
-IsDueTo name (Some bytes) status text report =
-    IsDone (take load_limit bytes) status text report ⊎ IsRefusal name (take load_limit bytes) status text report
+IsDueTo name (Some bytes) status text report = Claim (record { name = name; bytes = take load_limit bytes } ∷ []) status text (told_of report status text)
 
--- what words are due by the files that a shelf tells
-abbrev pub IsDueAt : Option (List ℕ) → List File → ℕ → List ℕ → Option Report → Type 0
-IsDueAt None files status text report = IsUsage status text report
-IsDueAt (Some name) files status text report = IsDueTo name (file_at files name) status text report
-
--- the named file could not be read
-abbrev pub IsReadFault : Option (List ℕ) → ℕ → List ℕ → Option Report → Type 0
-IsReadFault None status text report = ⊥
-IsReadFault (Some name) status text report = IsUnreadable name status text report
-
--- a text, its status and a report are chosen: those that are due, or a read fault where the shelf's count rose
+-- A text, its status and a report are chosen, where a shelf tells its files: the usage line; or what is due to the named file; or that it could not be read,
+-- where the shelf's count rose.
 abbrev pub IsChosen : List (List ℕ) → List File → Type 0 → ℕ → List ℕ → Option Report → Type 0
 IsChosen words files rose status text report =
-    IsDueAt (named_file words) files status text report ⊎ (rose × IsReadFault (named_file words) status text report)
+    MatchOption (named_file words)
+    (IsUsage status text report)
+    (λ name. IsDueTo name (file_at files name) status text report ⊎ (rose × IsUnreadable name status text report))
 
 -- a status that a text has: those of write faults and of want of memory have none
 abbrev pub IsTextStatus : ℕ → Type 0

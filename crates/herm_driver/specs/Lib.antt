@@ -1,5 +1,5 @@
 pub mod Words
 pub mod Texts
 pub mod Loads
+pub mod Ending
 pub mod Due
-pub mod RefusalLines

@@ -1,10 +1,5 @@
 -- The texts that the program writes. (Language reference, "Statuses and texts")
-use Rattle.std.specs.Prelude.{ℕ, List, [], ◌∷◌, ◌++◌, codes}
-use Rattle.std.specs.List.{flat_map}
-use Rattle.herm_system.specs.TextLines.{line}
-
-abbrev pub newline : List ℕ
-newline = 10 ∷ []
+use Rattle.std.specs.Prelude.{ℕ, List, ◌++◌, codes}
 
 abbrev pub usage_text : List ℕ
 usage_text = codes "usage: hermes check FILE.. | hermes run OPTIONS FILE.. | hermes make N\n"
@@ -18,7 +13,3 @@ read_fault_text name = file_text name (codes ": read fault\n")
 
 abbrev pub not_found_text : List ℕ → List ℕ
 not_found_text name = file_text name (codes ": not found\n")
-
--- the console's lines: each string, followed by a newline
-abbrev pub console_text : List (List ℕ) → List ℕ
-console_text strings = flat_map line strings

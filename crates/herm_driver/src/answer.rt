@@ -1,21 +1,20 @@
 //! The answer of a call before anything is written: its status, its text and its report.
-ghost use Rattle.std.specs.Prelude.{◌≡◌, ◌≢◌, ◌≤◌, ◌⊎◌, ◌∷◌, [], IfOk, OnErr, None, IfSome, MatchOption, length, take, map, option_map, string_bytes};
+ghost use Rattle.std.specs.Prelude.{◌≡◌, ◌≢◌, ◌≤◌, ◌∷◌, [], IfOk, OnErr, None, IfSome, MatchOption, length, take, map, option_map, string_bytes};
 ghost use Rattle.herm_edge.specs.Faults.{Rose};
 ghost use Rattle.herm_edge.specs.View.{loaded_view};
 ghost use Rattle.herm_edge.specs.Shelf.{file_at, IfHere, OnMissing, OnFailed, UnlessFailed};
+ghost use Rattle.herm_claim.specs.Claim.{Claim};
 ghost use Rattle.herm_driver.specs.Loads.{load_limit, load_of, FirstAreLoaded};
-ghost use Rattle.herm_driver.specs.Due.{IsDone, IsRefusal, IsReportOf, IsNotFound, IsUnreadable, IsDueByLoads, IsDueToWords, IsCaused, IsChosen, IsTextStatus};
+ghost use Rattle.herm_driver.specs.Due.{told_of, IsNotFound, IsUnreadable, IsDueByLoads, IsDueToWords, IsCaused, IsChosen, IsTextStatus};
 ghost use Rattle.herm_driver.specs.Words.{named_files};
-ghost use Rattle.herm_driver.specs.Texts.{console_text, usage_text};
-ghost use Rattle.herm_lines.specs.ConsoleLines.{sent};
-ghost use Rattle.herm_lines.specs.StraightRuns.{IsRunnable};
 
-use crate::text::{console, file_line, refusals, usage};
+use crate::outcome::Answer;
+use crate::running::run;
+use crate::text::{file_line, refusals, usage};
 use crate::words::file_named;
 use herm_base::Word;
-use herm_compile::{CompileFault, CompiledLines, compile_lines};
+use herm_compile::{CompileFault, compile};
 use herm_edge::{Loaded, Shelf};
-use herm_lines::{Report, run_lines};
 use std::alloc::{AllocError, Global};
 
 /// How much of a file is loaded: one byte more than a source file may have.
@@ -24,32 +23,6 @@ fn load_limit() -> usize
     ensures { result ≡ load_limit }
 {
     1_048_577
-}
-
-/// A text that is to be written, with its status and the report of its run.
-#[derive(Drop)]
-pub struct Answer {
-    pub status: u8,
-    pub text: Vec<u8>,
-    pub report: Option<Report>,
-}
-
-/// Runs a compiled program: its text is the console's lines.
-#[tactic(auto, using(crate::proofs::Console::console_lemmas))]
-fn run(alloc: Global, compiled: &CompiledLines) -> Result<Answer, AllocError>
-    requires { IsRunnable (length compiled.now.names.items) compiled.now.lines.items }
-    ensures status { IfOk result (λ a. a.status ≡ 0) }
-    ensures text { IfOk result (λ a. a.text.items
-        ≡ console_text (sent (length compiled.now.names.items) compiled.now.lines.items)) }
-    ensures report { IfOk result (λ a. IsReportOf (length compiled.now.names.items) compiled.now.lines.items a.status a.text.items a.report) }
-{
-    let report = run_lines(alloc, compiled, b"")?;
-    let text = console(alloc, report.queue_of(0))?;
-    Ok(Answer {
-        status: 0,
-        text,
-        report: Some(report),
-    })
 }
 
 /// An answer without a run.
@@ -64,19 +37,19 @@ fn plain(status: u8, text: Vec<u8>) -> Answer
 }
 
 /// Compiles the bytes of a file and runs them, or says where they are refused.
+#[tactic(auto, using(crate::proofs::Claimed::claim_lemmas))]
 fn judge(alloc: Global, name: &str, bytes: Vec<u8>) -> Result<Answer, AllocError>
-    ensures due { IfOk result (λ a. IsDone bytes.items a.status a.text.items a.report
-        ⊎ IsRefusal name.now bytes.items a.status a.text.items a.report) }
-    ensures written_only { IfOk result (λ a. IsTextStatus a.status) }
+    ensures claim { IfOk result (λ a. Claim (record { name = name.now; bytes = bytes.items } ∷ []) a.status a.text.items (told_of a.report a.status a.text.items)) }
 {
     let files = [(Word::of(alloc, name.as_bytes())?, bytes)];
-    match compile_lines(alloc, &files) {
+    match compile(alloc, &files) {
         Ok(compiled) => {
             let answer = run(alloc, &compiled)?;
             Ok(answer)
         }
         Err(CompileFault::Refused(faults)) => {
-            Ok(plain(1, refusals(alloc, name.as_bytes(), &faults)?))
+            let text = refusals(alloc, &files, &faults)?;
+            Ok(plain(1, text))
         }
         Err(CompileFault::Memory) => Err(AllocError),
     }

@@ -3,6 +3,7 @@
 
 mod answer;
 mod outcome;
+mod running;
 mod text;
 mod top;
 mod words;

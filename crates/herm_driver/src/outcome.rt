@@ -1,12 +1,14 @@
 //! What the top call answers.
 ghost use Rattle.std.specs.Prelude.{◌≡◌};
 
-use herm_lines::{Entry, Place, Report, Stamp};
+use herm_events::{Entry, Place, Stamp};
+use herm_report::Report;
 
 /// How a call of the program ended.
 #[derive(Drop)]
 pub struct Outcome {
-    /// The exit status: 0 done, 1 refused, 2 usage, 3 read fault, 4 write fault, 5 want of memory, 10 missing file.
+    /// The exit status: 0 where process 1 ended normally, 1 refused, 2 usage, 3 read fault, 4 write fault,
+    /// 5 want of memory, 6 where an exception ended process 1, 7 where it waits, 8 where a limit stopped a process, 10 missing file.
     pub status: u8,
     /// What is reported of the run, where there was one and its text was due.
     pub report: Option<Report>,
@@ -46,4 +48,12 @@ pub struct Difference {
 pub enum Seen {
     Entry(Entry),
     End,
+}
+
+/// A text that is to be written, with its status and the report of its run.
+#[derive(Drop)]
+pub struct Answer {
+    pub status: u8,
+    pub text: Vec<u8>,
+    pub report: Option<Report>,
 }

@@ -1,11 +1,10 @@
 //! The texts that the program writes.
-ghost use Rattle.std.specs.Prelude.{◌≡◌, ◌∷◌, ◌++◌, IfOk, OnOk, codes, map, string_bytes, decimal};
-ghost use Rattle.herm_driver.specs.Texts.{usage_text, file_text, console_text, newline};
-ghost use Rattle.herm_driver.specs.RefusalLines.{place_text, refusal_text, refusals_text};
-ghost use Rattle.herm_lines.specs.StringsReadBack.{unquoted};
+ghost use Rattle.std.specs.Prelude.{◌≡◌, ◌∷◌, ◌++◌, [], IfOk, OnOk, codes, map, string_bytes, decimal, get_or};
+ghost use Rattle.herm_driver.specs.Texts.{usage_text, file_text};
+ghost use Rattle.herm_claim.specs.RefusalLines.{place_text, refusal_text, refusals_text};
 
+use herm_base::Word;
 use herm_compile::Fault;
-use herm_lines::{Trace, push_unquoted};
 use std::alloc::{AllocError, Global};
 
 /// The line that says which words the program takes.
@@ -38,12 +37,27 @@ fn push_decimal(alloc: Global, out: &mut Vec<u8>, number: u32) -> Result<(), All
     out.extend_from_slice(digits.as_bytes())
 }
 
-/// Appends a file, a line and a column.
-fn push_spot(alloc: Global, out: &mut Vec<u8>, name: &[u8], fault: &Fault) -> Result<(), AllocError>
-    ensures { OnOk result (out.new.items
-        ≡ out.old.items ++ (name.now ++ 58 ∷ decimal fault.now.line ++ 58 ∷ decimal fault.now.column)) }
+/// The name of the file with this number, or nothing where there is none.
+fn name_of(files: &[(Word, Vec<u8>)], number: usize) -> &[u8]
+    ensures { result.now ≡ get_or (map (λ file. file.0) files.now) number [] }
 {
-    out.extend_from_slice(name)?;
+    match files.get(number) {
+        Some(file) => file.0.bytes(),
+        None => b"",
+    }
+}
+
+/// Appends a file, a line and a column.
+fn push_spot(
+    alloc: Global,
+    out: &mut Vec<u8>,
+    files: &[(Word, Vec<u8>)],
+    fault: &Fault,
+) -> Result<(), AllocError>
+    ensures { OnOk result (out.new.items
+        ≡ out.old.items ++ (get_or (map (λ file. file.0) files.now) fault.now.file [] ++ 58 ∷ decimal fault.now.line ++ 58 ∷ decimal fault.now.column)) }
+{
+    out.extend_from_slice(name_of(files, fault.file as usize))?;
     out.push(b':')?;
     push_decimal(alloc, out, fault.line)?;
     out.push(b':')?;
@@ -54,23 +68,23 @@ fn push_spot(alloc: Global, out: &mut Vec<u8>, name: &[u8], fault: &Fault) -> Re
 fn push_place(
     alloc: Global,
     out: &mut Vec<u8>,
-    name: &[u8],
+    files: &[(Word, Vec<u8>)],
     fault: &Fault,
 ) -> Result<(), AllocError>
-    ensures { OnOk result (out.new.items ≡ out.old.items ++ place_text name.now fault.now) }
+    ensures { OnOk result (out.new.items ≡ out.old.items ++ place_text (map (λ file. file.0) files.now) fault.now) }
 {
     if fault.line == 0 {
         out.extend_from_slice(b"hermes")?;
         return Ok(());
     }
-    push_spot(alloc, out, name, fault)?;
+    push_spot(alloc, out, files, fault)?;
     Ok(())
 }
 
 /// Appends the rest of a refusal's line: its code and its words.
 fn push_reason(alloc: Global, out: &mut Vec<u8>, fault: &Fault) -> Result<(), AllocError>
     ensures { OnOk result (out.new.items
-        ≡ out.old.items ++ (codes ": F" ++ decimal fault.now.code ++ 32 ∷ fault.now.words ++ newline)) }
+        ≡ out.old.items ++ (codes ": F" ++ decimal fault.now.code ++ 32 ∷ fault.now.words ++ 10 ∷ [])) }
 {
     out.extend_from_slice(b": F")?;
     push_decimal(alloc, out, fault.code as u32)?;
@@ -84,41 +98,26 @@ fn push_reason(alloc: Global, out: &mut Vec<u8>, fault: &Fault) -> Result<(), Al
 fn push_refusal(
     alloc: Global,
     out: &mut Vec<u8>,
-    name: &[u8],
+    files: &[(Word, Vec<u8>)],
     fault: &Fault,
 ) -> Result<(), AllocError>
-    ensures { OnOk result (out.new.items ≡ out.old.items ++ refusal_text name.now fault.now) }
+    ensures { OnOk result (out.new.items ≡ out.old.items ++ refusal_text (map (λ file. file.0) files.now) fault.now) }
 {
-    push_place(alloc, out, name, fault)?;
+    push_place(alloc, out, files, fault)?;
     push_reason(alloc, out, fault)
 }
 
 /// The lines of refusals, in order.
-pub fn refusals(alloc: Global, name: &[u8], faults: &[Fault]) -> Result<Vec<u8>, AllocError>
-    ensures { IfOk result (λ v. v.items ≡ refusals_text name.now faults.now) }
+pub fn refusals(
+    alloc: Global,
+    files: &[(Word, Vec<u8>)],
+    faults: &[Fault],
+) -> Result<Vec<u8>, AllocError>
+    ensures { IfOk result (λ v. v.items ≡ refusals_text (map (λ file. file.0) files.now) faults.now) }
 {
     let mut out = Vec::new(alloc);
     for fault in faults {
-        push_refusal(alloc, &mut out, name, fault)?;
-    }
-    Ok(out)
-}
-
-/// Appends a string of the console with its newline, from the string's text.
-fn push_console_line(out: &mut Vec<u8>, text: &Trace) -> Result<(), AllocError>
-    ensures { OnOk result (out.new.items ≡ out.old.items ++ (unquoted text.now ++ newline)) }
-{
-    push_unquoted(out, text.bytes())?;
-    out.extend_from_slice(b"\n")
-}
-
-/// The console's lines, from the texts that are queued at its port.
-pub fn console(alloc: Global, texts: &[Trace]) -> Result<Vec<u8>, AllocError>
-    ensures { IfOk result (λ v. v.items ≡ console_text (map unquoted texts.now)) }
-{
-    let mut out = Vec::new(alloc);
-    for text in texts {
-        push_console_line(&mut out, text)?;
+        push_refusal(alloc, &mut out, files, fault)?;
     }
     Ok(out)
 }

@@ -7,7 +7,8 @@ ghost use Rattle.herm_driver.specs.Words.{named_file, named_files};
 ghost use Rattle.herm_driver.specs.Texts.{usage_text};
 
 use crate::Outcome;
-use crate::answer::{Answer, answer_to};
+use crate::answer::answer_to;
+use crate::outcome::Answer;
 use herm_edge::{Gate, Shelf, Sink, write_whole};
 use std::alloc::Global;
 
