@@ -112,7 +112,7 @@ run --make 3 -- a.hm => refused
 run --make 3 --make 3 => refused
 run --summary --make 3 => ring summary 3
 run --make 3 --journal => ring journal 3
-run --steps 7 --make 3 --ports 9 => ring steps=7 ports=9 3
+run --steps 7 --make 3 --ports 9 => ring ports=9 steps=7 3
 run --processes 5 --make 3 --arg hi => ring processes=5 arg=[hi] 3
 run --mak 3 => refused
 run a.hm a.hm => refused
