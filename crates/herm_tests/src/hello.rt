@@ -1,7 +1,8 @@
 //! The greeting program, and each status that a call of it can have.
 use crate::call::{Outside, call, plain};
 use herm_driver::Outcome;
-use herm_lines::{Action, End, Entry, Place, ProcEnd};
+use herm_events::{Action, Entry, Place};
+use herm_report::{End, ProcEnd};
 use std::process::Abort;
 use std::test::Fail;
 
