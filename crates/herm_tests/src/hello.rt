@@ -80,7 +80,7 @@ fn a_failing_write_cuts_the_text_off(rt: HostRuntime) -> Result<(), Fail> {
 
 #[test]
 fn other_files_are_refused(rt: HostRuntime) -> Result<(), Fail> {
-    let rows: [(&str, &[u8], &[u8]); 7] = [
+    let rows: [(&str, &[u8], &[u8]); 6] = [
         ("empty", b"", b"hermes: F19 no main\n"),
         ("a comment", b"-- hi", b"hermes: F19 no main\n"),
         (
@@ -98,11 +98,6 @@ fn other_files_are_refused(rt: HostRuntime) -> Result<(), Fail> {
             "nested",
             b"\n((((((((((((((((((((((((((((((((((((((((((((((((((((((((((((((((((",
             b"a.hm:2:65: F5 nesting\n",
-        ),
-        (
-            "an empty body",
-            b"process main(start: main_start) { }",
-            b"a.hm:1:1: F12 not built\n",
         ),
     ];
     for (about, bytes, text) in rows {

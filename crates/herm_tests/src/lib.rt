@@ -10,4 +10,6 @@ mod loads;
 #[cfg(test)]
 mod names;
 #[cfg(test)]
-mod straight;
+mod rows;
+#[cfg(test)]
+mod strings;

@@ -1,4 +1,4 @@
-//! Straight-line programs: what they write, and where they are refused.
+//! Programs that set, send and discard strings: what they write, and where they are refused.
 use crate::call::{call, plain};
 use std::alloc::{AllocError, Global};
 use std::process::Abort;
