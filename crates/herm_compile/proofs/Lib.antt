@@ -8,17 +8,7 @@ pub mod SeenRefusals
 pub mod OneNamingLaws
 pub mod WrittenPlaces
 pub mod OneAcceptanceLaws
-pub mod Choices
 pub mod TokenFacts
 pub mod PhaseLaws
 pub mod SpotLaws
-pub mod GivesLaws
-pub mod StripLaws
-pub mod ReadingLaws
-pub mod AgainLaws
-pub mod NamesLaws
-pub mod ProgramLaws
-pub mod StraightLaws
-pub mod CheckLaws
 pub mod PlaceLaws
-pub mod RefusalLaws

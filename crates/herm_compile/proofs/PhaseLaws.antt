@@ -1,8 +1,5 @@
 -- The first phase over the files.
-use Rattle.std.proofs.Common.{◌≡◌, ◌⊎◌, inl, inr, ℕ, suc, List, [], ◌∷◌, ◌++◌, Option, Some, None, map, length, refl, sym, ap, subst, ◌∙◌, ◌<◌, ◌≤◌, ◌+◌, get_or, drop, replicate, arith, add-one, drop-cons, append_assoc, append-nil}
-use Rattle.herm_lexer.specs.Faults.{HasFault}
-use Rattle.herm_lexer.specs.declared.fault.LexFault.{LexFault}
-use Rattle.herm_lexer.specs.declared.fault.LexFault.TheVariants.{Memory}
+use Rattle.std.proofs.Common.{◌≡◌, inl, inr, ℕ, zero, suc, List, [], ◌∷◌, ◌++◌, Option, Some, None, map, length, refl, sym, ap, subst, ◌∙◌, ◌<◌, ◌≤◌, ◌+◌, get_or, drop, replicate, arith, add-one, drop-cons, append_assoc, append-nil}
 use Rattle.herm_lexer.specs.declared.fault.LexFault.TheVariants as lexical
 use Rattle.herm_lexer.proofs.FileLaws.{one_token_list, tokens_or_fault}
 use Rattle.herm_alphabet.specs.declared.token.Token.{Token}
@@ -15,10 +12,9 @@ use Rattle.herm_parser.specs.Gives.{kinds as symbols_of}
 use Rattle.herm_parser.specs.BracketDepth.{most_brackets}
 use Rattle.herm_syntax.specs.declared.modules.Module.{Module}
 use Rattle.herm_compile.specs.View.{Seen, fault_view}
-use Rattle.herm_compile.specs.FirstPhase.{HasTrees, HasModules, IsSaid, AreFirstFaults, HaveModules, HaveTrees, file_fault, fault_list, TreesOrFault}
+use Rattle.herm_compile.specs.FirstPhase.{HasTrees, HasModules, IsSaid, AreFirstFaults, HaveModules, file_fault, fault_list, TreesOrFault}
 use Rattle.herm_compile.specs.Added.{IsAdded}
 use Rattle.herm_compile.specs.declared.phase.ReadFiles.{ReadFiles}
-use Rattle.herm_compile.proofs.CheckLaws.{drop_end}
 use Rattle.herm_compile.specs.declared.phase.FileFault.{FileFault}
 use Rattle.herm_compile.specs.declared.phase.FileFault.TheVariants as faults
 
@@ -95,22 +91,15 @@ read_end number all rest read e on = record {
       subst (λ (ms : List Module). HaveModules 0 all ms read.owners.items) (append-nil read.modules.items) (subst (λ (ns : List ℕ). HaveModules 0 all (read.modules.items ++ []) ns) (append-nil read.owners.items) whole);
 }
 
+drop_end : {X : Type 0} (files : List X) (at : ℕ) → length files ≤ at → drop at files ≡ []
+drop_end [] zero l = refl
+drop_end [] (suc at) l = refl
+drop_end (file ∷ files) zero l = absurd (omega arith)
+drop_end (file ∷ files) (suc at) l = drop_end files at (omega arith)
+
 pub read_past : {X : Type 0} (f : X → List ℕ) (files : List X) (at number : ℕ) (read : ReadFiles) →
     length files ≤ at → ReadOn number (map f files) (map f (drop at files)) read → ReadAll (map f files) read
 read_past {X} f files at number read l on = read_end number (map f files) (map f (drop at files)) read (ap (λ (fs : List X). map f fs) (drop_end files at l)) on
-
--- a single file has trees, where the first phase has no fault
-said_trees : (bytes : List ℕ) (said : Option FileFault) (others : List Seen) → IsSaid bytes said → [] ≡ fault_list 0 bytes said ++ others → HasTrees bytes
-said_trees bytes None others is e = is
-said_trees bytes (Some fault) others is e = absurd (cc)
-
-pub one_has_trees : (bytes : List ℕ) → HaveTrees (bytes ∷ []) → HasTrees bytes
-one_has_trees bytes h = said_trees bytes h.0 h.2 h.1 h.3
-
--- what has trees has no fault of its bytes
-pub has_memory_fault : (bytes : List ℕ) (fault : LexFault) → HasTrees bytes → (fault ≡ Memory) ⊎ HasFault bytes fault → fault ≡ Memory
-has_memory_fault bytes fault trees (inl e) = e
-has_memory_fault bytes fault trees (inr has) = absurd (tokens_or_fault bytes trees.1.tokens fault trees.1.read has)
 
 -- a bracket is not open too many where none is
 none_too_deep : (symbols : List Symbol) (count : ℕ) → IsWithinRoom most_brackets symbols → IsTooDeep side most_brackets symbols count → ⊥

@@ -1,58 +1,11 @@
--- The first tokens of lines, and lines and columns.
-use Rattle.std.proofs.Common.{◌≡◌, ℕ, suc, ◌<◌, ◌≤◌, ◌+◌, ◌*◌, Bool, true, false, cond, zero, List, [], ◌∷◌, ◌++◌, length, get_or, take, drop, refl, sym, ap, ◌∙◌, append_assoc, append-nil, arith, add-one, drop-cons, length-append}
+-- Lines and columns.
+use Rattle.std.proofs.Common.{◌≡◌, ℕ, suc, ◌<◌, ◌≤◌, ◌+◌, Bool, true, false, cond, List, [], ◌∷◌, ◌++◌, length, get_or, take, refl, sym, ap, ◌∙◌, arith}
 use Rattle.std.specs.Prelude.{reverse}
-use Rattle.std.specs.List.{flat_map, AllByRecursion}
 use Rattle.std.proofs.Math.Seq.{take-suc}
 use Rattle.std.proofs.lemmas.List.{reverse-append, length-reverse, length-take}
 use Rattle.herm_compile.specs.Front.{front}
-use Rattle.herm_compile.specs.Form.{declaration, line_tokens}
-use Rattle.herm_compile.specs.Reading.{up_to_lines}
 use Rattle.herm_compile.specs.Places.{is_newline, no_newline, newlines, IsPlace, place_behind}
-use Rattle.herm_compile.specs.Refused.{start_of, line_starts, starts}
-use Rattle.herm_compile.proofs.CheckLaws.{drop_end}
-use Rattle.herm_compile.proofs.TokenFacts.{StandsWithin, tokens_within, all_drop}
 use Rattle.herm_compile.specs.declared.places.Place.{Place}
-use Rattle.herm_lexer.specs.Spelling.{HasTokens}
-use Rattle.herm_alphabet.specs.declared.token.Token.{Token}
-use Rattle.herm_alphabet.specs.declared.token.TokenKind.TheVariants.{Sign}
-use Rattle.herm_alphabet.specs.declared.sign.Mark.TheVariants.{Semicolon}
-use Rattle.herm_compile.specs.declared.compiled.Line.{Line}
-
-declarations_len : (names : List (List ℕ)) → length (flat_map declaration names) ≡ 4 * length names
-declarations_len [] = refl
-declarations_len (name ∷ names) = omega (arith, declarations_len names)
-
-pub up_len : (names : List (List ℕ)) → 13 + 4 * length names ≡ length (up_to_lines names)
-up_len names = omega (arith, declarations_len names, length-append (flat_map declaration names) (Sign Semicolon ∷ []))
-
-pub starts_step : (names : List (List ℕ)) (lines : List Line) (at : ℕ) (line : Line) (rest : List Token) (done all : List ℕ) → at < length lines → line ≡ get_or lines at line → done ++ line_starts names (drop at lines) rest ≡ all → (done ++ start_of rest ∷ []) ++ line_starts names (drop (at + 1) lines) (drop (length (line_tokens names line)) rest) ≡ all
-starts_step names lines at line rest done all l i e =
-    let d : drop at lines ≡ line ∷ drop (suc at) lines = drop-cons lines at line l ∙ ap (λ (x : Line). x ∷ drop (suc at) lines) (sym i) in
-    rw add-one (append_assoc done (start_of rest ∷ []) (line_starts names (drop (suc at) lines) (drop (length (line_tokens names line)) rest))
-    ∙ ap (λ (x : List Line). done ++ line_starts names x rest) (sym d) ∙ e)
-
--- ---- places of lines within the file
-
-abbrev pub IsUpTo : ℕ → ℕ → Type 0
-IsUpTo size start = start ≤ size
-
-start_within : (size : ℕ) (tokens : List Token) → AllByRecursion (StandsWithin size) tokens → start_of tokens ≤ size
-start_within size [] a = omega arith
-start_within size (t ∷ ts) a = a.0.starts
-
-line_starts_within : (size : ℕ) (names : List (List ℕ)) (lines : List Line) (tokens : List Token) → AllByRecursion (StandsWithin size) tokens → AllByRecursion (IsUpTo size) (line_starts names lines tokens)
-line_starts_within size names [] tokens a = tt
-line_starts_within size names (line ∷ lines) tokens a = (start_within size tokens a, line_starts_within size names lines _ (all_drop (StandsWithin size) (length (line_tokens names line)) tokens a))
-
-pub starts_within : (bytes : List ℕ) (names : List (List ℕ)) (lines : List Line) (tokens : List Token) → HasTokens bytes tokens → AllByRecursion (IsUpTo (length bytes)) (starts names lines tokens)
-starts_within bytes names lines tokens h = line_starts_within (length bytes) names lines _ (all_drop (StandsWithin (length bytes)) (length (up_to_lines names)) tokens (tokens_within bytes tokens h))
-
-pub start_at : (size : ℕ) (starts : List ℕ) (i : ℕ) → AllByRecursion (IsUpTo size) starts → get_or starts i 0 ≤ size
-start_at size [] i a = omega arith
-start_at size (s ∷ ss) zero a = a.0
-start_at size (s ∷ ss) (suc i) a = start_at size ss i a.1
-
--- ---- lines and columns
 
 by_tests : (b c : Bool) (x y : ℕ) → x ≡ cond c (suc y) y → cond b (suc x) x ≡ cond c (suc (cond b (suc y) y)) (cond b (suc y) y)
 by_tests true true x y e = ap suc e
@@ -98,8 +51,3 @@ a_place offset line column = record { offset = offset; line = line; column = col
 
 pub behind_offset : (place : Place) (byte : ℕ) → (place_behind place byte).offset ≡ suc place.offset
 behind_offset place byte = elim (is_newline byte) as (λ (v : Bool). (cond v (a_place (suc place.offset) (suc place.line) 1) (a_place (suc place.offset) place.line (suc place.column))).offset ≡ suc place.offset) [ true ↦ refl | false ↦ refl ]
-
-pub starts_end : (names : List (List ℕ)) (lines : List Line) (at : ℕ) (rest tokens : List Token) (done : List ℕ) → length lines ≤ at → done ++ line_starts names (drop at lines) rest ≡ line_starts names lines (drop (13 + 4 * length names) tokens) → done ≡ starts names lines tokens
-starts_end names lines at rest tokens done l e =
-    let d : done ++ line_starts names (drop at lines) rest ≡ done = ap (λ (x : List Line). done ++ line_starts names x rest) (drop_end lines at l) ∙ append-nil done in
-    sym d ∙ e ∙ ap (λ (n : ℕ). line_starts names lines (drop n tokens)) (up_len names)

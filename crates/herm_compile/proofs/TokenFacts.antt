@@ -1,107 +1,24 @@
 -- What is known of the tokens of a file.
-use Rattle.std.proofs.Common.{◌≡◌, ℕ, ◌+◌, ◌-◌, ◌≤◌, zero, suc, drop, inl, inr, true, List, [], ◌∷◌, ◌++◌, length, Option, Some, None, Ok, Err, Result, refl, sym, ap, subst, ◌∙◌, arith}
-use Rattle.std.specs.Prelude.{IsTrue, get_or, nat_le}
+use Rattle.std.proofs.Common.{◌≡◌, ℕ, ◌+◌, ◌-◌, ◌≤◌, zero, suc, drop, inl, inr, List, [], ◌∷◌, length, ap, arith}
 use Rattle.std.specs.List.{AllByRecursion}
-use Rattle.std.proofs.lemmas.Bool.{le-leb}
-use Rattle.std.proofs.lemmas.Bool.Decides.{nat_tests}
 use Rattle.std.proofs.lemmas.List.{length-append, length-take}
-use Rattle.herm_model.specs.Lists.{all_pass}
-use Rattle.herm_model.specs.Typed.{is_text, is_text_byte}
-use Rattle.herm_alphabet.specs.KeywordLetters.{letters, characters}
-use Rattle.herm_alphabet.specs.KeywordLetters.{keyword_of}
-use Rattle.herm_lexer.specs.Reading.{sign_at, single_sign}
-use Rattle.herm_lexer.specs.Spelling.{Spells, SpellsPiece, IsWithinLimit, IsPieceWithinLimit, is_content, Part, AreParts, token_at, tokens_of, HasTokens}
+use Rattle.herm_lexer.specs.Spelling.{HasTokens}
 use Rattle.herm_lexer.specs.Faults.{FaultAt, HasFault, kept}
 use Rattle.herm_lexer.specs.laws.TokenLaws.{AreRising}
-use Rattle.herm_lexer.specs.declared.piece.Piece.{Piece}
-use Rattle.herm_lexer.specs.declared.piece.Piece.TheVariants.{Blank, Comment, Token as Lexeme}
-use Rattle.herm_lexer.specs.declared.piece.Stop.{Stop}
 use Rattle.herm_alphabet.specs.declared.token.Token.{Token}
-use Rattle.herm_alphabet.specs.declared.token.TokenKind.{TokenKind}
-use Rattle.herm_alphabet.specs.declared.token.TokenKind.TheVariants.{Text, Sign}
-use Rattle.herm_alphabet.specs.declared.keyword.Keyword.{Keyword}
-use Rattle.herm_alphabet.specs.declared.sign.Mark.{Mark}
-use Rattle.herm_alphabet.specs.declared.sign.Mark.TheVariants.{ParenOpen}
 use Rattle.herm_lexer.specs.declared.fault.LexFault.{LexFault}
 use Rattle.herm_lexer.specs.declared.fault.LexFault.TheVariants as lexical
-use Rattle.herm_alphabet.proofs.Keywords.{keyword_of-letters}
 use Rattle.herm_lexer.proofs.Files.{ReadTo-le}
 use Rattle.herm_lexer.proofs.FileLaws.{tokens_spell_file}
 use Rattle.herm_parser.specs.TokenPlaces.{end_first, start_of, place_of}
-use Rattle.herm_compile.specs.Form.{kinds}
 use Rattle.herm_compile.specs.declared.phase.FileFault.{FileFault}
 use Rattle.herm_compile.specs.declared.phase.FileFault.TheVariants as faults
 use Rattle.herm_compile.specs.FirstPhase.{HasFileFault, fault_offset}
 
--- ---- letters and characters
-
-abbrev given : {A : Type 0} → A → Option A
-given x = Some x
-
-some_is : {A : Type 0} (x y : A) → given x ≡ given y → x ≡ y
-some_is x y e = cc
-
--- different keywords have different letters
-pub letters_same : (k l : Keyword) → letters k ≡ letters l → k ≡ l
-letters_same k l e = some_is k l (sym (keyword_of-letters k) ∙ ap keyword_of e ∙ keyword_of-letters l)
-
-abbrev mark_in : Piece → Option Mark
-mark_in (Lexeme (Sign mark)) = Some mark
-mark_in _ = None
-
-abbrev mark_of : Result (Piece × ℕ) Stop → Option Mark
-mark_of (Ok found) = mark_in found.0
-mark_of (Err stop) = None
-
--- the sign that two bytes begin with
-abbrev read_mark : List ℕ → Option Mark
-read_mark text = mark_of (sign_at (get_or text 0 0) (get_or text 1 0))
-
-characters_read : (m : Mark) → read_mark (characters m) ≡ Some m
-unfolding sign_at single_sign
-characters_read ParenOpen = refl
-characters_read _ = refl
-
--- different signs have different characters
-pub characters_same : (m n : Mark) → characters m ≡ characters n → m ≡ n
-characters_same m n e = some_is m n (sym (characters_read m) ∙ ap read_mark e ∙ characters_read n)
-
--- ---- tokens
-
--- the token is spelled by bytes, and within its limit
-abbrev pub IsToken : TokenKind → Type 0
-IsToken kind = (text : List ℕ) × Spells kind text × IsWithinLimit kind
-
-piece_tokens : (piece : Piece) (text : List ℕ) (start n : ℕ) (tokens : List Token) → SpellsPiece piece text → IsPieceWithinLimit piece → AllByRecursion IsToken (kinds tokens) → AllByRecursion IsToken (kinds (token_at start piece n ++ tokens))
-piece_tokens Blank text start n tokens s w a = a
-piece_tokens Comment text start n tokens s w a = a
-piece_tokens (Lexeme kind) text start n tokens s w a = ((text, s, w), a)
-
-parts_tokens : (parts : List Part) (rest : List ℕ) (start : ℕ) → AreParts parts rest → AllByRecursion IsToken (kinds (tokens_of start parts))
-parts_tokens [] rest start a = tt
-parts_tokens (x ∷ xs) rest start a =
-    piece_tokens x.piece x.text start (length x.text) (tokens_of (start + length x.text) xs) a.0.spelled a.0.within (parts_tokens xs rest (start + length x.text) a.1)
-
-pub tokens_spelled : (bytes : List ℕ) (tokens : List Token) → HasTokens bytes tokens → AllByRecursion IsToken (kinds tokens)
-tokens_spelled bytes tokens h = subst (λ (ts : List Token). AllByRecursion IsToken (kinds ts)) (sym h.read.listed) (parts_tokens h.read.parts [] 0 h.read.each)
-
-text_byte : (b : ℕ) → is_content b ≡ true → is_text_byte b ≡ true
-text_byte b h = grind (arith, nat_tests)
-
-text_bytes : (content : List ℕ) → AllByRecursion (λ b. IsTrue (is_content b)) content → all_pass is_text_byte content ≡ true
-text_bytes [] a = refl
-text_bytes (b ∷ bs) a = rw (text_byte b a.0, text_bytes bs a.1) refl
-
--- the content of a string is a text
-pub token_text : (content : List ℕ) → IsToken (Text content) → IsTrue (is_text content)
-token_text content t =
-    let short : nat_le (length content) 4096 ≡ true = le-leb _ _ t.2 in
-    rw (short, text_bytes content t.1.1) refl
-
 -- ---- places
 
 -- the token stands within so many bytes
-pub record StandsWithin (size : ℕ) (token : Token) : Type 0 where
+record StandsWithin (size : ℕ) (token : Token) : Type 0 where
   pub starts : token.span.start ≤ size
   pub ends : token.span.end ≤ size
 
@@ -111,10 +28,10 @@ rising_within start (t ∷ ts) size r =
     let m = rising_within t.span.end ts size r.2 in
     (omega (arith, r.0, r.1, m.0), (record { starts = omega (arith, r.1, m.0); ends = m.0 }, m.1))
 
-pub tokens_within : (bytes : List ℕ) (tokens : List Token) → HasTokens bytes tokens → AllByRecursion (StandsWithin (length bytes)) tokens
+tokens_within : (bytes : List ℕ) (tokens : List Token) → HasTokens bytes tokens → AllByRecursion (StandsWithin (length bytes)) tokens
 tokens_within bytes tokens h = (rising_within 0 tokens (length bytes) (tokens_spell_file bytes tokens h).1).1
 
-pub all_drop : {A : Type 0} (P : A → Type 0) (n : ℕ) (xs : List A) → AllByRecursion P xs → AllByRecursion P (drop n xs)
+all_drop : {A : Type 0} (P : A → Type 0) (n : ℕ) (xs : List A) → AllByRecursion P xs → AllByRecursion P (drop n xs)
 all_drop P zero xs a = a
 all_drop P (suc n) [] a = tt
 all_drop P (suc n) (x ∷ xs) a = all_drop P n xs a.1

@@ -1,8 +1,4 @@
 pub mod Front
-pub mod Gives
-pub mod Form
-pub mod Reading
-pub mod Straight
 pub mod View
 pub mod Places
 pub mod FirstPhase

@@ -1,14 +1,9 @@
 -- The words behind the codes of refusals. Language reference, "Refusals".
-use Rattle.std.specs.Prelude.{ℕ, List, codes, ◌∷◌, ◌++◌, decimal}
+use Rattle.std.specs.Prelude.{ℕ, List, codes}
 use Rattle.herm_compile.specs.declared.phase.FileFault.{FileFault}
 use Rattle.herm_compile.specs.declared.phase.FileFault.TheVariants.{Byte, Token as NoToken, TooLong, Syntax, Nesting}
 use Rattle.herm_meaning.specs.DefinitionFaults.{Code, unknown, twice, cycle, deep, bad_key, bad_state}
 use Rattle.herm_naming.specs.StatementFaults as naming
-use Rattle.std.specs.List.{flat_map}
-use Rattle.herm_model.specs.ControlPaths as control
-use Rattle.herm_compile.specs.Form.{name_of}
-use Rattle.herm_compile.specs.Straight.{refusal_of}
-use Rattle.herm_compile.specs.declared.check.Gap.{Gap}
 
 abbrev pub fault_words : FileFault → List ℕ
 fault_words (Byte offset) = codes "byte"
@@ -33,11 +28,3 @@ name_words naming.not_copyable = codes "not copyable"
 name_words naming.unreachable = codes "unreachable"
 name_words naming.no_main = codes "no main"
 name_words naming.too_many = codes "too many"
-
--- a space, a statement's number and that it went on
-abbrev pub hop_text : control.Hop → List ℕ
-hop_text hop = 32 ∷ (decimal hop.number ++ codes ":ok")
-
--- that there is no value at a string, and the path on which it is missing (Language reference, "Refusals")
-abbrev pub gap_words : List (List ℕ) → Gap → List ℕ
-gap_words names gap = codes "needs init(" ++ (name_of names gap.string ++ (codes ") by start" ++ flat_map hop_text (refusal_of gap).path))

@@ -2,47 +2,34 @@
 #![tactic(auto)]
 
 mod acceptance;
-mod check;
 mod checked;
 mod compiled;
 mod definitions;
 mod fault;
-mod form;
-mod names;
 mod phase;
-mod phrase;
 mod places;
-mod program;
-mod refusal;
 mod resolution;
 mod spots;
-mod stop;
-mod straight;
 
 ghost use Rattle.std.specs.Prelude.{◌≡◌, map, length, IfOk, IfErr};
-ghost use Rattle.herm_model.specs.Types.{predefined};
 ghost use Rattle.herm_model.specs.TypedPrograms.{IsTypedProgram};
-ghost use Rattle.herm_model.specs.MissingFacts.{IsAccepted};
 ghost use Rattle.herm_typed.specs.View.{typed_process_view};
 ghost use Rattle.herm_accept.specs.Accepted.{AreAccepted};
 ghost use Rattle.herm_code.specs.View.{image_view};
 ghost use Rattle.herm_images.specs.CheckedPrograms.{program_view, image_of, StandsForProgram, module_names, process_names};
-ghost use Rattle.herm_compile.specs.Form.{AreOfForm, OneReading};
-ghost use Rattle.herm_compile.specs.Straight.{process_of};
 ghost use Rattle.herm_compile.specs.FirstPhase.{HaveTrees, TreesOrFault};
 ghost use Rattle.herm_compile.specs.SecondPhase.{HaveTypes};
 ghost use Rattle.herm_compile.specs.Phases.{HaveThisProgram, IsOfModules};
 ghost use Rattle.herm_compile.specs.OneDefinition.{HaveOneTable, AreOneList, TypesOrFaults, HaveOneProgram, NameFaultsAreOneList, ProgramOrFaults, FactsAreOneList, AcceptedOrFaults, AcceptedOrRefused};
-ghost use Rattle.herm_compile.specs.Refused.{IsExactRefusal, AreRefused, IfRefused};
+ghost use Rattle.herm_compile.specs.Refused.{AreRefused, IfRefused};
 ghost use Rattle.herm_compile.specs.declared.fault.CompileFault.TheVariants.{Memory};
 
 use checked::{Checked, checked_files};
-pub use compiled::{Compiled, CompiledLines, Line};
+pub use compiled::Compiled;
 pub use fault::{CompileFault, Fault};
 use herm_base::Word;
 use herm_images::image;
 use std::alloc::Global;
-use straight::with_lines;
 
 /// Compiles files, phase by phase; each phase judges the files only where the phases before it have no fault. First each file is read, in
 /// their order: of files that have no trees, the one fault of each is given. Then the definitions of all modules are read into
@@ -71,33 +58,6 @@ pub fn compile(alloc: Global, files: &[(Word, Vec<u8>)]) -> Result<Compiled, Com
         Err(fault) => Err(fault),
     }
 }
-
-/// Compiles files as `compile` does, up to the image: of files whose processes are accepted, a single one is compiled where it is of a
-/// straight-line program. All others are refused with the one fault `not built`.
-#[tactic(auto, using(crate::proofs::ProgramLaws::by_a_phase))]
-pub fn compile_lines(
-    alloc: Global,
-    files: &[(Word, Vec<u8>)],
-) -> Result<CompiledLines, CompileFault>
-    ensures read { IfOk result (λ c. HaveTrees (map (λ file. file.1.items) files.now)) }
-    ensures types { IfOk result (λ c. HaveTypes (map (λ file. file.1.items) files.now) c.types) }
-    ensures program { IfOk result (λ c. HaveThisProgram (map (λ file. file.1.items) files.now) c.types c.program) }
-    ensures kept { IfOk result (λ c. IsOfModules (map (λ file. file.1.items) files.now) c.types c.program) }
-    ensures checked { IfOk result (λ c. AreAccepted c.types.shapes c.program.processes.items c.flows.items c.labels.items c.coercions.items) }
-    ensures form { IfOk result (λ c. AreOfForm (map (λ file. file.1.items) files.now) c.names.items c.lines.items) }
-    ensures accepted { IfOk result (λ c. IsAccepted predefined (process_of (length c.names.items) c.lines.items)) }
-    ensures refused { IfErr result (λ e. IsExactRefusal (map (λ file. file.1.items) files.now) e) }
-{
-    match checked_files(alloc, files) {
-        Ok(checked) => with_lines(alloc, files, checked),
-        Err(fault) => Err(fault),
-    }
-}
-
-/// A file has one reading at most: its bytes are those of one list of names and lines.
-pub fn one_reading()
-    ensures { OneReading }
-{}
 
 /// A file that has trees has no fault of the first phase.
 pub fn trees_or_fault()

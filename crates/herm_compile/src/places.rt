@@ -1,61 +1,6 @@
-//! The places of lines in the file.
-ghost use Rattle.std.specs.Prelude.{◌≡◌, ◌<◌, ◌≤◌, ℕ, suc, List, length, drop, IfOk};
-ghost use Rattle.herm_compile.specs.Form.{line_tokens};
+//! Lines and columns of a file.
+ghost use Rattle.std.specs.Prelude.{◌≡◌, ◌<◌, ◌≤◌, ℕ, suc, List, length};
 ghost use Rattle.herm_compile.specs.Places.{IsPlace, place_behind};
-ghost use Rattle.herm_compile.specs.Refused.{start_of, starts};
-
-use crate::compiled::Line;
-use herm_base::Word;
-use herm_lexer::Token;
-use std::alloc::{AllocError, Global};
-
-fn start_of(tokens: &[Token]) -> usize
-    ensures { result ≡ start_of tokens.now }
-{
-    match tokens {
-        [] => 0,
-        [first, ..] => first.span.start as usize,
-    }
-}
-
-fn behind(tokens: &[Token], count: usize) -> &[Token]
-    ensures { result.now ≡ drop count tokens.now }
-{
-    if count < tokens.len() {
-        return tokens.split_at(count).1;
-    }
-    &[]
-}
-
-fn token_count(line: &Line) -> usize
-    ensures { (names : List (List ℕ)) → result ≡ length (line_tokens names line.now) }
-{
-    match line {
-        Line::Receive => 5,
-        Line::Set(_, _) => 4,
-        Line::Send(_) => 7,
-        Line::Discard(_) => 3,
-    }
-}
-
-/// The place in bytes of the first token of each line, given the tokens of the file.
-pub fn starts_of(
-    alloc: Global,
-    names: &[Word],
-    lines: &[Line],
-    tokens: &[Token],
-) -> Result<Vec<usize>, AllocError>
-    requires { length names.now ≤ 4000 }
-    ensures { IfOk result (λ v. v.items ≡ starts names.now lines.now tokens.now) }
-{
-    let mut rest = behind(tokens, 13 + 4 * names.len());
-    let mut starts = Vec::new(alloc);
-    'lines: for line in lines {
-        starts.push(start_of(rest))?;
-        rest = behind(rest, token_count(line));
-    }
-    Ok(starts)
-}
 
 /// A place in a file: how many bytes stand before it, and its line and column, counted from 1.
 #[derive(Clone, Copy)]

@@ -1,7 +1,7 @@
 //! What is said of files, as text.
 use herm_base::Word;
 use herm_check::MissingFact;
-use herm_compile::{CompileFault, Compiled, Fault, compile, compile_lines};
+use herm_compile::{CompileFault, Compiled, Fault, compile};
 use herm_typed::Outcome;
 use herm_types::Fact;
 use std::alloc::{AllocError, Global};
@@ -17,22 +17,9 @@ fn files_of(alloc: Global, contents: &[&[u8]]) -> Result<Files, AllocError> {
     Ok(files)
 }
 
-/// What is said of a file by its lines.
-pub fn line_answer(alloc: Global, bytes: &[u8]) -> Result<String, AllocError> {
-    line_answer_to(alloc, &[bytes])
-}
-
-/// What is said of files by their lines: their refusal, or how many names and lines the program has.
-pub fn line_answer_to(alloc: Global, contents: &[&[u8]]) -> Result<String, AllocError> {
-    let files = files_of(alloc, contents)?;
-    match compile_lines(alloc, files.as_slice()) {
-        Ok(compiled) => {
-            let names = compiled.names.len();
-            let lines = compiled.lines.len();
-            format!(in alloc; "{names} {lines}")
-        }
-        Err(fault) => refusal(alloc, &fault),
-    }
+/// What is said of a file.
+pub fn image_answer(alloc: Global, bytes: &[u8]) -> Result<String, AllocError> {
+    image_answer_to(alloc, &[bytes])
 }
 
 /// What is said of files: their refusal, or each module of the image with the number of its instructions.

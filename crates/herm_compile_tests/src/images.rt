@@ -1,5 +1,5 @@
 //! Programs of any forms, and the refusals of all phases.
-use crate::answers::{image_answer_to, line_answer_to};
+use crate::answers::image_answer_to;
 use std::test::Fail;
 
 const TYPES: &[u8] = b"definitions d { type ask = callmessage (in q: string, inout w: string); \
@@ -26,14 +26,12 @@ fn programs_of_any_forms_have_images(rt: HostRuntime) -> Result<(), Fail> {
     for (contents, expected) in cases {
         let found = image_answer_to(rt.alloc(), contents)?;
         assert_eq!(rt; found.as_str(), expected);
-        let found = line_answer_to(rt.alloc(), contents)?;
-        assert_eq!(rt; found.as_str(), "0/1:1: F12 not built|");
     }
     Ok(())
 }
 
 #[test]
-fn both_calls_refuse_the_same_faults(rt: HostRuntime) -> Result<(), Fail> {
+fn each_phase_refuses_its_faults(rt: HostRuntime) -> Result<(), Fail> {
     let cases: [(&[&[u8]], &str); 6] = [
         (&[], "0/0:0: F19 no main|"),
         (&[b"12a", TYPES, b"}"], "0/1:1: F2 token|2/1:1: F4 syntax|"),
@@ -60,8 +58,6 @@ fn both_calls_refuse_the_same_faults(rt: HostRuntime) -> Result<(), Fail> {
     ];
     for (contents, expected) in cases {
         let found = image_answer_to(rt.alloc(), contents)?;
-        assert_eq!(rt; found.as_str(), expected);
-        let found = line_answer_to(rt.alloc(), contents)?;
         assert_eq!(rt; found.as_str(), expected);
     }
     Ok(())

@@ -6,4 +6,4 @@ mod answers;
 #[cfg(test)]
 mod images;
 #[cfg(test)]
-mod lines;
+mod refusals;

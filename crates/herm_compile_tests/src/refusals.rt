@@ -1,5 +1,5 @@
-//! Straight-line programs, their refusals, and the limits of the form and of its tokens.
-use crate::answers::{line_answer, line_answer_to};
+//! The refusals of all phases with their places, and the limits of tokens and of a process.
+use crate::answers::{image_answer, image_answer_to};
 use std::alloc::{AllocError, Global};
 use std::test::Fail;
 
@@ -8,7 +8,7 @@ fn refusals_have_their_places_and_paths(rt: HostRuntime) -> Result<(), Fail> {
     let head =
         "process main(start: main_start) {\n  var m: main_message, s: string;\n  receive m from start;\n";
     let cases = [
-        ("  s := \"hi\";\n  send s to m.out;\n}\n", "1 3"),
+        ("  s := \"hi\";\n  send s to m.out;\n}\n", "main 10|"),
         (
             "  send s to m.out;\n}\n",
             "0/4:3: F13 needs init(s) by start 1:ok (2 init 2 0: 1)|",
@@ -17,18 +17,18 @@ fn refusals_have_their_places_and_paths(rt: HostRuntime) -> Result<(), Fail> {
             "  s := \"hi\";\n  send s to m.out;\n  send s to m.out;\n}\n",
             "0/6:3: F13 needs init(s) by start 1:ok 2:ok 3:ok (4 init 2 0: 1 2 3)|",
         ),
-        ("}", "1 1"),
+        ("}", "main 4|"),
         (
             "discard s;\r\n\t s := \"~ !\"; discard s; \n\n\t discard s; }",
             "0/4:1: F13 needs init(s) by start 1:ok (2 init 2 0: 1)|0/7:3: F13 needs init(s) by start 1:ok 2:ok 3:ok 4:ok (5 init 2 0: 1 2 3 4)|",
         ),
-        ("s := \"a\\n\\\"\\\\\";\n}", "1 2"),
-        ("-- hello\n}", "1 1"),
-        ("s := \"a\" -- \"\n;-- }\n}--", "1 2"),
+        ("s := \"a\\n\\\"\\\\\";\n}", "main 7|"),
+        ("-- hello\n}", "main 4|"),
+        ("s := \"a\" -- \"\n;-- }\n}--", "main 7|"),
         ("s := \"a\\t\";\n}", "0/4:6: F2 token|"),
         ("s : = \"a\";\n}", "0/4:3: F4 syntax|"),
         ("t := \"a\";\n}", "0/4:1: F14 unknown|"),
-        ("receive m from start;\n}", "0/1:1: F12 not built|"),
+        ("receive m from start;\n}", "main 6|"),
         ("} }", "0/4:3: F4 syntax|"),
         ("send s to m.outport;\n}", "0/4:1: F14 unknown|"),
         ("s := 7;\n}", "0/4:1: F16 type|"),
@@ -38,7 +38,7 @@ fn refusals_have_their_places_and_paths(rt: HostRuntime) -> Result<(), Fail> {
     for (body, expected) in cases {
         let mut file = String::from_str(rt.alloc(), head)?;
         file.push_str(body)?;
-        let found = line_answer(rt.alloc(), file.as_bytes())?;
+        let found = image_answer(rt.alloc(), file.as_bytes())?;
         assert_eq!(rt; found.as_str(), expected);
     }
     Ok(())
@@ -47,7 +47,7 @@ fn refusals_have_their_places_and_paths(rt: HostRuntime) -> Result<(), Fail> {
 #[test]
 fn names_that_are_taken_are_refused(rt: HostRuntime) -> Result<(), Fail> {
     let cases = [
-        ("s: string, t: string", "2 2"),
+        ("s: string, t: string", "main 7|"),
         ("s: string, s: string", "0/1:67: F15 twice|"),
         ("s: string, t: string, s: string", "0/1:78: F15 twice|"),
         ("m: string, s: string", "0/1:56: F15 twice|"),
@@ -57,7 +57,7 @@ fn names_that_are_taken_are_refused(rt: HostRuntime) -> Result<(), Fail> {
         let file = format!(in rt.alloc();
             "process main(start: main_start) {{ var m: main_message, {declared}; receive m from start; s := \"a\"; }}"
         )?;
-        let found = line_answer(rt.alloc(), file.as_bytes())?;
+        let found = image_answer(rt.alloc(), file.as_bytes())?;
         assert_eq!(rt; found.as_str(), expected, "{declared}");
     }
     Ok(())
@@ -91,7 +91,7 @@ fn definitions_are_refused_over_all_files(rt: HostRuntime) -> Result<(), Fail> {
         ),
     ];
     for (first, second, expected) in cases {
-        let found = line_answer_to(rt.alloc(), &[first, second])?;
+        let found = image_answer_to(rt.alloc(), &[first, second])?;
         assert_eq!(rt; found.as_str(), expected);
     }
     Ok(())
@@ -114,7 +114,7 @@ fn a_fault_of_the_bytes_is_the_one_refusal(rt: HostRuntime) -> Result<(), Fail> 
         (b"", "0/0:0: F19 no main|"),
     ];
     for (bytes, expected) in cases {
-        let found = line_answer(rt.alloc(), bytes)?;
+        let found = image_answer(rt.alloc(), bytes)?;
         assert_eq!(rt; found.as_str(), expected);
     }
     Ok(())
@@ -130,8 +130,8 @@ fn each_file_has_its_one_fault_in_order(rt: HostRuntime) -> Result<(), Fail> {
     let lost: &[u8] = b"process p(s: main_start) { leave; send s to s; }";
     let cases: [(&[&[u8]], &str); 13] = [
         (&[], "0/0:0: F19 no main|"),
-        (&[good], "0 1"),
-        (&[good, other], "0/1:1: F12 not built|"),
+        (&[good], "main 4|"),
+        (&[good, other], "main 4|p 4|"),
         (&[good, good], "1/1:9: F15 twice|"),
         (&[other, good, other], "2/1:9: F15 twice|"),
         (
@@ -147,7 +147,7 @@ fn each_file_has_its_one_fault_in_order(rt: HostRuntime) -> Result<(), Fail> {
         (&[good, b"-- a comment\nexception e;"], "1/2:1: F4 syntax|"),
     ];
     for (contents, expected) in cases {
-        let found = line_answer_to(rt.alloc(), contents)?;
+        let found = image_answer_to(rt.alloc(), contents)?;
         assert_eq!(rt; found.as_str(), expected);
     }
     Ok(())
@@ -166,7 +166,7 @@ fn a_bracket_too_many_comes_first(rt: HostRuntime) -> Result<(), Fail> {
                 file.push('\n')?;
             }
         }
-        let found = line_answer(rt.alloc(), file.as_bytes())?;
+        let found = image_answer(rt.alloc(), file.as_bytes())?;
         assert_eq!(rt; found.as_str(), expected, "{count}");
     }
     Ok(())
@@ -216,20 +216,19 @@ fn push_name(
 
 #[test]
 fn each_limit_is_taken_and_no_more(rt: HostRuntime) -> Result<(), Fail> {
-    let built = "0/1:1: F12 not built|";
     let cases = [
-        ((1, 1, 1023, 1), "1 1024"),
+        ((1, 1, 1023, 1), "main 3073|"),
         ((1, 1, 1024, 1), "0/1:9: F20 too many|"),
-        ((4000, 1, 1, 1), "4000 2"),
-        ((4001, 1, 1, 1), built),
-        ((1, 58, 1, 1), "1 2"),
+        ((4092, 1, 1, 1), "main 7|"),
+        ((4093, 1, 1, 1), "0/1:9: F20 too many|"),
+        ((1, 58, 1, 1), "main 7|"),
         ((1, 59, 1, 1), "0/1:51: F3 too long|"),
-        ((1, 1, 1, 4096), "1 2"),
+        ((1, 1, 1, 4096), "main 7|"),
         ((1, 1, 1, 4097), "0/1:96: F3 too long|"),
     ];
     for ((names, letters, statements, text), expected) in cases {
         let file = sized(rt.alloc(), names, letters, statements, text)?;
-        let found = line_answer(rt.alloc(), file.as_bytes())?;
+        let found = image_answer(rt.alloc(), file.as_bytes())?;
         assert_eq!(rt;
             found.as_str(),
             expected,
@@ -245,12 +244,15 @@ fn a_file_has_its_most_bytes_and_no_more(rt: HostRuntime) -> Result<(), Fail> {
     for _ in file.len()..1_048_576 {
         file.push(b' ')?;
     }
-    assert_eq!(rt; line_answer(rt.alloc(), file.as_slice())?.as_str(), "1 2");
+    assert_eq!(rt;
+        image_answer(rt.alloc(), file.as_slice())?.as_str(),
+        "main 7|"
+    );
     file.push(b' ')?;
-    let found = line_answer(rt.alloc(), file.as_slice())?;
+    let found = image_answer(rt.alloc(), file.as_slice())?;
     assert_eq!(rt; found.as_str(), "0/1:1048577: F3 too long|");
     file[0] = b'_';
-    let found = line_answer(rt.alloc(), file.as_slice())?;
+    let found = image_answer(rt.alloc(), file.as_slice())?;
     assert_eq!(rt; found.as_str(), "0/1:1: F2 token|");
     Ok(())
 }

@@ -1,8 +1,0 @@
-use Rattle.std.proofs.Common.{◌≡◌, ◌++◌, drop, false}
-use Rattle.herm_lines.specs.StringsReadBack.{unescaped}
-use Rattle.herm_lines.proofs.texts.push_unescaped.Given as goal
-
--- what is written so far, joined with the rest, is the whole
-abbrev pub invariant-loop-byte : goal.invariant-loop-byte
-invariant-loop-byte l =
-    l.out.items ++ unescaped l.after_backslash (drop l.byte-index l.text) ≡ l.fn.out.items ++ unescaped false l.text
