@@ -38,7 +38,6 @@ pub mod Keys
 pub mod Declared
 pub mod DistinctSteps
 pub mod HeldClosed
-pub mod OnePass
 pub mod Deciding
 pub mod DecidedTables
 pub mod DecidedForms

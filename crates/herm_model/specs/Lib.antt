@@ -18,7 +18,6 @@ pub mod Exits
 pub mod FactsOfStatements
 pub mod MissingFacts
 pub mod Labels
-pub mod StraightLines
 pub mod TypedExpressions
 pub mod laws
 pub mod WellFormedTables

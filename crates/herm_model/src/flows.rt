@@ -1,7 +1,6 @@
 // Laws of nodes, the statement table, control paths and labels.
 
 ghost use Rattle.herm_model.specs.laws.FlowLaws.{AcceptedMeansHeld, BeginsFirst, BeginsThere, EdgesLeadThere, ExactLabelsRefuse, ExitsAreOutcomes, FlowingLabelsHold, HeldFactsAreClosed, HoldingFactsAreClosed, MakesAreClosed, NeedsAreClosed, NeedsDiffer, NodesAreStatements, NumbersAreInRange, NumbersRise, OutcomesDiffer, PathsAreCommon, PathsFollowEdges, RefusalsAreDetermined};
-ghost use Rattle.herm_model.specs.StraightLines.{OnePassFindsMissing};
 
 /// The nodes of a process are its statements other than `try`, in the order of the text. Their numbers rise, so that
 /// they differ, and lie from 1 to the number of statements.
@@ -63,10 +62,4 @@ pub fn exact_labels_refuse()
 pub fn refusals_are_determined()
     ensures determined { RefusalsAreDetermined }
     ensures accepted { AcceptedMeansHeld }
-{}
-
-/// In a body without blocks, whose statements go on in one way, one pass that keeps the set of held facts finds exactly
-/// what is missing; each path is the statements before, all going on normally.
-pub fn one_pass_checks_straight_lines()
-    ensures { OnePassFindsMissing }
 {}
