@@ -38,9 +38,10 @@ fn entry_lines(
         first: 0,
         edges: &[],
     };
+    let count = starts.end as usize;
     let mut lines = Lines {
-        code: Vec::new(alloc),
-        landings: Vec::new(alloc),
+        code: Vec::with_capacity(alloc, count)?,
+        landings: Vec::with_capacity(alloc, count)?,
     };
     push_lines(alloc, frame, &exits, code, &mut lines)?;
     Ok(lines)
