@@ -1,3 +1,4 @@
 pub mod Examples
 pub mod Program
+pub mod Within
 pub mod Words

@@ -9,7 +9,7 @@ mod program;
 mod subjects;
 
 pub use commands::{Command, RunOptions, Shows, Source, WordsFault, command_of};
-pub use laws::{command_is_simple, examples};
+pub use laws::{asked_is_within, command_is_simple, examples};
 
 #[cfg(test)]
 mod tests;
