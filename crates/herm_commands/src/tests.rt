@@ -109,30 +109,36 @@ fn words_ask_for_what_the_table_says(rt: HostRuntime) -> Result<(), Fail> {
         assert_eq!(rt; found.as_str(), due, "{text}");
         count = count.saturating_add(1);
     }
-    assert_eq!(rt; count, 216);
+    assert_eq!(rt; count, 345);
     let none = Vec::new(alloc);
     let found = answer(alloc, none.as_slice())?;
     assert_eq!(rt; found.as_str(), "refused");
     Ok(())
 }
 
-#[test]
-fn files_are_64_at_most(rt: HostRuntime) -> Result<(), Fail> {
-    let alloc = rt.alloc();
+// What `command` of so many files answers, and the text that is due where it takes them.
+fn with_files(alloc: Global, command: &str, count: u32) -> Result<(String, String), AllocError> {
     let mut words = Vec::new(alloc);
-    words.push(String::from_str(alloc, "check")?)?;
-    let mut due = String::from_str(alloc, "check")?;
-    for i in 0..64_u32 {
+    words.push(String::from_str(alloc, command)?)?;
+    let mut due = String::from_str(alloc, command)?;
+    for i in 0..count {
         let name = format!(in alloc; "{i}.hm")?;
         due.push_str(" ")?;
         due.push_str(name.as_str())?;
         words.push(name)?;
     }
-    let found = answer(alloc, words.as_slice())?;
-    assert_eq!(rt; found.as_str(), due.as_str());
-    words.push(String::from_str(alloc, "64.hm")?)?;
-    let found = answer(alloc, words.as_slice())?;
-    assert_eq!(rt; found.as_str(), "refused");
+    Ok((answer(alloc, words.as_slice())?, due))
+}
+
+#[test]
+fn files_are_64_at_most(rt: HostRuntime) -> Result<(), Fail> {
+    let alloc = rt.alloc();
+    for command in ["check", "run"] {
+        let (found, due) = with_files(alloc, command, 64)?;
+        assert_eq!(rt; found.as_str(), due.as_str());
+        let (found, _) = with_files(alloc, command, 65)?;
+        assert_eq!(rt; found.as_str(), "refused");
+    }
     Ok(())
 }
 
