@@ -1,0 +1,2 @@
+-- The line on files that are accepted.
+pub mod AcceptedLines
