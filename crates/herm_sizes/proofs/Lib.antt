@@ -1,3 +1,2 @@
 -- How many statements stand within a part of the text, as the code counts them.
-pub mod SizesWithin
 pub mod CountedForms
