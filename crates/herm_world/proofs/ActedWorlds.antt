@@ -18,9 +18,11 @@ use Rattle.herm_waking.proofs.EntriesGrow.{journals-grow}
 use Rattle.herm_machine.specs.declared.order.Got.{Got}
 use Rattle.herm_process.specs.Processes.{ProcessState, IsProcess}
 use Rattle.herm_queue.specs.SeenCells.{seen_action}
+use Rattle.herm_world.specs.Births.{birth_of_process, birth_view}
 use Rattle.herm_world.specs.Doing.{Does}
 use Rattle.herm_world.specs.Places.{Places, seen_of}
 use Rattle.herm_world.specs.Worlds.{Sees, AreTold, IsToldOf}
+use Rattle.herm_world.proofs.BirthsGrow.{birth-stays}
 use Rattle.herm_world.proofs.ActedSees.{alike-one, alike-push, made_by}
 use Rattle.herm_world.proofs.DoesAtReplies.{number-cases, number-none}
 
@@ -67,7 +69,7 @@ module _ (journal : List Entry) (limit : ℕ) (ps : List ProcessState) (s new : 
   grows = journals-grow journal entry_of
 
   -- the process has the entry at the end of its diary, and its stamp as its clock, and nothing else of it that is told changes
-  module _ (diary : left.diary ≡ before.diary ++ entry_of ∷ []) (at_stamp : left.clock ≡ stamp) (number : left.number ≡ before.number) (its_limit : left.limit ≡ before.limit) (free : left.ordered ≡ None) (makers : (q : ℕ) (x : ProcessState) → numbered_from_one q ps ≡ Some x → is_maker_of q (recorded (seen_action does.action)) ≡ false) where
+  module _ (diary : left.diary ≡ before.diary ++ entry_of ∷ []) (at_stamp : left.clock ≡ stamp) (number : left.number ≡ before.number) (its_limit : left.limit ≡ before.limit) (its_birth : left.birth ≡ before.birth) (free : left.ordered ≡ None) (makers : (q : ℕ) (x : ProcessState) → numbered_from_one q ps ≡ Some x → is_maker_of q (recorded (seen_action does.action)) ≡ false) where
     own : (q : ℕ) (x : ProcessState) → nat_eq p q ≡ true → left ≡ x → IsToldOf (journal ++ entry_of ∷ []) limit q x
     own q x same is =
         let was = told.processes p before there in
@@ -75,6 +77,9 @@ module _ (journal : List Entry) (limit : ℕ) (ps : List ProcessState) (s new : 
         record {
           number = ap (λ (x : ProcessState). x.number) (sym is) ∙ number ∙ was.number ∙ at;
           limit_is = ap (λ (x : ProcessState). x.limit) (sym is) ∙ its_limit ∙ was.limit_is;
+          born =
+              ap (λ (x : ProcessState). birth_view x.birth) (sym is) ∙ ap birth_view its_birth ∙ was.born ∙ ap (λ q. birth_of_process q journal) at
+              ∙ sym (birth-stays q journal entry_of (makers q before (ap (λ q. numbered_from_one q ps) (sym at) ∙ there)));
           diary =
               ap (λ (x : ProcessState). x.diary) (sym is) ∙ diary ∙ ap (λ es. es ++ entry_of ∷ []) (was.diary ∙ ap (λ q. part_of_process q journal) at)
               ∙ sym (grows.diaries q ∙ ap (λ b. cond b (part_of_process q journal ++ entry_of ∷ []) (part_of_process q journal)) same);
@@ -90,6 +95,7 @@ module _ (journal : List Entry) (limit : ℕ) (ps : List ProcessState) (s new : 
         record {
           number = was.number;
           limit_is = was.limit_is;
+          born = was.born ∙ sym (birth-stays q journal entry_of (makers q x found));
           diary = was.diary ∙ sym (grows.diaries q ∙ ap (λ b. cond b (part_of_process q journal ++ entry_of ∷ []) (part_of_process q journal)) apart);
           clock =
               was.clock

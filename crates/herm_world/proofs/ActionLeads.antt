@@ -28,6 +28,7 @@ use Rattle.herm_process.specs.Processes.{ProcessState, IsProcess, IsSettled, Com
 use Rattle.herm_queue.specs.CellStates.{CellState}
 use Rattle.herm_queue.specs.SeenCells.{seen, seen_action}
 use Rattle.herm_world.specs.Acting.{ActsAt, first_place_for}
+use Rattle.herm_world.specs.Births.{birth_view}
 use Rattle.herm_world.specs.Doing.{Does}
 use Rattle.herm_world.specs.Orders.{made_in}
 use Rattle.herm_world.specs.Places.{Places, seen_of}
@@ -41,7 +42,7 @@ use Rattle.herm_world.proofs.Led.{ShowsNext, led, journal-acts}
 use Rattle.herm_world.proofs.LocalLeads.{GoesOn, all-limited}
 use Rattle.herm_world.proofs.LookedWorlds.{AreLimited, kept_looked, all-looked, each-told}
 use Rattle.herm_world.proofs.MadeBy.{make_of, made-is, made-number, book-there, maker-is, begins-there, module-there}
-use Rattle.herm_world.proofs.MadeTold.{not-next, pushed-told, begun-told}
+use Rattle.herm_world.proofs.MadeTold.{anybody, not-next, pushed-told, begun-told}
 use Rattle.herm_world.proofs.PlacesSeen.{holds-seen}
 use Rattle.herm_world.proofs.ShownFacts.{limits-are, processes-few, processes-many}
 use Rattle.herm_world.proofs.Stepped.{found-among, acts-now, turn-acts, left-there, moved-acts, acts-stepped}
@@ -144,7 +145,7 @@ module _ (image : Image) (main : ℕ) (works : WorksAsWorld image main) (limits 
   told-with : ((q : ℕ) (x : ProcessState) → numbered_from_one q old ≡ Some x → is_maker_of q (recorded action) ≡ false) → AreTold (w.run.journal ++ entry ∷ []) limits.steps (set_from_one p made.after old) t
   told-with makers =
       acted-told w.run.journal limits.steps old s t told p made.before.clock want made.acts.got stamp woken does made.before made.after made.there diary-is (ap (λ (x : ProcessState). x.clock) made.acts.same) (ap (λ (x : ProcessState). x.number) made.acts.same)
-      (ap (λ (x : ProcessState). x.limit) made.acts.same) (ap (λ (x : ProcessState). x.ordered) made.acts.same) makers
+      (ap (λ (x : ProcessState). x.limit) made.acts.same) (ap (λ (x : ProcessState). x.birth) made.acts.same) (ap (λ (x : ProcessState). x.ordered) made.acts.same) makers
 
   abbrev pub qs_then : List (CodeState ⊤)
   qs_then = set_from_one p left.0 b.system.processes
@@ -186,7 +187,7 @@ module _ (image : Image) (main : ℕ) (works : WorksAsWorld image main) (limits 
     makers : (q : ℕ) (x : ProcessState) → numbered_from_one q old ≡ Some x → is_maker_of q (recorded action) ≡ false
     makers q x found = maker-of q ∙ ap (λ n. nat_eq n q) (number-is ∙ ap suc (set-length_from_one p made.after old)) ∙ not-next old q x found
 
-    module _ (maker : ProcNo) (at_stamp : Stamp) (stamp_of : at_stamp.0 ≡ stamp) (new : List ProcessState) (begins : Begins image limits.steps maker at_stamp m.0 m.1 m.2 mid new) where
+    module _ (maker : ProcNo) (own_maker : maker.number ≡ p) (at_stamp : Stamp) (stamp_of : at_stamp.0 ≡ stamp) (new : List ProcessState) (begins : Begins image limits.steps maker at_stamp m.0 m.1 m.2 mid new) where
       with-it : HoldsThen new
       with-it =
           let first_state = begins.comes main in
@@ -195,6 +196,7 @@ module _ (image : Image) (main : ℕ) (works : WorksAsWorld image main) (limits 
           let is_maker : is_maker_of (suc (length (set_from_one p made.after old))) (recorded action) ≡ true =
           ap (λ q. is_maker_of q (recorded action)) (sym number-is) ∙ ap (λ a. is_maker_of m.1 (recorded a)) action-is ∙ maker-is m.0 m.1 m.2 in
           let begun_told = begun-told w.run.journal limits.steps (set_from_one p made.after old) t begins.begun entry told_set is_maker (ap (λ (x : ProcessState). x.number) begins.parts ∙ number-is) (ap (λ (x : ProcessState). x.limit) begins.parts)
+          (subst (λ n. 1 ≤ n) (sym (set-length_from_one p made.after old)) (anybody old p made.before made.there)) (ap (λ (x : ProcessState). birth_view x.birth) begins.parts ∙ ap₂ (λ m n. (m, n)) own_maker stamp_of)
           (ap (λ (x : ProcessState). x.diary) begins.parts) (ap (λ (x : ProcessState). x.clock) begins.parts ∙ stamp_of) (ap (λ (x : ProcessState). x.ordered) begins.parts) in
           record {
             states = qs_then ++ first_state.0 ∷ [];
@@ -212,9 +214,9 @@ module _ (image : Image) (main : ℕ) (works : WorksAsWorld image main) (limits 
         let z = begins-there (nameless image main) action (set_bare_process p left.0 (set_bare does.place (after action holding) b.system)) u.0 m (sym born-is ∙ some) u.1 in
         module-there image main m.0 m.1 (cell tt (an_inport m.2) no_parts) z.0 z.1
 
-  pub holds-then : (maker : ProcNo) (at_stamp : Stamp) → at_stamp.0 ≡ stamp → (new : List ProcessState) → (o : Option (ℕ × ℕ × ℕ)) → born ≡ o → BeginsMade image limits.steps maker at_stamp o mid new → HoldsThen new
-  holds-then maker at_stamp stamp_of new None is begins = subst HoldsThen (sym begins) (alone is)
-  holds-then maker at_stamp stamp_of new (Some m) is begins = with-it m is maker at_stamp stamp_of new begins
+  pub holds-then : (maker : ProcNo) → maker.number ≡ p → (at_stamp : Stamp) → at_stamp.0 ≡ stamp → (new : List ProcessState) → (o : Option (ℕ × ℕ × ℕ)) → born ≡ o → BeginsMade image limits.steps maker at_stamp o mid new → HoldsThen new
+  holds-then maker own_maker at_stamp stamp_of new None is begins = subst HoldsThen (sym begins) (alone is)
+  holds-then maker own_maker at_stamp stamp_of new (Some m) is begins = with-it m is maker own_maker at_stamp stamp_of new begins
 
   -- and behind it those looked at again whom it wakes
   module _ (new : List ProcessState) (then_ : HoldsThen new) where

@@ -14,6 +14,7 @@ pub mod OrderCases
 pub mod ActedSees
 pub mod Noting
 pub mod Awaiting
+pub mod BirthsGrow
 pub mod LookedSees
 pub mod ActedWorlds
 pub mod NamesRecorded

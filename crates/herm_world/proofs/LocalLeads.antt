@@ -17,6 +17,7 @@ use Rattle.herm_waking.specs.Unnamed.{Unnamed, bare_turn, bare_stands, set_bare_
 use Rattle.herm_waking.specs.UnnamedRounds.{BareWorked, bare_stepped}
 use Rattle.herm_process.specs.Processes.{ProcessState, IsProcess, Comes}
 use Rattle.herm_world.specs.Acting.{StepsTo}
+use Rattle.herm_world.specs.Births.{birth_view}
 use Rattle.herm_world.specs.Places.{Places}
 use Rattle.herm_world.specs.Steps.{MadeLocal, LookedAt}
 use Rattle.herm_world.specs.Turns.{TurnsAs}
@@ -45,12 +46,13 @@ pub record GoesOn (image : Image) (main : ℕ) (limits : Limits) (argument : Tex
 pub all-limited : (journal : List Entry) (limit : ℕ) (ps : List ProcessState) (s : Places) → AreTold journal limit ps s → AreLimited ps limit
 all-limited journal limit ps s told q x there = (told.processes q x there).limit_is
 
--- a local step leaves number, limit, diary and clock
+-- a local step leaves number, limit, birth, diary and clock
 module _ (journal : List Entry) (limit p : ℕ) (old new : List ProcessState) (s : Places) (made : MadeLocal p old new) (told : AreTold journal limit old s) where
   of-after : IsToldOf journal limit p made.after
   of-after = let was = told.processes p made.before made.there in record {
     number = ap (λ (x : ProcessState). x.number) made.same ∙ was.number;
     limit_is = ap (λ (x : ProcessState). x.limit) made.same ∙ was.limit_is;
+    born = ap (λ (x : ProcessState). birth_view x.birth) made.same ∙ was.born;
     diary = ap (λ (x : ProcessState). x.diary) made.same ∙ was.diary;
     clock = ap (λ (x : ProcessState). x.clock) made.same ∙ was.clock;
     free = ap (λ (x : ProcessState). x.ordered) made.same ∙ was.free;

@@ -51,7 +51,7 @@ module _ (image : Image) (main : ℕ) (works : WorksAsWorld image main) (limits 
     where
       of : (q : ℕ) (x : ProcessState) → numbered_from_one q (p ∷ []) ≡ Some x → IsToldOf [] limits.steps q x
       of zero x is = none-not_some is
-      of (suc zero) x is = subst (IsToldOf [] limits.steps 1) (some-injective is) (record { number = first.number; limit_is = first.its_limit; diary = first.diary; clock = first.clock; free = first.free })
+      of (suc zero) x is = subst (IsToldOf [] limits.steps 1) (some-injective is) (record { number = first.number; limit_is = first.its_limit; born = first.born; diary = first.diary; clock = first.clock; free = first.free })
       of (suc (suc i)) x is = none-not_some is
 
   pub opened-shows : IsTrue (is_text argument) → 1 ≤ limits.processes

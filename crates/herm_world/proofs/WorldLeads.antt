@@ -127,7 +127,7 @@ module _ (img : CodeImage) (main : ℕ) where
           subst (λ n. m.0 < n) (length-map module_view img.modules)
           (acting.its-module (image_view img) main is.works is.limits is.argument is.events is.run is.bare (is.shows).shows P.processes.items Q.processes.items (places_of P.places) (places_of Q.places) P.ready.members (is.shows).sees (is.shows).told p stamp.0 woken born made (turn made.before made.there) m e)
 
-      module _ (l : Limits) (maker : ProcNo) (R : Parts) (same : (places_of P.places).book.held.limits ≡ l) (begins : BeginsMade (image_view img) l.steps maker stamp born Q.processes.items R.processes.items) (places : R.places ≡ Q.places) (ready : R.ready ≡ Q.ready) (ready_before : Q.ready ≡ P.ready) where
+      module _ (l : Limits) (maker : ProcNo) (own_maker : maker.number ≡ p) (R : Parts) (same : (places_of P.places).book.held.limits ≡ l) (begins : BeginsMade (image_view img) l.steps maker stamp born Q.processes.items R.processes.items) (places : R.places ≡ Q.places) (ready : R.ready ≡ Q.ready) (ready_before : Q.ready ≡ P.ready) where
         -- what the world holds behind it, in each run that it shows
         module _ (works : WorksAsWorld (image_view img) main) (limits : Limits) (argument : Text) (events : List Event) (w : Worked (CodeState Name)) (b : BareWorked (CodeState ⊤)) (shown : ShowsRun limits argument events w b (world_at P dead)) where
           its-limits : l.steps ≡ limits.steps
@@ -139,7 +139,7 @@ module _ (img : CodeImage) (main : ℕ) where
           holds : Holds R.processes.items
           holds =
               acting.holds-then (image_view img) main works limits argument events w b shown.shows P.processes.items Q.processes.items (places_of P.places) (places_of Q.places) P.ready.members shown.sees shown.told p stamp.0 woken born made (turn made.before made.there)
-              maker stamp refl R.processes.items born refl (subst (λ n. BeginsMade (image_view img) n maker stamp born Q.processes.items R.processes.items) its-limits begins)
+              maker own_maker stamp refl R.processes.items born refl (subst (λ n. BeginsMade (image_view img) n maker stamp born Q.processes.items R.processes.items) its-limits begins)
 
           pub behind-alive : AreAlive R.processes.items
           behind-alive = alike-alive (image_view img) main R.processes.items _ (holds.sees_then).processes

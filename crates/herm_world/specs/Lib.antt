@@ -1,4 +1,5 @@
 pub mod Acting
+pub mod Births
 pub mod Counted
 pub mod Doing
 pub mod Going

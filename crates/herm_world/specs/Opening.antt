@@ -8,6 +8,7 @@ use Rattle.herm_instructions.specs.Images.{Image}
 use Rattle.herm_code_machine.specs.CodeStates.{CodeState}
 use Rattle.herm_code_worlds.specs.CodeWorlds.{nameless}
 use Rattle.herm_process.specs.Processes.{ProcessState, IsProcess}
+use Rattle.herm_world.specs.Births.{birth_view}
 use Rattle.herm_world.specs.Doing.{AreRecorded}
 use Rattle.herm_world.specs.Places.{Places, seen_of, waiters_of}
 
@@ -21,13 +22,14 @@ pub record AreOpening (limits : Limits) (argument : Text) (s : Places) : Type 0 
   pub waiters : waiters_of s ≡ None ∷ None ∷ []
   pub recorded : AreRecorded [] s
 
--- The process of main stands for the state in which it begins, at port 1, and nothing is told of it yet.
+-- The process of main stands for the state in which it begins, at port 1; nobody made it, and nothing is told of it yet.
 pub record IsFirst (image : Image) (main limit : ℕ) (p : ProcessState) : Type 0 where
   pub state : CodeState ⊤
   pub begins : (nameless image main).begin main 1 (cell tt (an_inport 1) no_parts) ≡ Some state
   pub stands : IsProcess image main p state
   pub number : p.number ≡ 1
   pub its_limit : p.limit ≡ limit
+  pub born : birth_view p.birth ≡ (0, 0)
   pub diary : p.diary ≡ []
   pub clock : p.clock ≡ 0
   pub free : p.ordered ≡ None

@@ -19,6 +19,7 @@ use Rattle.herm_code_worlds.specs.CodeWorlds.{named, nameless, Shows}
 use Rattle.herm_code_worlds.specs.laws.WorldOfCode.{WorksAsWorld}
 use Rattle.herm_process.specs.Processes.{ProcessState, IsProcess}
 use Rattle.herm_ready.specs.Table.{ReadySet}
+use Rattle.herm_world.specs.Births.{birth_of_process, birth_view}
 use Rattle.herm_world.specs.Doing.{AreRecorded}
 use Rattle.herm_world.specs.Places.{Places, seen_of, waiters_of}
 use Rattle.herm_world.specs.declared.world.WorldStep.{WorldStep}
@@ -52,21 +53,22 @@ pub record Sees (image : Image) (main : ℕ) (ps : List ProcessState) (s : Place
   pub ready_is : ready ≡ b.kept.ready
   pub waiters : waiters_of s ≡ b.kept.waiters
 
--- A process of this number, with the limit of steps, has the diary and the clock that a journal gives it, and no order is out.
+-- A process of this number, with the limit of steps, has the birth, the diary and the clock that a journal gives it, and no order is out.
 pub record IsToldOf (journal : List Entry) (limit p : ℕ) (x : ProcessState) : Type 0 where
   pub number : x.number ≡ p
   pub limit_is : x.limit ≡ limit
+  pub born : birth_view x.birth ≡ birth_of_process p journal
   pub diary : x.diary ≡ part_of_process p journal
   pub clock : x.clock ≡ clock_of_process p journal
   pub free : x.ordered ≡ None
 
--- Diaries and histories are those of the journal. Language reference, "Journals".
+-- Births, diaries and histories are those of the journal. Language reference, "Journals".
 pub record AreTold (journal : List Entry) (limit : ℕ) (ps : List ProcessState) (s : Places) : Type 0 where
   pub processes : (p : ℕ) (x : ProcessState) → numbered_from_one p ps ≡ Some x → IsToldOf journal limit p x
   pub fresh : (p : ℕ) → numbered_from_one p ps ≡ None → part_of_process p journal ≡ []
   pub cells : AreRecorded journal s
 
--- The world shows the run along these events from the start, and has its diaries and histories. Language reference, "The system".
+-- The world shows the run along these events from the start, and has its births, diaries and histories. Language reference, "The system".
 pub record ShowsRun (limits : Limits) (argument : Text) (events : List Event) (w : Worked (CodeState Name)) (b : BareWorked (CodeState ⊤)) (world : WorldState) : Type 0 where
   pub alive : world.is_dead ≡ false
   pub shows : Shows world.image world.main limits argument events w b

@@ -12,7 +12,7 @@ ghost use Rattle.herm_code_machine.specs.CodeTypes.{first_type};
 ghost use Rattle.herm_code_machine.specs.ReadyCode.{labelled_image};
 ghost use Rattle.herm_waking.specs.KeptRounds.{Worked, first_worked};
 ghost use Rattle.herm_waking.specs.Numbers.{has, next_from as first_from};
-ghost use Rattle.herm_waking.specs.Unnamed.{bare_standing};
+ghost use Rattle.herm_waking.specs.Unnamed.{bare_can_step, bare_standing};
 ghost use Rattle.herm_waking.specs.UnnamedRounds.{BareWorked, bare_first};
 ghost use Rattle.herm_model.specs.Values.{Name};
 ghost use Rattle.herm_events.specs.View.{entries_view};
@@ -104,9 +104,10 @@ impl<'i> World<'i> {
         })
     }
 
-    /// Whether the process of this number can step.
+    /// Whether the process of this number can step: exactly where it can in each run that the world shows.
     pub fn can_step(&self, p: u32) -> bool
         ensures kept { result ≡ has p self.now.ready.members }
+        ensures exact { (limits : limits_of.Limits) (argument : Text) (events : List Event) (w : Worked (CodeState Name)) (b : BareWorked (CodeState ⊤)) → ShowsRun limits argument events w b self.now → result ≡ bare_can_step (nameless self.now.image self.now.main) b.system p }
     {
         self.parts.ready.contains(p)
     }
@@ -118,8 +119,8 @@ impl<'i> World<'i> {
         let _dead = self.is_dead;
     }
 
-    /// Whether a process of this number was made.
-    pub(crate) fn is_made(&self, p: u32) -> bool
+    /// Whether a process of this number was made, as is asked of that of a step.
+    pub fn is_made(&self, p: u32) -> bool
         ensures made { (result ≡ true) ↔ ((1 ≤ p) × (p ≤ length self.now.processes)) }
     {
         p >= 1 && p as usize <= self.parts.processes.len()
@@ -134,8 +135,8 @@ impl<'i> World<'i> {
         self.parts.ready.next_from(from)
     }
 
-    /// Whether no process can step.
-    pub(crate) fn is_over(&self) -> bool
+    /// Whether no process can step, as is asked of a world that is reported.
+    pub fn is_over(&self) -> bool
         ensures over { (result ≡ true) ↔ (self.now.ready.members ≡ []) }
     {
         self.parts.ready.is_empty()
@@ -226,6 +227,7 @@ impl<'i> World<'i> {
     /// Rounds over the processes that can step, until none can.
     pub fn rounds(&mut self) -> Result<(), AllocError>
         ensures ends { OnOk result ((limits : limits_of.Limits) (argument : Text) (events : List Event) (w : Worked (CodeState Name)) (b : BareWorked (CodeState ⊤)) → ShowsRun limits argument events w b self.old → LeadsToEnd limits argument events w b self.old self.new) }
+        ensures nobody { OnOk result (self.new.ready.members ≡ []) }
         ensures failed { IsErr result → self.new.is_dead ≡ true }
         ensures dead { self.old.is_dead ≡ true → IsErr result }
         ensures same { IsOfSame self.old self.new }
@@ -238,15 +240,18 @@ impl<'i> World<'i> {
     }
 
     /// What is reported of the run, where no process can step: its journal by stamp and then by process, what became of each process, what
-    /// is queued at each port, and its numbers.
+    /// is queued at each port, and its numbers. A dead world has none.
     pub fn report(self, alloc: Global) -> Result<Report, AllocError>
-        requires alive { self.is_dead ≡ false }
-        requires nobody { self.ready.members ≡ [] }
+        requires nobody { self.is_dead ≡ false → self.ready.members ≡ [] }
         ensures journal { IfOk result (λ r. (limits : limits_of.Limits) (argument : Text) (events : List Event) (w : Worked (CodeState Name)) (b : BareWorked (CodeState ⊤)) → ShowsRun limits argument events w b self.entry → entries_view r.journal.entries.items ≡ ordered w.run.journal) }
         ensures ends { IfOk result (λ r. (limits : limits_of.Limits) (argument : Text) (events : List Event) (w : Worked (CodeState Name)) (b : BareWorked (CodeState ⊤)) → ShowsRun limits argument events w b self.entry → proc_ends_view r.ends.items ≡ bare_fates (nameless self.entry.image self.entry.main) b.system) }
         ensures queued { IfOk result (λ r. (limits : limits_of.Limits) (argument : Text) (events : List Event) (w : Worked (CodeState Name)) (b : BareWorked (CodeState ⊤)) → ShowsRun limits argument events w b self.entry → numbered_queues r.queued.items ≡ bare_queues b.system) }
         ensures counts { IfOk result (λ r. (limits : limits_of.Limits) (argument : Text) (events : List Event) (w : Worked (CodeState Name)) (b : BareWorked (CodeState ⊤)) → ShowsRun limits argument events w b self.entry → counts_view r.counts ≡ bare_counts (nameless self.entry.image self.entry.main) b.system) }
+        ensures dead { self.entry.is_dead ≡ true → IsErr result }
     {
+        if self.is_dead {
+            return Err(AllocError);
+        }
         let report = report_of(alloc, self.parts)?;
         Ok(report)
     }

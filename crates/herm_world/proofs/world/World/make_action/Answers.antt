@@ -53,28 +53,28 @@ pub look_at-requires-clause-alive : goal.look_at-requires-clause-alive
 look_at-requires-clause-alive c =
     acted-alive c.self.inside.image.now c.self.inside.main c.args.who.number c.self.inside.parts c.self.inside.is_dead (subst (λ w. Turns w c.args.who.number) (sym c.self.view_is) c.requires.turn)
     c.act.new.self c.in_ok-acted.acted.stamp (numbers_in c.in_ok-acted.acted.woken) (option_map made_view c.in_ok-acted.acted.made) c.in_ok-acted.ensures.made
-    (limits_view c.self.inside.limits) c.args.who c.begin_made.new.self (c.self.invariant (ap (λ (w : WorldState). w.is_dead) c.self.view_is ∙ c.requires.alive)).0 c.in_ok-begin_made.ensures.begins c.in_ok-begin_made.ensures.places c.in_ok-begin_made.ensures.ready c.in_ok-acted.ensures.ready
+    (limits_view c.self.inside.limits) c.args.who refl c.begin_made.new.self (c.self.invariant (ap (λ (w : WorldState). w.is_dead) c.self.view_is ∙ c.requires.alive)).0 c.in_ok-begin_made.ensures.begins c.in_ok-begin_made.ensures.places c.in_ok-begin_made.ensures.ready c.in_ok-acted.ensures.ready
     (c.self.invariant (ap (λ (w : WorldState). w.is_dead) c.self.view_is ∙ c.requires.alive)).1
 
 pub look_at-requires-clause-room : goal.look_at-requires-clause-room
 look_at-requires-clause-room c =
     acted-room c.self.inside.image.now c.self.inside.main c.args.who.number c.self.inside.parts c.self.inside.is_dead (subst (λ w. Turns w c.args.who.number) (sym c.self.view_is) c.requires.turn)
     c.act.new.self c.in_ok-acted.acted.stamp (numbers_in c.in_ok-acted.acted.woken) (option_map made_view c.in_ok-acted.acted.made) c.in_ok-acted.ensures.made
-    (limits_view c.self.inside.limits) c.args.who c.begin_made.new.self (c.self.invariant (ap (λ (w : WorldState). w.is_dead) c.self.view_is ∙ c.requires.alive)).0 c.in_ok-begin_made.ensures.begins c.in_ok-begin_made.ensures.places c.in_ok-begin_made.ensures.ready c.in_ok-acted.ensures.ready
+    (limits_view c.self.inside.limits) c.args.who refl c.begin_made.new.self (c.self.invariant (ap (λ (w : WorldState). w.is_dead) c.self.view_is ∙ c.requires.alive)).0 c.in_ok-begin_made.ensures.begins c.in_ok-begin_made.ensures.places c.in_ok-begin_made.ensures.ready c.in_ok-acted.ensures.ready
     (c.self.invariant (ap (λ (w : WorldState). w.is_dead) c.self.view_is ∙ c.requires.alive)).1
 
 pub look_at_woken-requires-clause-alive : goal.look_at_woken-requires-clause-alive
 look_at_woken-requires-clause-alive c =
     subst AreAlive (sym c.in_ok-look_at.ensures.processes) (acted-alive c.self.inside.image.now c.self.inside.main c.args.who.number c.self.inside.parts c.self.inside.is_dead (subst (λ w. Turns w c.args.who.number) (sym c.self.view_is) c.requires.turn)
     c.act.new.self c.in_ok-acted.acted.stamp (numbers_in c.in_ok-acted.acted.woken) (option_map made_view c.in_ok-acted.acted.made) c.in_ok-acted.ensures.made
-    (limits_view c.self.inside.limits) c.args.who c.begin_made.new.self (c.self.invariant (ap (λ (w : WorldState). w.is_dead) c.self.view_is ∙ c.requires.alive)).0 c.in_ok-begin_made.ensures.begins c.in_ok-begin_made.ensures.places c.in_ok-begin_made.ensures.ready c.in_ok-acted.ensures.ready
+    (limits_view c.self.inside.limits) c.args.who refl c.begin_made.new.self (c.self.invariant (ap (λ (w : WorldState). w.is_dead) c.self.view_is ∙ c.requires.alive)).0 c.in_ok-begin_made.ensures.begins c.in_ok-begin_made.ensures.places c.in_ok-begin_made.ensures.ready c.in_ok-acted.ensures.ready
     (c.self.invariant (ap (λ (w : WorldState). w.is_dead) c.self.view_is ∙ c.requires.alive)).1)
 
 pub look_at_woken-requires-clause-room : goal.look_at_woken-requires-clause-room
 look_at_woken-requires-clause-room c =
     let few = acted-room c.self.inside.image.now c.self.inside.main c.args.who.number c.self.inside.parts c.self.inside.is_dead (subst (λ w. Turns w c.args.who.number) (sym c.self.view_is) c.requires.turn)
     c.act.new.self c.in_ok-acted.acted.stamp (numbers_in c.in_ok-acted.acted.woken) (option_map made_view c.in_ok-acted.acted.made) c.in_ok-acted.ensures.made
-    (limits_view c.self.inside.limits) c.args.who c.begin_made.new.self (c.self.invariant (ap (λ (w : WorldState). w.is_dead) c.self.view_is ∙ c.requires.alive)).0 c.in_ok-begin_made.ensures.begins c.in_ok-begin_made.ensures.places c.in_ok-begin_made.ensures.ready c.in_ok-acted.ensures.ready
+    (limits_view c.self.inside.limits) c.args.who refl c.begin_made.new.self (c.self.invariant (ap (λ (w : WorldState). w.is_dead) c.self.view_is ∙ c.requires.alive)).0 c.in_ok-begin_made.ensures.begins c.in_ok-begin_made.ensures.places c.in_ok-begin_made.ensures.ready c.in_ok-acted.ensures.ready
     (c.self.invariant (ap (λ (w : WorldState). w.is_dead) c.self.view_is ∙ c.requires.alive)).1 in
     subst (λ n. n ≤ c.look_at.new.self.ready.limit) (ap length (sym c.in_ok-look_at.ensures.processes)) (subst (λ n. length c.begin_made.new.self.processes.items ≤ n) (sym c.in_ok-look_at.ensures.limit) few)
 
@@ -83,7 +83,7 @@ invariant_of-self-2 c =
     stays-world c.self.inside.image.now c.self.inside.main (limits_view c.self.inside.limits) c.args.who.number c.self.inside.parts c.look_at_woken.new.self c.self.inside.is_dead (c.self.invariant (ap (λ (w : WorldState). w.is_dead) c.self.view_is ∙ c.requires.alive)).0 (c.self.invariant (ap (λ (w : WorldState). w.is_dead) c.self.view_is ∙ c.requires.alive)).1
     (action-leads c.self.inside.image.now c.self.inside.main c.args.who.number c.self.inside.parts c.self.inside.is_dead (subst (λ w. Turns w c.args.who.number) (sym c.self.view_is) c.requires.turn)
     c.act.new.self c.in_ok-acted.acted.stamp (numbers_in c.in_ok-acted.acted.woken) (option_map made_view c.in_ok-acted.acted.made) c.in_ok-acted.ensures.made
-    (limits_view c.self.inside.limits) c.args.who c.begin_made.new.self (c.self.invariant (ap (λ (w : WorldState). w.is_dead) c.self.view_is ∙ c.requires.alive)).0 c.in_ok-begin_made.ensures.begins c.in_ok-begin_made.ensures.places c.in_ok-begin_made.ensures.ready c.in_ok-acted.ensures.ready
+    (limits_view c.self.inside.limits) c.args.who refl c.begin_made.new.self (c.self.invariant (ap (λ (w : WorldState). w.is_dead) c.self.view_is ∙ c.requires.alive)).0 c.in_ok-begin_made.ensures.begins c.in_ok-begin_made.ensures.places c.in_ok-begin_made.ensures.ready c.in_ok-acted.ensures.ready
     c.look_at_woken.new.self (c.self.invariant (ap (λ (w : WorldState). w.is_dead) c.self.view_is ∙ c.requires.alive)).1 (c.in_ok-look_at_woken.ensures.processes ∙ c.in_ok-look_at.ensures.processes)
     (places_of c.look_at.new.self.places, c.look_at.new.self.ready.members, c.in_ok-look_at.ensures.looked, subst (λ ps. LookedAtEach (numbers_in c.in_ok-acted.acted.woken) ps (places_of c.look_at.new.self.places) c.look_at.new.self.ready.members (places_of c.look_at_woken.new.self.places) c.look_at_woken.new.self.ready.members) c.in_ok-look_at.ensures.processes c.in_ok-look_at_woken.ensures.looked))
     (c.in_ok-look_at_woken.ensures.limit ∙ c.in_ok-look_at.ensures.limit ∙ ap (λ (r : ReadySet). r.limit) (c.in_ok-begin_made.ensures.ready ∙ c.in_ok-acted.ensures.ready))
@@ -93,6 +93,6 @@ returns-clause-leads c =
     subst (λ w. LeadsWorld w (world_at c.self.inside.image.now c.self.inside.main c.look_at_woken.new.self false) c.args.who.number) c.self.view_is
     (action-leads c.self.inside.image.now c.self.inside.main c.args.who.number c.self.inside.parts c.self.inside.is_dead (subst (λ w. Turns w c.args.who.number) (sym c.self.view_is) c.requires.turn)
     c.act.new.self c.in_ok-acted.acted.stamp (numbers_in c.in_ok-acted.acted.woken) (option_map made_view c.in_ok-acted.acted.made) c.in_ok-acted.ensures.made
-    (limits_view c.self.inside.limits) c.args.who c.begin_made.new.self (c.self.invariant (ap (λ (w : WorldState). w.is_dead) c.self.view_is ∙ c.requires.alive)).0 c.in_ok-begin_made.ensures.begins c.in_ok-begin_made.ensures.places c.in_ok-begin_made.ensures.ready c.in_ok-acted.ensures.ready
+    (limits_view c.self.inside.limits) c.args.who refl c.begin_made.new.self (c.self.invariant (ap (λ (w : WorldState). w.is_dead) c.self.view_is ∙ c.requires.alive)).0 c.in_ok-begin_made.ensures.begins c.in_ok-begin_made.ensures.places c.in_ok-begin_made.ensures.ready c.in_ok-acted.ensures.ready
     c.look_at_woken.new.self (c.self.invariant (ap (λ (w : WorldState). w.is_dead) c.self.view_is ∙ c.requires.alive)).1 (c.in_ok-look_at_woken.ensures.processes ∙ c.in_ok-look_at.ensures.processes)
     (places_of c.look_at.new.self.places, c.look_at.new.self.ready.members, c.in_ok-look_at.ensures.looked, subst (λ ps. LookedAtEach (numbers_in c.in_ok-acted.acted.woken) ps (places_of c.look_at.new.self.places) c.look_at.new.self.ready.members (places_of c.look_at_woken.new.self.places) c.look_at_woken.new.self.ready.members) c.in_ok-look_at.ensures.processes c.in_ok-look_at_woken.ensures.looked))
