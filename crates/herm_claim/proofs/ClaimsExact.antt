@@ -5,10 +5,11 @@ use Rattle.herm_journal.specs.Entries.{Text}
 use Rattle.herm_system.specs.Reports.{Report}
 use Rattle.herm_compile.specs.Refused.{AreRefused}
 use Rattle.herm_compile.specs.declared.fault.Fault.{Fault}
-use Rattle.herm_claim.specs.Claim.{bytes_of, AreAccepted, Runs, Refusals, Claim}
-use Rattle.herm_claim.specs.laws.ClaimLaws.{FaultsAreRefused, AcceptedAreRun, IsClaimed, StatusesAreFive}
+use Rattle.herm_claim.specs.Claim.{bytes_of, AreAccepted, Refusals, Claim}
+use Rattle.herm_claim.specs.Purposes.{Purpose}
+use Rattle.herm_claim.specs.laws.ClaimLaws.{FaultsAreRefused, AcceptedAreOtherwise, IsClaimed, StatusesAreFive}
 use Rattle.herm_claim.proofs.Refusing.{never-refused}
-use Rattle.herm_claim.proofs.Running.{run-status}
+use Rattle.herm_claim.proofs.Running.{accepted-status}
 
 none-or-some : (faults : List Fault) → (faults ≡ []) ⊎ (faults ≢ [])
 none-or-some [] = inl refl
@@ -20,14 +21,14 @@ refused-by files status text told faults r others refused (inl e) = absurd (neve
 refused-by files status text told faults r others refused (inr some) = r.status_is some
 
 pub faults-refused : FaultsAreRefused
-faults-refused files status text told c others refused = refused-by files status text told c.faults c.refusals others refused (none-or-some c.faults)
+faults-refused purpose files status text told c others refused = refused-by files status text told c.faults c.refusals others refused (none-or-some c.faults)
 
-claimed-by : (files : List File) (status : ℕ) (text : Text) (told : Option Report) (c : Claim files status text told) → (c.faults ≡ []) ⊎ (c.faults ≢ []) → IsClaimed status
-claimed-by files status text told c (inl e) = inr (run-status (bytes_of files) status text told (c.runs e))
-claimed-by files status text told c (inr some) = inl ((c.refusals).status_is some)
+claimed-by : (purpose : Purpose) (files : List File) (status : ℕ) (text : Text) (told : Option Report) (c : Claim purpose files status text told) → (c.faults ≡ []) ⊎ (c.faults ≢ []) → IsClaimed status
+claimed-by purpose files status text told c (inl e) = inr (accepted-status purpose (bytes_of files) status text told (c.accepts e))
+claimed-by purpose files status text told c (inr some) = inl ((c.refusals).status_is some)
 
 pub five-statuses : StatusesAreFive
-five-statuses files status text told c = claimed-by files status text told c (none-or-some c.faults)
+five-statuses purpose files status text told c = claimed-by purpose files status text told c (none-or-some c.faults)
 
 other-status : (status : ℕ) → (status ≡ 0) ⊎ ((status ≡ 6) ⊎ ((status ≡ 7) ⊎ (status ≡ 8))) → status ≢ 1
 other-status status (inl e) = λ one. absurd (omega arith)
@@ -35,5 +36,5 @@ other-status status (inr (inl e)) = λ one. absurd (omega arith)
 other-status status (inr (inr (inl e))) = λ one. absurd (omega arith)
 other-status status (inr (inr (inr e))) = λ one. absurd (omega arith)
 
-pub accepted-run : AcceptedAreRun
-accepted-run files status text told c are = other-status status (run-status (bytes_of files) status text told (c.runs ((c.refusals).only are)))
+pub accepted-otherwise : AcceptedAreOtherwise
+accepted-otherwise purpose files status text told c are = other-status status (accepted-status purpose (bytes_of files) status text told (c.accepts ((c.refusals).only are)))

@@ -8,6 +8,7 @@ use Rattle.herm_compile.specs.Refused.{AreRefused}
 use Rattle.herm_compile.specs.declared.fault.Fault.{Fault}
 use Rattle.herm_compile.proofs.OneAcceptanceLaws.{accepted_or_refused}
 use Rattle.herm_claim.specs.Claim.{names_of, bytes_of, AreAccepted, Claim}
+use Rattle.herm_claim.specs.Purposes.{Purpose}
 use Rattle.herm_claim.specs.RefusalLines.{refusals_text}
 
 -- a list that is seen as one with elements has elements
@@ -27,10 +28,10 @@ some-faults files faults (inr (inr (inr unaccepted))) = some-as _ _ faults unacc
 pub never-refused : (files : List (List ℕ)) (faults : List Fault) → AreAccepted files → AreRefused files faults → ⊥
 never-refused files faults are refused = accepted_or_refused files are.types are.processes are.main faults are.program are.each refused
 
-pub claim-of-refusal : (files : List File) (faults : List Fault) (text : Text) → AreRefused (bytes_of files) faults → text ≡ refusals_text (names_of files) faults → Claim files 1 text None
-claim-of-refusal files faults text refused lines = record {
+pub claim-of-refusal : (purpose : Purpose) (files : List File) (faults : List Fault) (text : Text) → AreRefused (bytes_of files) faults → text ≡ refusals_text (names_of files) faults → Claim purpose files 1 text None
+claim-of-refusal purpose files faults text refused lines = record {
   faults = faults;
-  runs = λ e. absurd (some-faults (bytes_of files) faults refused e);
+  accepts = λ e. absurd (some-faults (bytes_of files) faults refused e);
   refusals = record {
     first = λ some. refused;
     none = λ e. absurd (some-faults (bytes_of files) faults refused e);

@@ -1,4 +1,4 @@
--- The claim of files that are run.
+-- The claim of files that are accepted.
 use Rattle.std.proofs.Common.{◌≡◌, ◌≢◌, ◌⊎◌, inl, inr, ℕ, List, [], ◌∷◌, length, Bool, true, false, cond, Option, Some, None, refl, sym, ap, subst, ◌∙◌}
 use Rattle.herm_edge.specs.Shelf.{File}
 use Rattle.herm_model.specs.Lists.{IsIn, any_pass}
@@ -14,18 +14,19 @@ use Rattle.herm_system.specs.Statuses.{status_by}
 use Rattle.herm_source.specs.Modules.{Program}
 use Rattle.herm_source.specs.Instance.{source}
 use Rattle.herm_source.specs.AcceptedRuns.{AreCodesOf}
-use Rattle.herm_claim.specs.Claim.{bytes_of, AreAccepted, Runs, Claim}
+use Rattle.herm_claim.specs.Claim.{bytes_of, AreAccepted, Runs, Checks, Accepts, Claim}
+use Rattle.herm_claim.specs.Purposes.{Purpose, check, run, Options}
 use Rattle.herm_claim.specs.laws.ClaimLaws.{IsClaimed}
 
 -- processes that have codes are accepted
-coded-accepted : (program : Program) (ps : List Process) (codes : List Module) → AreCodesOf program ps codes → (p : Process) → IsIn p ps → IsAccepted program.types p
+pub coded-accepted : (program : Program) (ps : List Process) (codes : List Module) → AreCodesOf program ps codes → (p : Process) → IsIn p ps → IsAccepted program.types p
 coded-accepted program [] codes are p inside = absurd inside
 coded-accepted program (q ∷ qs) [] are p inside = absurd are
 coded-accepted program (q ∷ qs) (c ∷ cs) ((label, is, exact, accepted), rest) p (inl e) = subst (λ (x : Process). IsAccepted program.types x) (sym e) accepted
 coded-accepted program (q ∷ qs) (c ∷ cs) (code, rest) p (inr inside) = coded-accepted program qs cs rest p inside
 
-pub runs-accepted : (files : List (List ℕ)) (status : ℕ) (text : Text) (told : Option Report) → Runs files status text told → AreAccepted files
-runs-accepted files status text told r = record {
+pub runs-accepted : (options : Options) (files : List (List ℕ)) (status : ℕ) (text : Text) (told : Option Report) → Runs options files status text told → AreAccepted files
+runs-accepted options files status text told r = record {
   types = r.types;
   processes = (r.program).processes;
   main = (r.program).main;
@@ -34,13 +35,18 @@ runs-accepted files status text told r = record {
       (coded-accepted r.program (r.program).processes (r.modules).codes ((r.accepted).accepted).codes);
 }
 
-pub claim-of-run : (files : List File) (status : ℕ) (text : Text) (told : Option Report) → Runs (bytes_of files) status text told → Claim files status text told
-claim-of-run files status text told r = record {
+-- files that are run or checked are accepted
+accepts-accepted : (purpose : Purpose) (files : List (List ℕ)) (status : ℕ) (text : Text) (told : Option Report) → Accepts purpose files status text told → AreAccepted files
+accepts-accepted check files status text told c = c.accepted
+accepts-accepted (run options) files status text told r = runs-accepted options files status text told r
+
+pub claim-of-accepted : (purpose : Purpose) (files : List File) (status : ℕ) (text : Text) (told : Option Report) → Accepts purpose (bytes_of files) status text told → Claim purpose files status text told
+claim-of-accepted purpose files status text told a = record {
   faults = [];
-  runs = λ e. r;
+  accepts = λ e. a;
   refusals = record {
     first = λ some. absurd (some refl);
-    none = λ e. runs-accepted (bytes_of files) status text told r;
+    none = λ e. accepts-accepted purpose (bytes_of files) status text told a;
     only = λ are. refl;
     lines = λ some. absurd (some refl);
     status_is = λ some. absurd (some refl);
@@ -65,8 +71,13 @@ statuses-by (Some (spent_steps limit)) all = unended (any_pass is_stopped all)
 statuses-by (Some (spent_actions limit)) all = unended (any_pass is_stopped all)
 statuses-by (Some goes_on) all = unended (any_pass is_stopped all)
 
-pub run-status : (files : List (List ℕ)) (status : ℕ) (text : Text) (told : Option Report) → Runs files status text told → IsOfRun status
-run-status files status text told r =
+run-status : (options : Options) (files : List (List ℕ)) (status : ℕ) (text : Text) (told : Option Report) → Runs options files status text told → IsOfRun status
+run-status options files status text told r =
     let machine = source r.modules in
     let final = (r.describes).final in
     subst IsOfRun ((r.describes).status ∙ sym r.status_is) (statuses-by (first_of (fates machine final)) (fates machine final))
+
+-- and those of accepted files
+pub accepted-status : (purpose : Purpose) (files : List (List ℕ)) (status : ℕ) (text : Text) (told : Option Report) → Accepts purpose files status text told → IsOfRun status
+accepted-status check files status text told c = inl c.status_is
+accepted-status (run options) files status text told r = run-status options files status text told r

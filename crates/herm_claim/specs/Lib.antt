@@ -1,3 +1,4 @@
 pub mod Claim
+pub mod Purposes
 pub mod RefusalLines
 pub mod laws

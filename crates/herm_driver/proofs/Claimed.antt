@@ -1,102 +1,79 @@
--- The claim of a file that was compiled and run, or refused.
-use Rattle.std.proofs.Common.{◌≡◌, ℕ, List, [], ◌∷◌, ◌++◌, map, length, Option, Some, None, refl, sym, ap, ap₂, subst, ◌∙◌, option_map}
+-- The claim of files that were compiled and checked or run, or refused.
+use Rattle.std.proofs.Common.{◌≡◌, ℕ, List, [], ◌∷◌, ◌++◌, map, length, Option, Some, None, IsTrue, refl, sym, ap, subst, ◌∙◌}
+use Rattle.std.specs.declared.vec.Vec.{Vec}
+use Rattle.std.specs.declared.alloc.Global.{Global}
 use Rattle.herm_edge.specs.Shelf.{File}
-use Rattle.herm_model.specs.WellFormedTables.{BeginsPredefined}
-use Rattle.herm_journal.specs.Entries.{Text, Entry}
+use Rattle.herm_model.specs.Typed.{is_text}
+use Rattle.herm_model.specs.Types.{TypeTable}
+use Rattle.herm_model.specs.Statements.{Process}
+use Rattle.herm_model.specs.Lists.{IsIn}
+use Rattle.herm_model.specs.MissingFacts.{IsAccepted}
+use Rattle.herm_model.specs.Values.{Name}
+use Rattle.herm_journal.specs.Entries.{Text}
 use Rattle.herm_journal.specs.Journals.{ordered}
+use Rattle.herm_journal.specs.NextNumbers.{Limits}
 use Rattle.herm_journal.specs.Ports.{first_of}
-use Rattle.herm_system.specs.ProcessFates.{Fate}
-use Rattle.herm_system.specs.Reports as language
 use Rattle.herm_system.specs.Machines.{Machine}
+use Rattle.herm_system.specs.Reports as language
 use Rattle.herm_system.specs.Rounds.{rounds}
-use Rattle.herm_system.specs.RunTexts.{plainly}
+use Rattle.herm_system.specs.RunTexts.{Asked}
+use Rattle.herm_system.specs.Statuses.{status_by}
 use Rattle.herm_system.specs.Systems.{Run, start}
 use Rattle.herm_runs.specs.Joining.{LookAlike}
-use Rattle.herm_source.specs.Instance.{source}
-use Rattle.herm_source.specs.States.{State}
-use Rattle.herm_model.specs.Values.{Name}
-use Rattle.herm_system.specs.Statuses.{status_by, status_line_by}
-use Rattle.herm_system.specs.Summary.{Counts}
 use Rattle.herm_meaning.specs.Names.{NamedTable}
 use Rattle.herm_source.specs.AcceptedRuns.{Describes}
+use Rattle.herm_source.specs.Instance.{source}
 use Rattle.herm_source.specs.Modules.{Program, Modules}
-use Rattle.herm_typed.specs.View.{typed_process_view}
+use Rattle.herm_source.specs.States.{State}
 use Rattle.herm_resolve.specs.declared.program.Program as compiled
+use Rattle.herm_typed.specs.View.{typed_process_view}
 use Rattle.herm_instructions.specs.Images.{Image}
 use Rattle.herm_code.specs.View.{CodeImage, image_view}
 use Rattle.herm_simulation.specs.laws.CheckedCode.{modules_of}
-use Rattle.herm_code_worlds.specs.BareReports.{bare_console, bare_report}
-use Rattle.herm_code_worlds.specs.CodeWorlds.{nameless, Shows}
 use Rattle.herm_code_worlds.proofs.ProgramWorlds.{checked-code-works}
-use Rattle.herm_waking.specs.UnnamedReport.{bare_fates, bare_queues, bare_counts}
 use Rattle.herm_images.specs.CheckedPrograms.{program_view, StandsForProgram}
 use Rattle.herm_compile.specs.Phases.{HaveThisProgram}
 use Rattle.herm_compile.specs.Refused.{AreRefused, IfRefused}
 use Rattle.herm_compile.specs.declared.fault.Fault.{Fault}
 use Rattle.herm_compile.specs.declared.fault.CompileFault.{CompileFault}
 use Rattle.herm_compile.specs.declared.fault.CompileFault.TheVariants.{Refused}
-use Rattle.herm_events.specs.View.{entries_view}
-use Rattle.herm_report.specs.View.{report_view, proc_ends_view, numbered_queues, counts_view}
+use Rattle.herm_report.specs.View.{report_view}
 use Rattle.herm_report.specs.declared.report.Report.{Report}
-use Rattle.herm_text.specs.ReportTexts.{report_text, ends_of, console_of}
-use Rattle.herm_claim.specs.Claim.{default_limits, names_of, bytes_of, IsByRounds, Runs, Claim}
+use Rattle.herm_report_laws.proofs.Described.{its-report}
+use Rattle.herm_report_laws.proofs.Strings.{console_strings}
+use Rattle.herm_text.specs.ReportTexts.{report_text, ends_of}
+use Rattle.herm_sizes.specs.AcceptedLines.{accepted_text}
+use Rattle.herm_claim.specs.Claim.{names_of, bytes_of, AreAccepted, IsByRounds, Runs, Checks, Accepts, Claim}
+use Rattle.herm_claim.specs.Purposes.{Purpose, Options}
 use Rattle.herm_claim.specs.RefusalLines.{refusals_text}
-use Rattle.herm_claim.proofs.Running.{claim-of-run}
+use Rattle.herm_claim.proofs.Running.{coded-accepted, claim-of-accepted}
 use Rattle.herm_claim.proofs.Refusing.{claim-of-refusal}
-use Rattle.std.specs.declared.vec.Vec.{Vec}
-use Rattle.std.specs.declared.alloc.Global.{Global}
 use Rattle.herm_driver.specs.declared.outcome.Answer.{Answer}
 use Rattle.herm_driver.specs.Due.{told_of}
 use Rattle.herm_driver.specs.Ending.{IsReportOfEnd}
-use Rattle.herm_driver.proofs.ConsoleTexts.{console-read}
+use Rattle.herm_driver.specs.Purposes.{files_view}
 
 -- the status of a report
 abbrev pub status_in : Report → ℕ
 status_in r = status_by (first_of (ends_of r)) (ends_of r)
 
--- a report with its status and its text is that of the final state without names
-bare-told : (image : Image) (main : ℕ) (names : List Text) (r : Report) → BeginsPredefined image.types → (of : IsReportOfEnd image main r)
-    → report_view r (status_in r) (report_text names plainly r) ≡ bare_report names plainly (nameless image main) (of.bare).system (ordered ((of.run).run).journal)
-bare-told image main names r begins of =
-    let console : console_of r ≡ bare_console (of.bare).system = console-read image main default_limits [] of.events of.run of.bare r begins of.shows of.queued in
-    ap₂ (λ (journal : List Entry) (fates : List Fate). record {
-      journal = journal;
-      ends = fates;
-      queued = numbered_queues r.queued.items;
-      counts = counts_view r.counts;
-      status = status_by (first_of fates) fates;
-      text = console_of r ++ status_line_by names (first_of fates) fates;
-    }) of.journal of.ends
-    ∙ ap₂ (λ (queued : List (ℕ × List Text)) (counts : Counts). record {
-      journal = ordered ((of.run).run).journal;
-      ends = bare_fates (nameless image main) (of.bare).system;
-      queued = queued;
-      counts = counts;
-      status = status_by (first_of (bare_fates (nameless image main) (of.bare).system)) (bare_fates (nameless image main) (of.bare).system);
-      text = console_of r ++ status_line_by names (first_of (bare_fates (nameless image main) (of.bare).system)) (bare_fates (nameless image main) (of.bare).system);
-    }) of.queued of.counts
-    ∙ ap (λ (text : Text). record {
-      journal = ordered ((of.run).run).journal;
-      ends = bare_fates (nameless image main) (of.bare).system;
-      queued = bare_queues (of.bare).system;
-      counts = bare_counts (nameless image main) (of.bare).system;
-      status = status_by (first_of (bare_fates (nameless image main) (of.bare).system)) (bare_fates (nameless image main) (of.bare).system);
-      text = text ++ status_line_by names (first_of (bare_fates (nameless image main) (of.bare).system)) (bare_fates (nameless image main) (of.bare).system);
-    }) console
-
 -- such a report describes a run of the program that the image stands for
-end-describes : (types : NamedTable) (program : Program) (image : CodeImage) (stands : StandsForProgram types program image) (r : Report) → IsReportOfEnd (image_view image) program.main r
-    → Describes (modules_of program stands.modules) default_limits [] types.exceptions plainly (report_view r (status_in r) (report_text types.exceptions plainly r))
-end-describes types program image stands r of =
+end-describes : (types : NamedTable) (program : Program) (image : CodeImage) (stands : StandsForProgram types program image) (options : Options) (r : Report) → IsTrue (is_text options.argument)
+    → IsReportOfEnd (image_view image) program.main options.limits options.argument r
+    → Describes (modules_of program stands.modules) options.limits options.argument types.exceptions options.asked (report_view r (status_in r) (report_text types.exceptions options.asked r))
+end-describes types program image stands options r text of =
     let works = checked-code-works (length types.exceptions) program stands.modules stands.checked in
-    let ended = subst (λ (x : Image). IsReportOfEnd x program.main r) stands.image of in
-    subst (Describes (modules_of program stands.modules) default_limits [] types.exceptions plainly) (sym (bare-told _ program.main types.exceptions r (((stands.does).good).table).predefined_types ended))
-    (works.describes default_limits [] ended.events ended.run ended.bare types.exceptions plainly refl ended.shows ended.nobody)
+    let ended = subst (λ (x : Image). IsReportOfEnd x program.main options.limits options.argument r) stands.image of in
+    let have = console_strings (length types.exceptions) _ program.main (stands.does).good options.limits options.argument ended.events ended.run ended.bare ended.shows in
+    let rising = (((works.works).runs).journal options.limits options.argument ended.events (ended.run).run (ended.shows).comes).fits.ordered in
+    subst (Describes (modules_of program stands.modules) options.limits options.argument types.exceptions options.asked)
+    (sym (its-report _ program.main (ended.bare).system ((ended.run).run).journal r types.exceptions options.asked rising ended.tells have))
+    (works.describes options.limits options.argument ended.events ended.run ended.bare types.exceptions options.asked text ended.shows ended.nobody)
 
 -- a run that looks like the one by rounds
-made-by-rounds : {P : Type 0} (modules : Modules) (code : Machine Name P) (R : P → State Name → Type 0) (most : ℕ) (q : Run P) (report : language.Report) → ordered q.journal ≡ report.journal
-    → (r : Run (State Name)) × (rounds most (source modules) (start (source modules) default_limits []) ≡ Some r) × LookAlike code (source modules) R q r → IsByRounds modules report
-made-by-rounds modules code R most q report e (last, to, alike) = record {
+made-by-rounds : {P : Type 0} (modules : Modules) (options : Options) (code : Machine Name P) (R : P → State Name → Type 0) (most : ℕ) (q : Run P) (report : language.Report) → ordered q.journal ≡ report.journal
+    → (r : Run (State Name)) × (rounds most (source modules) (start (source modules) options.limits options.argument) ≡ Some r) × LookAlike code (source modules) R q r → IsByRounds modules options report
+made-by-rounds modules options code R most q report e (last, to, alike) = record {
   most = most;
   last = last;
   rounds_to = to;
@@ -104,48 +81,79 @@ made-by-rounds modules code R most q report e (last, to, alike) = record {
 }
 
 -- and the run is the one by rounds
-end-by-rounds : (types : NamedTable) (program : Program) (image : CodeImage) (stands : StandsForProgram types program image) (r : Report) (status : ℕ) (text : Text) → IsReportOfEnd (image_view image) program.main r
-    → IsByRounds (modules_of program stands.modules) (report_view r status text)
-end-by-rounds types program image stands r status text of =
-    let ended = subst (λ (x : Image). IsReportOfEnd x program.main r) stands.image of in
-    made-by-rounds (modules_of program stands.modules) _ _ ended.most (ended.run).run (report_view r status text) (sym ended.journal) ((stands.does).rounds_back default_limits [] ended.most (ended.run).run refl ended.by_rounds)
+end-by-rounds : (types : NamedTable) (program : Program) (image : CodeImage) (stands : StandsForProgram types program image) (options : Options) (r : Report) (status : ℕ) (text : Text) → IsTrue (is_text options.argument)
+    → IsReportOfEnd (image_view image) program.main options.limits options.argument r
+    → IsByRounds (modules_of program stands.modules) options (report_view r status text)
+end-by-rounds types program image stands options r status text argued of =
+    let ended = subst (λ (x : Image). IsReportOfEnd x program.main options.limits options.argument r) stands.image of in
+    made-by-rounds (modules_of program stands.modules) options _ _ ended.most (ended.run).run (report_view r status text) (sym (ended.tells).journal_is)
+    ((stands.does).rounds_back options.limits options.argument ended.most (ended.run).run argued ended.by_rounds)
 
-pub runs-of-end : (types : NamedTable) (program : compiled.Program) (image : CodeImage) → StandsForProgram types (program_view types.shapes program) image → (r : Report)
-    → IsReportOfEnd (image_view image) program.main r → (status : ℕ) → status ≡ status_in r → (text : Text) → text ≡ report_text types.exceptions plainly r
-    → (files : List (List ℕ)) → HaveThisProgram files types program → Runs files status text (told_of (Some r) status text)
-runs-of-end types program image stands r of status s text e files means =
-    let P : ℕ → Text → Type 0 = λ n t. Runs files n t (told_of (Some r) n t) in
-    let at : P (status_in r) (report_text types.exceptions plainly r) = record {
+pub runs-of-end : (types : NamedTable) (program : compiled.Program) (image : CodeImage) → StandsForProgram types (program_view types.shapes program) image → (options : Options) (r : Report) → IsTrue (is_text options.argument)
+    → IsReportOfEnd (image_view image) program.main options.limits options.argument r → (status : ℕ) → status ≡ status_in r → (text : Text) → text ≡ report_text types.exceptions options.asked r
+    → (files : List (List ℕ)) → HaveThisProgram files types program → Runs options files status text (told_of (Some r) status text)
+runs-of-end types program image stands options r argued of status s text e files means =
+    let P : ℕ → Text → Type 0 = λ n t. Runs options files n t (told_of (Some r) n t) in
+    let at : P (status_in r) (report_text types.exceptions options.asked r) = record {
       types = types;
       program = program_view types.shapes program;
       means = means;
       over = refl;
       modules = modules_of (program_view types.shapes program) stands.modules;
       accepted = (stands.checked).checked;
-      report = report_view r (status_in r) (report_text types.exceptions plainly r);
+      report = report_view r (status_in r) (report_text types.exceptions options.asked r);
       is_told = refl;
-      describes = end-describes types (program_view types.shapes program) image stands r of;
-      by_rounds = end-by-rounds types (program_view types.shapes program) image stands r (status_in r) (report_text types.exceptions plainly r) of;
+      describes = end-describes types (program_view types.shapes program) image stands options r argued of;
+      by_rounds = end-by-rounds types (program_view types.shapes program) image stands options r (status_in r) (report_text types.exceptions options.asked r) argued of;
       status_is = refl;
       text_is = refl;
     } in
-    subst (λ (t : Text). P status t) (sym e) (subst (λ (n : ℕ). P n (report_text types.exceptions plainly r)) (sym s) at)
+    subst (λ (t : Text). P status t) (sym e) (subst (λ (n : ℕ). P n (report_text types.exceptions options.asked r)) (sym s) at)
 
--- one file that was run, and one that was refused
-abbrev one_file : (name bytes : List ℕ) → List File
-one_file name bytes = record { name = name; bytes = bytes } ∷ []
+-- the processes of a program that an image stands for are accepted
+pub stands-accepted : (types : NamedTable) (program : compiled.Program) (image : CodeImage) → StandsForProgram types (program_view types.shapes program) image
+    → (files : List (List ℕ)) → HaveThisProgram files types program → AreAccepted files
+stands-accepted types program image stands files means = record {
+  types = types;
+  processes = map typed_process_view program.processes.items;
+  main = program.main;
+  program = means;
+  each = coded-accepted (program_view types.shapes program) (map typed_process_view program.processes.items) _ ((stands.checked).checked).accepted.codes;
+}
 
-pub one-run : (name bytes : List ℕ) (status : ℕ) (text : Text) (report : Option Report) → Runs (bytes ∷ []) status text (told_of report status text) → Claim (one_file name bytes) status text (told_of report status text)
-one-run name bytes status text report runs = claim-of-run (one_file name bytes) status text (told_of report status text) runs
+pub checks-of-line : (types : NamedTable) (program : compiled.Program) (image : CodeImage) → StandsForProgram types (program_view types.shapes program) image → (answer : Answer) (text : Vec ℕ Global)
+    → answer ≡ record { status = 0; text = text; report = None } → text.items ≡ accepted_text (map typed_process_view program.processes.items)
+    → (files : List (List ℕ)) → HaveThisProgram files types program → Checks files answer.status answer.text.items (told_of answer.report answer.status answer.text.items)
+unfolding stands-accepted
+checks-of-line types program image stands answer text is line files means =
+    subst (λ (a : Answer). Checks files a.status a.text.items (told_of a.report a.status a.text.items)) (sym is) (record {
+      accepted = stands-accepted types program image stands files means;
+      text_is = line;
+      status_is = refl;
+      unreported = refl;
+    })
 
-pub refused-answer : (name word bytes : List ℕ) (fault : CompileFault) (faults : Vec Fault Global) (answer : Answer) (text : Vec ℕ Global) → answer ≡ record { status = 1; text = text; report = None }
-    → text.items ≡ refusals_text (word ∷ []) faults.items → word ≡ name → fault ≡ Refused faults → IfRefused fault (λ faults. AreRefused (bytes ∷ []) faults)
-    → Claim (one_file name bytes) answer.status answer.text.items (told_of answer.report answer.status answer.text.items)
-refused-answer name word bytes fault faults answer text is lines e f refused =
-    subst (λ (a : Answer). Claim (one_file name bytes) a.status a.text.items (told_of a.report a.status a.text.items)) (sym is)
-    (claim-of-refusal (one_file name bytes) faults.items text.items (subst (λ (x : CompileFault). IfRefused x (λ faults. AreRefused (bytes ∷ []) faults)) f refused)
-    (lines ∙ ap (λ (w : List ℕ). refusals_text (w ∷ []) faults.items) e))
+-- the bytes and the names of files are theirs
+bytes-same : (files : List (List ℕ × Vec ℕ Global)) → bytes_of (files_view files) ≡ map (λ (f : List ℕ × Vec ℕ Global). f.1.items) files
+bytes-same [] = refl
+bytes-same (f ∷ fs) = ap (λ (rest : List (List ℕ)). f.1.items ∷ rest) (bytes-same fs)
+
+names-same : (files : List (List ℕ × Vec ℕ Global)) → names_of (files_view files) ≡ map (λ (f : List ℕ × Vec ℕ Global). f.0) files
+names-same [] = refl
+names-same (f ∷ fs) = ap (λ (rest : List (List ℕ)). f.0 ∷ rest) (names-same fs)
+
+pub accepted-answer : (purpose : Purpose) (files : List (List ℕ × Vec ℕ Global)) (status : ℕ) (text : Text) (report : Option Report)
+    → Accepts purpose (map (λ (f : List ℕ × Vec ℕ Global). f.1.items) files) status text (told_of report status text) → Claim purpose (files_view files) status text (told_of report status text)
+accepted-answer purpose files status text report accepts =
+    claim-of-accepted purpose (files_view files) status text (told_of report status text) (subst (λ (bs : List (List ℕ)). Accepts purpose bs status text (told_of report status text)) (sym (bytes-same files)) accepts)
+
+pub refused-answer : (purpose : Purpose) (files : List (List ℕ × Vec ℕ Global)) (fault : CompileFault) (faults : Vec Fault Global) (answer : Answer) (text : Vec ℕ Global) → answer ≡ record { status = 1; text = text; report = None }
+    → text.items ≡ refusals_text (map (λ (f : List ℕ × Vec ℕ Global). f.0) files) faults.items → fault ≡ Refused faults → IfRefused fault (λ faults. AreRefused (map (λ (f : List ℕ × Vec ℕ Global). f.1.items) files) faults)
+    → Claim purpose (files_view files) answer.status answer.text.items (told_of answer.report answer.status answer.text.items)
+refused-answer purpose files fault faults answer text is lines f refused =
+    subst (λ (a : Answer). Claim purpose (files_view files) a.status a.text.items (told_of a.report a.status a.text.items)) (sym is)
+    (claim-of-refusal purpose (files_view files) faults.items text.items
+    (subst (λ (bs : List (List ℕ)). AreRefused bs faults.items) (sym (bytes-same files)) (subst (λ (x : CompileFault). IfRefused x (λ faults. AreRefused (map (λ (f : List ℕ × Vec ℕ Global). f.1.items) files) faults)) f refused))
+    (lines ∙ ap (λ (names : List Text). refusals_text names faults.items) (sym (names-same files))))
 
 pub ruleset run_lemmas = runs-of-end
-
-pub ruleset claim_lemmas = (one-run, refused-answer)

@@ -1,5 +1,5 @@
 -- A world that was led to its end, and its report.
-use Rattle.std.proofs.Common.{◌≡◌, ℕ, List, [], ◌++◌, Option, Some, refl, sym, ap, subst, ◌∙◌, length}
+use Rattle.std.proofs.Common.{◌≡◌, ℕ, List, [], Option, Some, refl, sym, ap, subst, ◌∙◌, length}
 use Rattle.std.specs.Prelude.{⊤}
 use Rattle.herm_model.specs.Values.{Name}
 use Rattle.herm_model.specs.TypedPrograms.{main_start}
@@ -24,7 +24,6 @@ use Rattle.herm_events.specs.View.{entries_view}
 use Rattle.herm_report.specs.View.{proc_ends_view, numbered_queues, counts_view}
 use Rattle.herm_report.specs.declared.report.Report.{Report}
 use Rattle.herm_world.specs.Worlds.{WorldState, ShowsRun}
-use Rattle.herm_claim.specs.Claim.{default_limits}
 use Rattle.herm_driver.specs.Ending.{IsReportOfEnd}
 
 -- the image of a program begins with its main, which has a port of the type main_start
@@ -39,28 +38,25 @@ rounds-at image main other number most r o i m e =
     subst (λ (n : ℕ). rounds most (named image n) r ≡ o) m (subst (λ (x : Image). rounds most (named x number) r ≡ o) i e)
 
 -- the report of a world that shows a run at whose end nobody can step
-pub end-reported : (image : Image) (main : ℕ) (world : WorldState) (limits : Limits) (events : List Event) (w : Worked (CodeState Name)) (b : BareWorked (CodeState ⊤)) (r : Report)
-    → world.image ≡ image → world.main ≡ main → limits ≡ default_limits → ShowsRun limits [] events w b world → world.ready.members ≡ []
-    → (most : ℕ) → rounds most (named image main) (start (named image main) limits []) ≡ Some w.run
+pub end-reported : (image : Image) (main : ℕ) (limits : Limits) (argument : Text) (world : WorldState) (begun : Limits) (given : Text) (events : List Event) (w : Worked (CodeState Name)) (b : BareWorked (CodeState ⊤)) (r : Report)
+    → world.image ≡ image → world.main ≡ main → begun ≡ limits → given ≡ argument → ShowsRun begun given events w b world → world.ready.members ≡ []
+    → (most : ℕ) → rounds most (named image main) (start (named image main) begun given) ≡ Some w.run
     → entries_view r.journal.entries.items ≡ ordered w.run.journal → proc_ends_view r.ends.items ≡ bare_fates (nameless world.image world.main) b.system
     → numbered_queues r.queued.items ≡ bare_queues b.system → counts_view r.counts ≡ bare_counts (nameless world.image world.main) b.system
-    → IsReportOfEnd image main r
-end-reported image main world limits events w b r i m l shown none most by journal ends queued counts =
-    let R : Image → ℕ → Type 0 = λ x n. rounds most (named x n) (start (named x n) default_limits []) ≡ Some w.run in
-    let here : R image main = subst (λ (limits' : Limits). rounds most (named image main) (start (named image main) limits' []) ≡ Some w.run) l by in
-    let at : IsReportOfEnd world.image world.main r = record {
+    → IsReportOfEnd image main limits argument r
+end-reported image main limits argument world begun given events w b r i m l a shown none most by journal ends queued counts =
+    let R : Image → ℕ → Type 0 = λ x n. rounds most (named x n) (start (named x n) begun given) ≡ Some w.run in
+    let at : IsReportOfEnd world.image world.main begun given r = record {
       events = events;
       run = w;
       bare = b;
-      shows = subst (λ (limits' : Limits). Shows world.image world.main limits' [] events w b) l shown.shows;
+      shows = shown.shows;
       most = most;
-      by_rounds = subst (λ (n : ℕ). R world.image n) (sym m) (subst (λ (x : Image). R x main) (sym i) here);
+      by_rounds = subst (λ (n : ℕ). R world.image n) (sym m) (subst (λ (x : Image). R x main) (sym i) by);
       nobody = sym (shown.sees).ready_is ∙ none;
-      journal = journal;
-      ends = ends;
-      queued = queued;
-      counts = counts;
+      tells = record { journal_is = journal; ends = ends; queued = queued; counts = counts };
     } in
-    subst (λ (n : ℕ). IsReportOfEnd image n r) m (subst (λ (x : Image). IsReportOfEnd x world.main r) i at)
+    subst (λ (t : Text). IsReportOfEnd image main limits t r) a (subst (λ (l' : Limits). IsReportOfEnd image main l' given r) l
+    (subst (λ (n : ℕ). IsReportOfEnd image n begun given r) m (subst (λ (x : Image). IsReportOfEnd x world.main begun given r) i at)))
 
 pub ruleset end_lemmas = main-begins

@@ -1,4 +1,4 @@
 pub mod Chosen
 pub mod Ended
-pub mod ConsoleTexts
 pub mod Claimed
+pub mod Arguments

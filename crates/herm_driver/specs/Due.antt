@@ -7,8 +7,11 @@ use Rattle.herm_edge.specs.Sink.{written_after}
 use Rattle.herm_system.specs.Reports as language
 use Rattle.herm_report.specs.View.{report_view}
 use Rattle.herm_report.specs.declared.report.Report.{Report}
+use Rattle.herm_commands.specs.Words.{asked}
+use Rattle.herm_ring.specs.Ring.{ring_text}
 use Rattle.herm_claim.specs.Claim.{Claim}
-use Rattle.herm_driver.specs.Words.{named_file, named_files}
+use Rattle.herm_claim.specs.Purposes.{Purpose}
+use Rattle.herm_driver.specs.Words.{Work, refused, make, over, work_of}
 use Rattle.herm_driver.specs.Loads.{load_limit, AreLoaded, CountsFaults, AreTold}
 use Rattle.herm_driver.specs.Texts.{usage_text, read_fault_text, not_found_text}
 
@@ -26,25 +29,25 @@ IsUnreadable name status text report = (status ≡ 3) × (text ≡ read_fault_te
 
 -- What is due by the answers for the named files, with those that were read before them: the first that is not its bytes
 -- decides, and of files whose bytes were all read the claim holds.
-abbrev pub IsDueBy : List File → List (List ℕ) → List FileAnswer → ℕ → List ℕ → Option Report → Type 0
-IsDueBy read [] [] status text report = Claim read status text (told_of report status text)
-IsDueBy read [] (answer ∷ answers) status text report = ⊥
-IsDueBy read (name ∷ names) [] status text report = ⊥
-IsDueBy read (name ∷ names) (given bytes ∷ answers) status text report =
-    IsDueBy (read ++ (record { name = name; bytes = bytes } ∷ [])) names answers status text report
-IsDueBy read (name ∷ names) (not_there ∷ answers) status text report = IsNotFound name status text report
-IsDueBy read (name ∷ names) (not_read ∷ answers) status text report = IsUnreadable name status text report
-IsDueBy read (name ∷ names) (no_memory ∷ answers) status text report = ⊥
+abbrev pub IsDueBy : Purpose → List File → List (List ℕ) → List FileAnswer → ℕ → List ℕ → Option Report → Type 0
+IsDueBy purpose read [] [] status text report = Claim purpose read status text (told_of report status text)
+IsDueBy purpose read [] (answer ∷ answers) status text report = ⊥
+IsDueBy purpose read (name ∷ names) [] status text report = ⊥
+IsDueBy purpose read (name ∷ names) (given bytes ∷ answers) status text report =
+    IsDueBy purpose (read ++ (record { name = name; bytes = bytes } ∷ [])) names answers status text report
+IsDueBy purpose read (name ∷ names) (not_there ∷ answers) status text report = IsNotFound name status text report
+IsDueBy purpose read (name ∷ names) (not_read ∷ answers) status text report = IsUnreadable name status text report
+IsDueBy purpose read (name ∷ names) (no_memory ∷ answers) status text report = ⊥
 
--- The named files were loaded, and the text, its status and the report are those that are due by the answers. The count of faults
+-- The named files were loaded, and the text, its status and the report are those that are due by the answers, beside the files that were there. The count of faults
 -- rose where a file could not be read, and nowhere else; and the answers are what the shelf tells, where it tells its files.
 pub record IsDueByLoads {S : Type 0} (loads : S → Load → S → Type 0) (faults : S → ℕ) (contents : Option (List File))
-    (before after : S) (names : List (List ℕ)) (status : ℕ) (text : List ℕ) (report : Option Report) : Type 0 where
+    (before after : S) (purpose : Purpose) (ready : List File) (names : List (List ℕ)) (status : ℕ) (text : List ℕ) (report : Option Report) : Type 0 where
   pub answers : List FileAnswer
   pub loaded : AreLoaded loads names answers before after
   pub counted : CountsFaults answers (faults before) (faults after)
   pub told : IfSome contents (λ files. AreTold files names answers)
-  pub due : IsDueBy [] names answers status text report
+  pub due : IsDueBy purpose ready names answers status text report
 
 -- a status of 3 is that of a load that failed and raised the count of faults; with any other the count is as before
 abbrev pub IsCaused : ℕ → ℕ → ℕ → Type 0
@@ -54,25 +57,31 @@ IsCaused before after status = ((status ≡ 3) × Rose before after) ⊎ ((statu
 abbrev pub IsUsage : ℕ → List ℕ → Option Report → Type 0
 IsUsage status text report = (status ≡ 2) × (text ≡ usage_text) × (report ≡ None)
 
--- a text, its status and a report are those that are due to words by what any shelf answers
-abbrev pub IsDueToWords : {S : Type 0} → (S → Load → S → Type 0) → (S → ℕ) → Option (List File) → S → S → List (List ℕ) → ℕ → List ℕ → Option Report → Type 0
-IsDueToWords loads faults contents before after words status text report =
-    MatchOption (named_files words)
-    (IsUsage status text report × (after ≡ before))
-    (λ names. IsDueByLoads loads faults contents before after names status text report)
+-- the text of the ring of so many nodes
+abbrev pub IsMade : ℕ → ℕ → List ℕ → Option Report → Type 0
+IsMade nodes status text report = (status ≡ 0) × (text ≡ ring_text nodes) × (report ≡ None)
 
--- what a named file is due that a shelf tells: it is not found, or the claim holds of its first bytes
-abbrev pub IsDueTo : List ℕ → Option (List ℕ) → ℕ → List ℕ → Option Report → Type 0
-IsDueTo name None status text report = IsNotFound name status text report
-IsDueTo name (Some bytes) status text report = Claim (record { name = name; bytes = take load_limit bytes } ∷ []) status text (told_of report status text)
+-- A text, its status and a report are those that are due to a call's work by what any shelf answers. No file is asked for but the named ones.
+abbrev pub IsDue : {S : Type 0} → (S → Load → S → Type 0) → (S → ℕ) → Option (List File) → S → S → Work → ℕ → List ℕ → Option Report → Type 0
+IsDue loads faults contents before after refused status text report = IsUsage status text report × (after ≡ before)
+IsDue loads faults contents before after (make nodes) status text report = IsMade nodes status text report × (after ≡ before)
+IsDue loads faults contents before after (over purpose ready names) status text report = IsDueByLoads loads faults contents before after purpose ready names status text report
 
--- A text, its status and a report are chosen, where a shelf tells its files: the usage line; or what is due to the named file; or that it could not be read,
--- where the shelf's count rose.
-abbrev pub IsChosen : List (List ℕ) → List File → Type 0 → ℕ → List ℕ → Option Report → Type 0
-IsChosen words files rose status text report =
-    MatchOption (named_file words)
-    (IsUsage status text report)
-    (λ name. IsDueTo name (file_at files name) status text report ⊎ (rose × IsUnreadable name status text report))
+-- What named files are due that a shelf tells, with those that were read before them: in their order, a file is not found, or it could not be read, where the shelf's
+-- count rose; and of their first bytes the claim holds.
+abbrev pub IsDueTo : (told : List File) → (rose : Type 0) → Purpose → List File → List (List ℕ) → ℕ → List ℕ → Option Report → Type 0
+IsDueTo told rose purpose read [] status text report = Claim purpose read status text (told_of report status text)
+IsDueTo told rose purpose read (name ∷ names) status text report =
+    (rose × IsUnreadable name status text report)
+    ⊎ MatchOption (file_at told name)
+    (IsNotFound name status text report)
+    (λ bytes. IsDueTo told rose purpose (read ++ (record { name = name; bytes = take load_limit bytes } ∷ [])) names status text report)
+
+-- A text, its status and a report are chosen, where a shelf tells its files: the usage line; a ring's text; or what is due to the named files.
+abbrev pub IsChosen : Work → List File → Type 0 → ℕ → List ℕ → Option Report → Type 0
+IsChosen refused files rose status text report = IsUsage status text report
+IsChosen (make nodes) files rose status text report = IsMade nodes status text report
+IsChosen (over purpose ready names) files rose status text report = IsDueTo files rose purpose ready names status text report
 
 -- a status that a text has: those of write faults and of want of memory have none
 abbrev pub IsTextStatus : ℕ → Type 0
@@ -97,13 +106,13 @@ abbrev pub IsUnwritten : ℕ → ℕ → Option (List ℕ) → Option (List ℕ)
 IsUnwritten count after_count before after status report =
     (status ≡ 5) × (after ≡ before) × (after_count ≡ count) × (report ≡ None)
 
--- What a call of the program does, for any shelf and any sink: memory was wanting, or the text that is due to the words, by what
+-- What a call of the program does, for any shelf and any sink: memory was wanting, or the text that is due to what the words ask for, by what
 -- the shelf answered, was written.
 abbrev pub IsAnswered : {S : Type 0} → (S → Load → S → Type 0) → (S → ℕ) → Option (List File) → S → S → List (List ℕ)
     → (count after_count : ℕ) → (written after_written : Option (List ℕ)) → ℕ → Option Report → Type 0
 IsAnswered loads faults contents before after words count after_count written after_written status report =
     IsUnwritten count after_count written after_written status report
-    ⊎ IsAnswer (λ chosen text. IsDueToWords loads faults contents before after words chosen text report) count after_count written after_written status
+    ⊎ IsAnswer (λ chosen text. IsDue loads faults contents before after (work_of (asked words)) chosen text report) count after_count written after_written status
 
 -- the status that the program ends with is that of a call
 abbrev pub EndsWith : {S : Type 0} → (S → Load → S → Type 0) → (S → ℕ) → Option (List File) → S → S → List (List ℕ)

@@ -1,4 +1,5 @@
 pub mod Words
+pub mod Purposes
 pub mod Texts
 pub mod Loads
 pub mod Ending

@@ -1,5 +1,5 @@
 //! What the top call answers.
-ghost use Rattle.std.specs.Prelude.{◌≡◌};
+ghost use Rattle.std.specs.Prelude.{◌≡◌, None};
 
 use herm_events::{Entry, Place, Stamp};
 use herm_report::Report;
@@ -7,7 +7,7 @@ use herm_report::Report;
 /// How a call of the program ended.
 #[derive(Drop)]
 pub struct Outcome {
-    /// The exit status: 0 where process 1 ended normally, 1 refused, 2 usage, 3 read fault, 4 write fault,
+    /// The exit status: 0 where files were accepted by `check`, a ring was printed, or process 1 ended normally; 1 refused, 2 usage, 3 read fault, 4 write fault,
     /// 5 want of memory, 6 where an exception ended process 1, 7 where it waits, 8 where a limit stopped a process, 10 missing file.
     pub status: u8,
     /// What is reported of the run, where there was one and its text was due.
@@ -56,4 +56,15 @@ pub struct Answer {
     pub status: u8,
     pub text: Vec<u8>,
     pub report: Option<Report>,
+}
+
+/// An answer without a run.
+pub fn plain(status: u8, text: Vec<u8>) -> Answer
+    ensures { result ≡ record { status = status; text = text; report = None } }
+{
+    Answer {
+        status,
+        text,
+        report: None,
+    }
 }

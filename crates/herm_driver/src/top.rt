@@ -1,9 +1,10 @@
 //! The program's top call.
-ghost use Rattle.std.specs.Prelude.{◌≡◌, ◌≢◌, ◌≤◌, ◌⊎◌, IfSome, None, MatchOption, map, string_bytes};
+ghost use Rattle.std.specs.Prelude.{◌≡◌, ◌≢◌, ◌≤◌, ◌⊎◌, IfSome, None, map, string_bytes};
 ghost use Rattle.herm_edge.specs.Faults.{Rose};
+ghost use Rattle.herm_commands.specs.Words.{asked};
 ghost use Rattle.herm_driver.specs.Loads.{FirstAreLoaded};
 ghost use Rattle.herm_driver.specs.Due.{IsAnswered, IsChosen, IsWritten, IsAnswer, IsUnwritten};
-ghost use Rattle.herm_driver.specs.Words.{named_file, named_files};
+ghost use Rattle.herm_driver.specs.Words.{names_of, work_of};
 ghost use Rattle.herm_driver.specs.Texts.{usage_text};
 
 use crate::Outcome;
@@ -31,7 +32,7 @@ fn write<S: Sink>(sink: &mut S, answer: Answer) -> Outcome
     }
 }
 
-/// Runs a call of the program: takes the words after the program's name, loads and compiles the named file, runs it and writes the text.
+/// Runs a call of the program: takes the words after the program's name, loads and compiles the named files or a ring, checks or runs them, and writes the text.
 ///
 /// At status 5 nothing was written. At status 4 a prefix of the text was written. The text that is due and its status
 /// are those of the language reference, "Statuses and texts". Neither count of faults falls, and the shelf's contents stay.
@@ -46,18 +47,18 @@ pub fn hermes<F: Shelf, S: Sink, G: Gate + Sync>(
         (S.faults sink.old) (S.faults sink.new) (S.written sink.old) (S.written sink.new) result.status result.report }
     ensures told { IfSome (F.contents shelf.old) (λ files.
         IsUnwritten (S.faults sink.old) (S.faults sink.new) (S.written sink.old) (S.written sink.new) result.status result.report
-        ⊎ IsAnswer (λ status text. IsChosen (map string_bytes words.now) files (Rose (F.faults shelf.old) (F.faults shelf.new)) status text result.report)
+        ⊎ IsAnswer (λ status text. IsChosen (work_of (asked (map string_bytes words.now))) files (Rose (F.faults shelf.old) (F.faults shelf.new)) status text result.report)
         (S.faults sink.old) (S.faults sink.new) (S.written sink.old) (S.written sink.new) result.status) }
-    ensures usage { named_file (map string_bytes words.now) ≡ None →
+    ensures usage { asked (map string_bytes words.now) ≡ None →
         (IsUnwritten (S.faults sink.old) (S.faults sink.new) (S.written sink.old) (S.written sink.new) result.status result.report
         ⊎ IsWritten (S.faults sink.old) (S.faults sink.new) (S.written sink.old) (S.written sink.new)
         result.status 2 usage_text) }
-    ensures usage_only { result.status ≡ 2 → named_file (map string_bytes words.now) ≡ None }
+    ensures usage_only { result.status ≡ 2 → asked (map string_bytes words.now) ≡ None }
     ensures read_fault { result.status ≡ 3 → Rose (F.faults shelf.old) (F.faults shelf.new) }
     ensures write_fault { result.status ≡ 4 → Rose (S.faults sink.old) (S.faults sink.new) }
     ensures shelf_kept { result.status ≢ 3 → result.status ≢ 4 → result.status ≢ 5 → F.faults shelf.new ≡ F.faults shelf.old }
     ensures sink_kept { result.status ≢ 4 → S.faults sink.new ≡ S.faults sink.old }
-    ensures asked { result.status ≡ 5 → MatchOption (named_files (map string_bytes words.now)) (shelf.new ≡ shelf.old) (λ names. FirstAreLoaded F.loads names shelf.old shelf.new) }
+    ensures asked { result.status ≡ 5 → FirstAreLoaded F.loads (names_of (work_of (asked (map string_bytes words.now)))) shelf.old shelf.new }
     ensures memory { result.status ≡ 5 → S.written sink.new ≡ S.written sink.old }
     ensures shelf_counted { F.faults shelf.old ≤ F.faults shelf.new }
     ensures sink_counted { S.faults sink.old ≤ S.faults sink.new }

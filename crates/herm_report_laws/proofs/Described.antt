@@ -60,7 +60,8 @@ in-order-tells image main v journal r rising tells = record {
   counts = tells.counts;
 }
 
-its-report : (image : Image) (main : ℕ) (v : Unnamed (CodeState ⊤)) (journal : List Entry) (r : Report) (names : List Text) (asked : Asked) → IsRising (ordered journal) → TellsOf image main v journal r → HasStrings v.ports
+-- with its status and its text it is the report of the system without names
+pub its-report : (image : Image) (main : ℕ) (v : Unnamed (CodeState ⊤)) (journal : List Entry) (r : Report) (names : List Text) (asked : Asked) → IsRising (ordered journal) → TellsOf image main v journal r → HasStrings v.ports
     → report_view r (status_by (first_of (ends_of r)) (ends_of r)) (report_text names asked r) ≡ bare_report names asked (nameless image main) v (ordered journal)
 its-report image main v journal r names asked rising tells have =
     report-same (report_view r (status_by (first_of (ends_of r)) (ends_of r)) (report_text names asked r)) (bare_report names asked (nameless image main) v (ordered journal)) tells.journal_is tells.ends tells.queued tells.counts

@@ -40,7 +40,7 @@ fn words_that_are_not_taken_give_the_usage(rt: HostRuntime) -> Result<(), Fail> 
         &["run", "-a.hm"],
         &["run", "a.hm", "a.hm"],
         &["ran", "a.hm"],
-        &["run", "-"],
+        &["run", "--a.hm", "a.hm"],
     ];
     for words in rows {
         let got = call(rt.alloc(), words, &plain(&files))?;

@@ -97,15 +97,31 @@ fn loads_of(alloc: Global, failing: &str, words: &[&str]) -> Result<(u8, String)
 }
 
 #[test]
-fn exactly_the_named_file_is_loaded_once(rt: HostRuntime) -> Result<(), Fail> {
-    let rows: [(&str, &[&str], u8, &str); 7] = [
+fn exactly_the_named_files_are_loaded_once(rt: HostRuntime) -> Result<(), Fail> {
+    let rows: [(&str, &[&str], u8, &str); 13] = [
         ("", &["run", "a.hm"], 0, "a.hm 1048577|"),
         (".", &["run", "a.hm"], 0, "a.hm 1048577|"),
         ("a.hm", &["run", "a.hm"], 3, "a.hm 1048577|"),
         ("", &["run", "gone.hm"], 10, "gone.hm 1048577|"),
         ("gone.hm", &["run", "gone.hm"], 3, "gone.hm 1048577|"),
-        ("", &["run", "-"], 2, ""),
-        ("", &["run", "a.hm", "b.hm"], 2, ""),
+        ("", &["run", "-"], 0, "- 1048577|"),
+        (
+            "",
+            &["run", "a.hm", "b.hm"],
+            1,
+            "a.hm 1048577|b.hm 1048577|",
+        ),
+        (
+            "",
+            &["run", "a.hm", "gone.hm"],
+            10,
+            "a.hm 1048577|gone.hm 1048577|",
+        ),
+        ("a.hm", &["run", "a.hm", "b.hm"], 3, "a.hm 1048577|"),
+        ("", &["check", "gone.hm", "a.hm"], 10, "gone.hm 1048577|"),
+        ("", &["run", "a.hm", "a.hm"], 2, ""),
+        ("", &["make", "3"], 0, ""),
+        ("", &["run", "--make", "3"], 0, ""),
     ];
     for (failing, words, status, loads) in rows {
         let got = loads_of(rt.alloc(), failing, words)?;

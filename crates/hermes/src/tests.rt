@@ -50,7 +50,7 @@ fn the_program_ends_with_the_status_of_its_call(rt: HostRuntime) -> Result<(), F
     fs::write(&rt, &name, GREETING.as_bytes())?;
     ends(&rt, "run", &name, 0, "hi\n")?;
     ends(&rt, "ran", &name, 2, USAGE)?;
-    ends(&rt, "run", "-", 2, USAGE)?;
+    ends(&rt, "run", "--", 2, USAGE)?;
     let unread = format!(in alloc; "hermes: {folder}: read fault\n")?;
     ends(&rt, "run", folder, 3, &unread)?;
     let missing = format!(in alloc; "hermes: {gone}: not found\n")?;
@@ -66,7 +66,7 @@ fn the_program_ends_with_the_status_of_its_call(rt: HostRuntime) -> Result<(), F
 #[test]
 fn the_program_ends_with_a_fault_of_its_writer(rt: HostRuntime) -> Result<(), Fail> {
     let mut room = [0u8; 2];
-    let code = run(&rt, words_of(rt.alloc(), "run", "-"), room.as_mut_slice());
+    let code = run(&rt, words_of(rt.alloc(), "run", "--"), room.as_mut_slice());
     assert!(rt; code == ExitCode::from(4));
     assert_eq!(rt; room, *b"us");
     let code = run(&rt, Err(AllocError), room.as_mut_slice());
