@@ -180,6 +180,8 @@ process main(start: main_start) {
 
 const NO_MAIN: &str = "";
 
+const USAGE: &str = "usage: hermes check FILE.. | hermes run OPTIONS FILE.. | hermes make N\n";
+
 /// Calls the program with these words over these files, and compares the status and the text.
 fn gives(
     rt: &impl Abort,
@@ -396,32 +398,15 @@ fn limits_are_those_of_the_words(rt: HostRuntime) -> Result<(), Fail> {
 // Words that ask for nothing.
 #[test]
 fn words_are_refused(rt: HostRuntime) -> Result<(), Fail> {
-    gives(
-        &rt,
-        rt.alloc(),
-        &[("a.hm", A_GREETING)],
-        &[],
-        2,
-        "usage: hermes check FILE.. | hermes run OPTIONS FILE.. | hermes make N | hermes object FILE.. | hermes exec OPTIONS FILE | hermes replay OPTIONS JOURNAL FILE.. | hermes format FILE
-",
-    )?;
-    gives(
-        &rt,
-        rt.alloc(),
-        &[("a.hm", A_GREETING)],
-        &["run"],
-        2,
-        "usage: hermes check FILE.. | hermes run OPTIONS FILE.. | hermes make N | hermes object FILE.. | hermes exec OPTIONS FILE | hermes replay OPTIONS JOURNAL FILE.. | hermes format FILE
-",
-    )?;
+    gives(&rt, rt.alloc(), &[("a.hm", A_GREETING)], &[], 2, USAGE)?;
+    gives(&rt, rt.alloc(), &[("a.hm", A_GREETING)], &["run"], 2, USAGE)?;
     gives(
         &rt,
         rt.alloc(),
         &[("a.hm", A_GREETING)],
         &["run", "--workers", "17", "a.hm"],
         2,
-        "usage: hermes check FILE.. | hermes run OPTIONS FILE.. | hermes make N | hermes object FILE.. | hermes exec OPTIONS FILE | hermes replay OPTIONS JOURNAL FILE.. | hermes format FILE
-",
+        USAGE,
     )?;
     gives(
         &rt,
@@ -429,8 +414,7 @@ fn words_are_refused(rt: HostRuntime) -> Result<(), Fail> {
         &[("a.hm", A_GREETING)],
         &["run", "--steps", "0", "a.hm"],
         2,
-        "usage: hermes check FILE.. | hermes run OPTIONS FILE.. | hermes make N | hermes object FILE.. | hermes exec OPTIONS FILE | hermes replay OPTIONS JOURNAL FILE.. | hermes format FILE
-",
+        USAGE,
     )?;
     gives(
         &rt,
@@ -438,8 +422,7 @@ fn words_are_refused(rt: HostRuntime) -> Result<(), Fail> {
         &[("a.hm", A_GREETING)],
         &["run", "--journal", "--summary", "a.hm"],
         2,
-        "usage: hermes check FILE.. | hermes run OPTIONS FILE.. | hermes make N | hermes object FILE.. | hermes exec OPTIONS FILE | hermes replay OPTIONS JOURNAL FILE.. | hermes format FILE
-",
+        USAGE,
     )?;
     gives(
         &rt,
@@ -447,8 +430,7 @@ fn words_are_refused(rt: HostRuntime) -> Result<(), Fail> {
         &[("a.hm", A_GREETING)],
         &["check", "a.hm", "a.hm"],
         2,
-        "usage: hermes check FILE.. | hermes run OPTIONS FILE.. | hermes make N | hermes object FILE.. | hermes exec OPTIONS FILE | hermes replay OPTIONS JOURNAL FILE.. | hermes format FILE
-",
+        USAGE,
     )?;
     gives(
         &rt,
@@ -456,8 +438,7 @@ fn words_are_refused(rt: HostRuntime) -> Result<(), Fail> {
         &[("a.hm", A_GREETING)],
         &["make", "0"],
         2,
-        "usage: hermes check FILE.. | hermes run OPTIONS FILE.. | hermes make N | hermes object FILE.. | hermes exec OPTIONS FILE | hermes replay OPTIONS JOURNAL FILE.. | hermes format FILE
-",
+        USAGE,
     )?;
     Ok(())
 }
