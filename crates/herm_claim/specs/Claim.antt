@@ -7,8 +7,12 @@ use Rattle.herm_model.specs.MissingFacts.{IsAccepted}
 use Rattle.herm_model.specs.Values.{Name}
 use Rattle.herm_journal.specs.Entries.{Text}
 use Rattle.herm_journal.specs.Journals.{ordered}
+use Rattle.herm_system.specs.ProcessFates.{fates}
 use Rattle.herm_system.specs.Reports.{Report}
 use Rattle.herm_system.specs.Rounds.{rounds}
+use Rattle.herm_system.specs.RunTexts.{queues, text_of_run}
+use Rattle.herm_system.specs.Statuses.{status_of}
+use Rattle.herm_system.specs.Summary.{counts}
 use Rattle.herm_system.specs.Systems.{Run, start}
 use Rattle.herm_meaning.specs.Names.{NamedTable}
 use Rattle.herm_source.specs.Modules.{Program, Modules}
@@ -38,16 +42,21 @@ pub record AreAccepted (files : List (List ℕ)) : Type 0 where
   pub program : HaveProgram files types processes main
   pub each : (p : Process) → IsIn p processes → IsAccepted types.shapes p
 
--- The report's journal is that of the run by rounds: in each round every process that can step makes its next event, in the order of their numbers, until none can.
--- Language reference, "Rounds".
-pub record IsByRounds (modules : Modules) (options : Options) (report : Report) : Type 0 where
+-- The report is that of the run by rounds: in each round every process that can step makes its next event, in the order of their numbers, until none can. The modules, the
+-- limits and the argument determine this run. Language reference, "Rounds".
+pub record IsByRounds (modules : Modules) (options : Options) (names : List Text) (report : Report) : Type 0 where
   pub most : ℕ
   pub last : Run (State Name)
   pub rounds_to : rounds most (source modules) (start (source modules) options.limits options.argument) ≡ Some last
   pub journal : ordered last.journal ≡ report.journal
+  pub ends : fates (source modules) last.system ≡ report.ends
+  pub queued : queues last.system ≡ report.queued
+  pub counts : counts (source modules) last.system ≡ report.counts
+  pub status : status_of (source modules) last.system ≡ report.status
+  pub text : text_of_run names options.asked (source modules) last ≡ report.text
 
 -- *Runs.* The files mean a program, whose processes are accepted with their exact labels as modules; and what is told is the report of a run of these modules in the
--- source machine, from the opening state, with these limits and this argument (`Describes`); and its journal is that of the run by rounds. Its status and its text, which tells what is asked for, are the call's.
+-- source machine, from the opening state, with these limits and this argument (`Describes`), the one by rounds (`IsByRounds`). Its status and its text, which tells what is asked for, are the call's.
 pub record Runs (options : Options) (files : List (List ℕ)) (status : ℕ) (text : Text) (told : Option Report) : Type 0 where
   pub types : NamedTable
   pub program : Program
@@ -58,7 +67,7 @@ pub record Runs (options : Options) (files : List (List ℕ)) (status : ℕ) (te
   pub report : Report
   pub is_told : told ≡ Some report
   pub describes : Describes modules options.limits options.argument types.exceptions options.asked report
-  pub by_rounds : IsByRounds modules options report
+  pub by_rounds : IsByRounds modules options types.exceptions report
   pub status_is : status ≡ report.status
   pub text_is : text ≡ report.text
 

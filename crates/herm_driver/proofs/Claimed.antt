@@ -1,4 +1,5 @@
 -- The claim of files that were compiled and checked or run, or refused.
+use Rattle.std.specs.Prelude.{⊤}
 use Rattle.std.proofs.Common.{◌≡◌, ℕ, List, [], ◌∷◌, ◌++◌, map, length, Option, Some, None, IsTrue, refl, sym, ap, subst, ◌∙◌}
 use Rattle.std.specs.declared.vec.Vec.{Vec}
 use Rattle.std.specs.declared.alloc.Global.{Global}
@@ -10,15 +11,15 @@ use Rattle.herm_model.specs.Lists.{IsIn}
 use Rattle.herm_model.specs.MissingFacts.{IsAccepted}
 use Rattle.herm_model.specs.Values.{Name}
 use Rattle.herm_journal.specs.Entries.{Text}
-use Rattle.herm_journal.specs.Journals.{ordered}
+use Rattle.herm_journal.specs.Journals.{IsRising, ordered}
 use Rattle.herm_journal.specs.NextNumbers.{Limits}
 use Rattle.herm_journal.specs.Ports.{first_of}
 use Rattle.herm_system.specs.Machines.{Machine}
 use Rattle.herm_system.specs.Reports as language
 use Rattle.herm_system.specs.Rounds.{rounds}
-use Rattle.herm_system.specs.RunTexts.{Asked}
+use Rattle.herm_system.specs.RunTexts.{Asked, plainly, with_summary, the_journal, journal_text, text_of_run}
 use Rattle.herm_system.specs.Statuses.{status_by}
-use Rattle.herm_system.specs.Systems.{Run, start}
+use Rattle.herm_system.specs.Systems.{Event, Run, start}
 use Rattle.herm_runs.specs.Joining.{LookAlike}
 use Rattle.herm_meaning.specs.Names.{NamedTable}
 use Rattle.herm_source.specs.AcceptedRuns.{Describes}
@@ -30,7 +31,15 @@ use Rattle.herm_typed.specs.View.{typed_process_view}
 use Rattle.herm_instructions.specs.Images.{Image}
 use Rattle.herm_code.specs.View.{CodeImage, image_view}
 use Rattle.herm_simulation.specs.laws.CheckedCode.{modules_of}
+use Rattle.herm_code_machine.specs.CodeStates.{CodeState}
+use Rattle.herm_waking.specs.KeptRounds.{Worked}
+use Rattle.herm_waking.specs.Unnamed.{Unnamed}
+use Rattle.herm_waking.specs.UnnamedRounds.{BareWorked}
+use Rattle.herm_waking.specs.laws.WorldLaws.{report_of}
+use Rattle.herm_code_worlds.specs.BareReports.{bare_report}
+use Rattle.herm_code_worlds.specs.CodeWorlds.{its_ready, named, nameless, Shows}
 use Rattle.herm_code_worlds.proofs.ProgramWorlds.{checked-code-works}
+use Rattle.herm_code_worlds.proofs.ReportsBare.{reports-bare}
 use Rattle.herm_images.specs.CheckedPrograms.{program_view, StandsForProgram}
 use Rattle.herm_compile.specs.Phases.{HaveThisProgram}
 use Rattle.herm_compile.specs.Refused.{AreRefused, IfRefused}
@@ -39,7 +48,8 @@ use Rattle.herm_compile.specs.declared.fault.CompileFault.{CompileFault}
 use Rattle.herm_compile.specs.declared.fault.CompileFault.TheVariants.{Refused}
 use Rattle.herm_report.specs.View.{report_view}
 use Rattle.herm_report.specs.declared.report.Report.{Report}
-use Rattle.herm_report_laws.proofs.Described.{its-report}
+use Rattle.herm_report_laws.specs.ReportLaws.{HasStrings, TellsOf}
+use Rattle.herm_report_laws.proofs.Described.{in-order, its-report}
 use Rattle.herm_report_laws.proofs.Strings.{console_strings}
 use Rattle.herm_text.specs.ReportTexts.{report_text, ends_of}
 use Rattle.herm_sizes.specs.AcceptedLines.{accepted_text}
@@ -70,23 +80,48 @@ end-describes types program image stands options r text of =
     (sym (its-report _ program.main (ended.bare).system ((ended.run).run).journal r types.exceptions options.asked rising ended.tells have))
     (works.describes options.limits options.argument ended.events ended.run ended.bare types.exceptions options.asked text ended.shows ended.nobody)
 
+-- the report of a run that a world shows
+as-reported : (image : Image) (main : ℕ) (limits : Limits) (argument : Text) (events : List Event) (w : Worked (CodeState Name)) (b : BareWorked (CodeState ⊤)) (r : Report) (names : List Text) (asked : Asked)
+    → Shows image main limits argument events w b → TellsOf image main b.system w.run.journal r → HasStrings b.system.ports → IsRising (ordered w.run.journal)
+    → report_of names asked (named image main) w.run ≡ report_view r (status_in r) (report_text names asked r)
+as-reported image main limits argument events w b r names asked shows tells have rising =
+    let Is : Unnamed (CodeState ⊤) → Type 0 = λ v. bare_report names asked (nameless image main) v (ordered w.run.journal) ≡ report_of names asked (named image main) w.run in
+    sym (its-report image main b.system w.run.journal r names asked rising tells have ∙ subst Is (ap (λ (x : BareWorked (CodeState ⊤)). x.system) shows.seen) (reports-bare (its_ready image main) names asked w.run))
+
+-- the text of a run, with its journal in order, is that of the run
+text-in-order : {P : Type 0} (names : List Text) (asked : Asked) (machine : Machine Name P) (r : Run P) → IsRising (ordered r.journal)
+    → text_of_run names asked machine (record { system = r.system; journal = ordered r.journal }) ≡ text_of_run names asked machine r
+text-in-order names plainly machine r rising = refl
+text-in-order names with_summary machine r rising = refl
+text-in-order names the_journal machine r rising = ap (journal_text names) (in-order (ordered r.journal) rising)
+
 -- a run that looks like the one by rounds
-made-by-rounds : {P : Type 0} (modules : Modules) (options : Options) (code : Machine Name P) (R : P → State Name → Type 0) (most : ℕ) (q : Run P) (report : language.Report) → ordered q.journal ≡ report.journal
-    → (r : Run (State Name)) × (rounds most (source modules) (start (source modules) options.limits options.argument) ≡ Some r) × LookAlike code (source modules) R q r → IsByRounds modules options report
-made-by-rounds modules options code R most q report e (last, to, alike) = record {
+made-by-rounds : {P : Type 0} (modules : Modules) (options : Options) (names : List Text) (code : Machine Name P) (R : P → State Name → Type 0) (most : ℕ) (q : Run P) (report : language.Report) → IsRising (ordered q.journal)
+    → report_of names options.asked code q ≡ report
+    → (r : Run (State Name)) × (rounds most (source modules) (start (source modules) options.limits options.argument) ≡ Some r) × LookAlike code (source modules) R q r → IsByRounds modules options names report
+made-by-rounds modules options names code R most q report rising is (last, to, alike) = record {
   most = most;
   last = last;
   rounds_to = to;
-  journal = ap ordered (sym alike.journal) ∙ e;
+  journal = ap ordered (sym alike.journal) ∙ ap (λ (r : language.Report). r.journal) is;
+  ends = sym alike.ends ∙ ap (λ (r : language.Report). r.ends) is;
+  queued = sym alike.queued ∙ ap (λ (r : language.Report). r.queued) is;
+  counts = sym alike.counts ∙ ap (λ (r : language.Report). r.counts) is;
+  status = sym alike.status ∙ ap (λ (r : language.Report). r.status) is;
+  text = sym (alike.text names options.asked) ∙ sym (text-in-order names options.asked code q rising) ∙ ap (λ (r : language.Report). r.text) is;
 }
 
 -- and the run is the one by rounds
-end-by-rounds : (types : NamedTable) (program : Program) (image : CodeImage) (stands : StandsForProgram types program image) (options : Options) (r : Report) (status : ℕ) (text : Text) → IsTrue (is_text options.argument)
+end-by-rounds : (types : NamedTable) (program : Program) (image : CodeImage) (stands : StandsForProgram types program image) (options : Options) (r : Report) → IsTrue (is_text options.argument)
     → IsReportOfEnd (image_view image) program.main options.limits options.argument r
-    → IsByRounds (modules_of program stands.modules) options (report_view r status text)
-end-by-rounds types program image stands options r status text argued of =
+    → IsByRounds (modules_of program stands.modules) options types.exceptions (report_view r (status_in r) (report_text types.exceptions options.asked r))
+end-by-rounds types program image stands options r argued of =
+    let works = checked-code-works (length types.exceptions) program stands.modules stands.checked in
     let ended = subst (λ (x : Image). IsReportOfEnd x program.main options.limits options.argument r) stands.image of in
-    made-by-rounds (modules_of program stands.modules) options _ _ ended.most (ended.run).run (report_view r status text) (sym (ended.tells).journal_is)
+    let have = console_strings (length types.exceptions) _ program.main (stands.does).good options.limits options.argument ended.events ended.run ended.bare ended.shows in
+    let rising = (((works.works).runs).journal options.limits options.argument ended.events (ended.run).run (ended.shows).comes).fits.ordered in
+    made-by-rounds (modules_of program stands.modules) options types.exceptions _ _ ended.most (ended.run).run _ rising
+    (as-reported _ program.main options.limits options.argument ended.events ended.run ended.bare r types.exceptions options.asked ended.shows ended.tells have rising)
     ((stands.does).rounds_back options.limits options.argument ended.most (ended.run).run argued ended.by_rounds)
 
 pub runs-of-end : (types : NamedTable) (program : compiled.Program) (image : CodeImage) → StandsForProgram types (program_view types.shapes program) image → (options : Options) (r : Report) → IsTrue (is_text options.argument)
@@ -104,7 +139,7 @@ runs-of-end types program image stands options r argued of status s text e files
       report = report_view r (status_in r) (report_text types.exceptions options.asked r);
       is_told = refl;
       describes = end-describes types (program_view types.shapes program) image stands options r argued of;
-      by_rounds = end-by-rounds types (program_view types.shapes program) image stands options r (status_in r) (report_text types.exceptions options.asked r) argued of;
+      by_rounds = end-by-rounds types (program_view types.shapes program) image stands options r argued of;
       status_is = refl;
       text_is = refl;
     } in
