@@ -34,7 +34,7 @@ fn write<S: Sink>(sink: &mut S, answer: Answer) -> Outcome
 
 /// Runs a call of the program: takes the words after the program's name, loads and compiles the named files or a ring, checks or runs them, and writes the text.
 ///
-/// At status 5 nothing was written. At status 4 a prefix of the text was written. The text that is due and its status
+/// At status 5 the sink is as before. At status 4 a prefix of the text was written. The text that is due and its status
 /// are those of the language reference, "Statuses and texts". Neither count of faults falls, and the shelf's contents stay.
 pub fn hermes<F: Shelf, S: Sink, G: Gate + Sync>(
     alloc: Global,
@@ -59,7 +59,7 @@ pub fn hermes<F: Shelf, S: Sink, G: Gate + Sync>(
     ensures shelf_kept { result.status ≢ 3 → result.status ≢ 4 → result.status ≢ 5 → F.faults shelf.new ≡ F.faults shelf.old }
     ensures sink_kept { result.status ≢ 4 → S.faults sink.new ≡ S.faults sink.old }
     ensures asked { result.status ≡ 5 → FirstAreLoaded F.loads (names_of (work_of (asked (map string_bytes words.now)))) shelf.old shelf.new }
-    ensures memory { result.status ≡ 5 → S.written sink.new ≡ S.written sink.old }
+    ensures memory { result.status ≡ 5 → sink.new ≡ sink.old }
     ensures shelf_counted { F.faults shelf.old ≤ F.faults shelf.new }
     ensures sink_counted { S.faults sink.old ≤ S.faults sink.new }
     ensures same { F.contents shelf.new ≡ F.contents shelf.old }

@@ -1,25 +1,26 @@
 //! The program `hermes`: reads files by their names, writes to standard output, and ends with the call's status.
 #![tactic(auto)]
 
-ghost use Rattle.std.specs.Prelude.{◌≡◌, ℕ, None, IfOk, OnErr, map, string_bytes};
+ghost use Rattle.std.specs.Prelude.{◌≡◌, IfOk, OnErr, map, string_bytes};
 ghost use Rattle.std.specs.Process.{exit_status};
-ghost use Rattle.herm_edge.specs.Shelf.{faults_after};
 ghost use Rattle.herm_driver.specs.Due.{EndsWith};
+ghost use Rattle.hermes.specs.Words.{behind_name};
 
 use herm_driver::hermes;
 use herm_edge::{DirShelf, FreeGate, Gate, Shelf, Sink, WriteSink};
 use std::alloc::{AllocError, Global};
-use std::env;
-use std::io::{self, Write};
+use std::env::{self, Args};
+use std::io;
 use std::process::ExitCode;
-use std::rt::{Env, Files};
 
-/// The words after the program's name. Words that are not text are none that the program takes.
-fn words<R: Env + AllocGlobal>(rt: &R) -> Result<Vec<String>, AllocError> {
-    match env::args(rt) {
-        Ok(all) => all.skip(1).collect(rt.alloc()),
+/// The words after the program's name, of all that the system has. Words that are not text are none that the program takes.
+fn words(alloc: Global, all: io::Result<Args>) -> Result<Vec<String>, AllocError>
+    ensures words { IfOk result (λ words. words.items ≡ behind_name all) }
+{
+    match all {
+        Ok(all) => all.skip(1).collect(alloc),
         Err(error) if error.kind() == io::ErrorKind::OutOfMemory => Err(AllocError),
-        Err(_) => Ok(Vec::new(rt.alloc())),
+        Err(_) => Ok(Vec::new(alloc)),
     }
 }
 
@@ -38,27 +39,32 @@ fn call<F: Shelf, S: Sink, G: Gate + Sync>(
     ExitCode::from(outcome.into_status())
 }
 
-/// Calls the program with these words over the system's files and a writer. Words that took too much memory end it with status 5.
-fn run<R: Files + AllocGlobal, W: Write + Drop>(
-    rt: &R,
+/// Calls the program with these words, or ends with status 5, and leaves all as it was, where they took too much memory.
+fn run<F: Shelf, S: Sink>(
+    alloc: Global,
     words: Result<Vec<String>, AllocError>,
-    writer: W,
+    shelf: &mut F,
+    sink: &mut S,
 ) -> ExitCode
-    ensures memory { OnErr words (exit_status result ≡ 5) }
-    ensures ends { IfOk words (λ words. (shelf : ℕ) × (sink : ℕ) × EndsWith (λ before load after. after ≡ faults_after load.answer before) (λ n. n)
-        None 0 shelf (map string_bytes words.items) 0 sink None None (exit_status result)) }
+    ensures memory { OnErr words ((exit_status result ≡ 5) × (shelf.new ≡ shelf.old) × (sink.new ≡ sink.old)) }
+    ensures ends { IfOk words (λ words. EndsWith F.loads F.faults (F.contents shelf.old) shelf.old shelf.new (map string_bytes words.items)
+        (S.faults sink.old) (S.faults sink.new) (S.written sink.old) (S.written sink.new) (exit_status result)) }
 {
-    let words = match words {
-        Ok(words) => words,
-        Err(_) => return ExitCode::from(5),
-    };
-    let mut shelf = DirShelf::new(rt);
-    let mut sink = WriteSink::new(writer);
-    call(rt.alloc(), &words, &mut shelf, &mut sink, &FreeGate)
+    match words {
+        Ok(words) => call(alloc, &words, shelf, sink, &FreeGate),
+        Err(_) => ExitCode::from(5),
+    }
 }
 
 fn main(rt: HostRuntime) -> ExitCode {
-    run(&rt, words(&rt), io::writer(&rt))
+    let mut shelf = DirShelf::new(&rt);
+    let mut sink = WriteSink::new(io::writer(&rt));
+    run(
+        rt.alloc(),
+        words(rt.alloc(), env::args(&rt)),
+        &mut shelf,
+        &mut sink,
+    )
 }
 
 #[cfg(test)]

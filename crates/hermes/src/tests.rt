@@ -1,6 +1,8 @@
 //! The program over the system's files: its text and its status.
-use super::run;
+use super::{run, words};
+use herm_edge::{DirShelf, WriteSink};
 use std::alloc::{AllocError, Global};
+use std::io::{self, Write};
 use std::process::{Abort, ExitCode};
 use std::rt::Files;
 use std::test::Fail;
@@ -24,6 +26,17 @@ fn words_of(alloc: Global, command: &str, name: &str) -> Result<Vec<String>, All
     Ok(words)
 }
 
+/// Runs the program over the system's files and a writer.
+fn run_over<R: Files + AllocGlobal, W: Write + Drop>(
+    rt: &R,
+    words: Result<Vec<String>, AllocError>,
+    writer: W,
+) -> ExitCode {
+    let mut shelf = DirShelf::new(rt);
+    let mut sink = WriteSink::new(writer);
+    run(rt.alloc(), words, &mut shelf, &mut sink)
+}
+
 /// Runs a command over a file, and compares the status and the text.
 fn ends<R: Files + AllocGlobal + Abort>(
     rt: &R,
@@ -33,7 +46,7 @@ fn ends<R: Files + AllocGlobal + Abort>(
     text: &str,
 ) -> Result<(), AllocError> {
     let mut written = Vec::new(rt.alloc());
-    let code = run(rt, words_of(rt.alloc(), command, name), &mut written);
+    let code = run_over(rt, words_of(rt.alloc(), command, name), &mut written);
     assert!(rt; code == ExitCode::from(status), "status {status}");
     assert_eq!(rt; written.as_slice(), text.as_bytes(), "status {status}");
     Ok(())
@@ -66,10 +79,23 @@ fn the_program_ends_with_the_status_of_its_call(rt: HostRuntime) -> Result<(), F
 #[test]
 fn the_program_ends_with_a_fault_of_its_writer(rt: HostRuntime) -> Result<(), Fail> {
     let mut room = [0u8; 2];
-    let code = run(&rt, words_of(rt.alloc(), "run", "--"), room.as_mut_slice());
+    let code = run_over(&rt, words_of(rt.alloc(), "run", "--"), room.as_mut_slice());
     assert!(rt; code == ExitCode::from(4));
     assert_eq!(rt; room, *b"us");
-    let code = run(&rt, Err(AllocError), room.as_mut_slice());
+    let code = run_over(&rt, Err(AllocError), room.as_mut_slice());
     assert!(rt; code == ExitCode::from(5));
+    Ok(())
+}
+
+// The program's name is none of its words; of words that are no text there are none.
+#[test]
+fn the_words_stand_behind_the_name(rt: HostRuntime) -> Result<(), Fail> {
+    let alloc = rt.alloc();
+    let all = words_of(alloc, "hermes", "check")?;
+    let taken = words(alloc, Ok(all.into_iter()))?;
+    assert!(rt; taken.len() == 1);
+    assert_eq!(rt; taken[0].as_bytes(), b"check");
+    let none = words(alloc, Err(io::Error::from(io::ErrorKind::InvalidData)))?;
+    assert!(rt; none.is_empty());
     Ok(())
 }
