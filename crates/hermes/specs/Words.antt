@@ -5,7 +5,7 @@ use Rattle.std.specs.Vec.Iter.{into_iter_items}
 use Rattle.std.specs.declared.vec.IntoIter.{IntoIter}
 use Rattle.std.specs.declared.io.Error.{Error}
 
--- The words behind the program's name, of all that the system has. Where one of those is no text there are none.
+-- The words behind the program's name, of all that the system has. Where it gave an error in place of words, there are none.
 abbrev pub behind_name : Result (IntoIter (String Global) Global) Error → List (String Global)
 behind_name (Ok all) = drop 1 (into_iter_items all)
 behind_name (Err error) = []

@@ -87,7 +87,7 @@ fn the_program_ends_with_a_fault_of_its_writer(rt: HostRuntime) -> Result<(), Fa
     Ok(())
 }
 
-// The program's name is none of its words; of words that are no text there are none.
+// The program's name is none of its words; of words that are no text there are none; want of memory is told.
 #[test]
 fn the_words_stand_behind_the_name(rt: HostRuntime) -> Result<(), Fail> {
     let alloc = rt.alloc();
@@ -97,5 +97,7 @@ fn the_words_stand_behind_the_name(rt: HostRuntime) -> Result<(), Fail> {
     assert_eq!(rt; taken[0].as_bytes(), b"check");
     let none = words(alloc, Err(io::Error::from(io::ErrorKind::InvalidData)))?;
     assert!(rt; none.is_empty());
+    let wanting = words(alloc, Err(io::Error::from(io::ErrorKind::OutOfMemory)));
+    assert!(rt; wanting.is_err());
     Ok(())
 }
