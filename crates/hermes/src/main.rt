@@ -60,10 +60,11 @@ fn run<F: Shelf, S: Sink>(
     ensures asked { IfOk words (λ words. exit_status result ≡ 5 → FirstAreLoaded F.loads (names_of (work_of (asked (map string_bytes words.items)))) shelf.old shelf.new) }
     ensures unwritten { exit_status result ≡ 5 → sink.new ≡ sink.old }
 {
-    match words {
-        Ok(words) => call(alloc, &words, shelf, sink, &FreeGate),
-        Err(_) => ExitCode::from(5),
-    }
+    let words = match words {
+        Ok(words) => words,
+        Err(_) => return ExitCode::from(5),
+    };
+    call(alloc, &words, shelf, sink, &FreeGate)
 }
 
 fn main(rt: HostRuntime) -> ExitCode {

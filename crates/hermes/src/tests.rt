@@ -94,7 +94,7 @@ fn the_words_stand_behind_the_name(rt: HostRuntime) -> Result<(), Fail> {
     let all = words_of(alloc, "hermes", "check")?;
     let taken = words(alloc, Ok(all.into_iter()))?;
     assert!(rt; taken.len() == 1);
-    assert_eq!(rt; taken[0].as_bytes(), b"check");
+    assert_eq!(rt; taken[0].as_bytes(), b"check".as_slice());
     let none = words(alloc, Err(io::Error::from(io::ErrorKind::InvalidData)))?;
     assert!(rt; none.is_empty());
     let wanting = words(alloc, Err(io::Error::from(io::ErrorKind::OutOfMemory)));
