@@ -9,7 +9,7 @@ use Rattle.herm_claim.specs.Purposes.{Purpose}
 use Rattle.herm_claim.specs.laws.ClaimLaws.{IsClaimed}
 use Rattle.herm_claim.proofs.ClaimsExact.{five-statuses}
 use Rattle.herm_driver.specs.Loads.{load_limit, load_of, AreLoaded, CountsFaults, IsTold, AreTold, FirstAreLoaded}
-use Rattle.herm_driver.specs.Due.{told_of, IsNotFound, IsUnreadable, IsDueBy, IsDueByLoads, IsDue, IsCaused, IsDueTo, IsUsage, IsMade, IsChosen, IsTextStatus}
+use Rattle.herm_driver.specs.Due.{told_of, IsNotFound, IsUnreadable, IsDueBy, IsDue, IsCaused, IsDueTo, IsUsage, IsMade, IsChosen, IsTextStatus}
 use Rattle.herm_commands.specs.Words as words
 use Rattle.herm_driver.specs.Words.{Work, refused, make, over, work_of}
 use Rattle.herm_report.specs.declared.report.Report.{Report}
@@ -31,10 +31,29 @@ told-none None names = tt
 told-none (Some files) [] = tt
 told-none (Some files) (name ∷ names) = tt
 
+-- words that are not taken, and a ring's text, ask for no file
+pub due-refused : {S : Type 0} (loads : S → Load → S → Type 0) (faults : S → ℕ) (contents : Option (List File)) (at : S) (work : Work) (status : ℕ) (text : List ℕ) (report : Option Report) →
+    work ≡ refused → IsUsage status text report → IsDue loads faults contents at at work status text report
+due-refused loads faults contents at refused status text report e due =
+    record { answers = []; loaded = refl; counted = refl; told = told-none contents []; due = due }
+due-refused loads faults contents at (make nodes) status text report e due = absurd (cc)
+due-refused loads faults contents at (over purpose ready names) status text report e due = absurd (cc)
+
+pub due-made : {S : Type 0} (loads : S → Load → S → Type 0) (faults : S → ℕ) (contents : Option (List File)) (at : S) (nodes status : ℕ) (text : List ℕ) (report : Option Report) →
+    IsMade nodes status text report → IsDue loads faults contents at at (make nodes) status text report
+due-made loads faults contents at nodes status text report due =
+    record { answers = []; loaded = refl; counted = refl; told = told-none contents []; due = due }
+
+-- where no file is named, none is loaded and none is lost
+kept-none : {S : Type 0} (loads : S → Load → S → Type 0) (answers : List FileAnswer) (before after : S) (count after_count : ℕ) →
+    AreLoaded loads [] answers before after → CountsFaults answers count after_count → after_count ≡ count
+kept-none loads [] before after count after_count loaded counted = counted
+kept-none loads (answer ∷ answers) before after count after_count loaded counted = absurd loaded
+
 -- no file is left to be loaded
 pub due-at-once : {S : Type 0} (loads : S → Load → S → Type 0) (faults : S → ℕ) (contents : Option (List File)) (at : S) (purpose : Purpose) (ready : List File) (status : ℕ) (text : List ℕ) (report : Option Report) →
     Claim purpose ready status text (told_of report status text) →
-    IsDueByLoads loads faults contents at at purpose ready [] status text report
+    IsDue loads faults contents at at (over purpose ready []) status text report
 due-at-once loads faults contents at purpose ready status text report due =
     record { answers = []; loaded = refl; counted = refl; told = told-none contents []; due = due }
 
@@ -45,8 +64,8 @@ pub due-given : {S : Type 0} (loads : S → Load → S → Type 0) (faults : S �
     told_by ≡ contents →
     length bytes ≤ load_limit →
     IfSome contents (λ files. option_map (take load_limit) (file_at files name) ≡ Some bytes) →
-    IsDueByLoads loads faults told_by between after purpose (ready ++ (record { name = name; bytes = bytes } ∷ [])) names status text report →
-    IsDueByLoads loads faults contents before after purpose ready (name ∷ names) status text report
+    IsDue loads faults told_by between after (over purpose (ready ++ (record { name = name; bytes = bytes } ∷ [])) names) status text report →
+    IsDue loads faults contents before after (over purpose ready (name ∷ names)) status text report
 due-given loads faults contents told_by before between after purpose ready name bytes names status text report loaded kept same within told rest =
     record {
       answers = given bytes ∷ rest.answers;
@@ -61,7 +80,7 @@ pub due-missing : {S : Type 0} (loads : S → Load → S → Type 0) (faults : S
     faults after ≡ faults before →
     IfSome contents (λ files. file_at files name ≡ None) →
     IsNotFound name status text report →
-    IsDueByLoads loads faults contents before after purpose ready (name ∷ names) status text report
+    IsDue loads faults contents before after (over purpose ready (name ∷ names)) status text report
 due-missing loads faults contents before after purpose ready name names status text report loaded kept told due =
     record { answers = not_there ∷ []; loaded = (loaded, refl); counted = kept; told = told-first contents name names not_there [] told (told-none contents names); due = due }
 
@@ -69,7 +88,7 @@ pub due-failed : {S : Type 0} (loads : S → Load → S → Type 0) (faults : S 
     loads before (load_of name not_read) after →
     Rose (faults before) (faults after) →
     IsUnreadable name status text report →
-    IsDueByLoads loads faults contents before after purpose ready (name ∷ names) status text report
+    IsDue loads faults contents before after (over purpose ready (name ∷ names)) status text report
 due-failed loads faults contents before after purpose ready name names status text report loaded rose due =
     record { answers = not_read ∷ []; loaded = (loaded, refl); counted = rose; told = told-first contents name names not_read [] (told-nothing contents name) (told-none contents names); due = due }
 
@@ -105,7 +124,7 @@ on-err (Err e) p = p
 
 pub due-at-the-end : {S : Type 0} (loads : S → Load → S → Type 0) (faults : S → ℕ) (contents : Option (List File)) (at : S) (purpose : Purpose) (ready : List File) (names : List (Bor (List ℕ))) (status : ℕ) (text : List ℕ) (report : Option Report) →
     length names ≡ 0 → Claim purpose ready status text (told_of report status text) →
-    IsDueByLoads loads faults contents at at purpose ready (texts_of names) status text report
+    IsDue loads faults contents at at (over purpose ready (texts_of names)) status text report
 due-at-the-end loads faults contents at purpose ready [] status text report none due = due-at-once loads faults contents at purpose ready status text report due
 due-at-the-end loads faults contents at purpose ready (name ∷ names) status text report none due = absurd (omega arith)
 
@@ -113,12 +132,12 @@ pub due-behind : {S : Type 0} (loads : S → Load → S → Type 0) (faults : S 
     names ≡ name ∷ rest → then ≡ ready ++ (record { name = name.now; bytes = bytes } ∷ []) →
     loads before (load_of name.now (given bytes)) between → faults between ≡ faults before → told_by ≡ contents → length bytes ≤ load_limit →
     IfSome contents (λ files. option_map (take load_limit) (file_at files name.now) ≡ Some bytes) →
-    IsDueByLoads loads faults told_by between after purpose then (texts_of rest) status text report →
-    IsDueByLoads loads faults contents before after purpose ready (texts_of names) status text report
+    IsDue loads faults told_by between after (over purpose then (texts_of rest)) status text report →
+    IsDue loads faults contents before after (over purpose ready (texts_of names)) status text report
 due-behind loads faults contents told_by before between after purpose ready then names name rest bytes status text report e pushed loaded kept same within told due =
-    subst (λ (ns : List (Bor (List ℕ))). IsDueByLoads loads faults contents before after purpose ready (texts_of ns) status text report) (sym e)
+    subst (λ (ns : List (Bor (List ℕ))). IsDue loads faults contents before after (over purpose ready (texts_of ns)) status text report) (sym e)
     (due-given loads faults contents told_by before between after purpose ready name.now bytes (texts_of rest) status text report loaded kept same within told
-    (subst (λ (fs : List File). IsDueByLoads loads faults told_by between after purpose fs (texts_of rest) status text report) pushed due))
+    (subst (λ (fs : List File). IsDue loads faults told_by between after (over purpose fs (texts_of rest)) status text report) pushed due))
 
 pub first-behind : {S : Type 0} (loads : S → Load → S → Type 0) (names : List (Bor (List ℕ))) (name : Bor (List ℕ)) (rest : List (Bor (List ℕ))) (bytes : List ℕ) (before between after : S) →
     names ≡ name ∷ rest → loads before (load_of name.now (given bytes)) between → length bytes ≤ load_limit → FirstAreLoaded loads (texts_of rest) between after → FirstAreLoaded loads (texts_of names) before after
@@ -134,7 +153,7 @@ claimed-caused before after status kept (inr (inr (inr (inl e)))) = inr ((λ thr
 claimed-caused before after status kept (inr (inr (inr (inr e)))) = inr ((λ three. absurd (omega arith)), kept)
 
 answers-caused : (purpose : Purpose) (read : List File) (names : List (List ℕ)) (answers : List FileAnswer) (before after status : ℕ) (text : List ℕ) (report : Option Report) →
-    CountsFaults answers before after → IsDueBy purpose read names answers status text report → IsCaused before after status
+    CountsFaults answers before after → IsDueBy (over purpose read names) answers status text report → IsCaused before after status
 answers-caused purpose read [] [] before after status text report counted due = claimed-caused before after status counted (five-statuses purpose read status text (told_of report status text) due)
 answers-caused purpose read [] (answer ∷ answers) before after status text report counted due = absurd due
 answers-caused purpose read (name ∷ names) [] before after status text report counted due = absurd due
@@ -146,8 +165,10 @@ answers-caused purpose read (name ∷ names) (no_memory ∷ answers) before afte
 
 pub due-caused : {S : Type 0} (loads : S → Load → S → Type 0) (faults : S → ℕ) (contents : Option (List File)) (before after : S) (work : Work) (status : ℕ) (text : List ℕ) (report : Option Report) →
     IsDue loads faults contents before after work status text report → IsCaused (faults before) (faults after) status
-due-caused loads faults contents before after refused status text report due = inr ((λ e. absurd (omega arith)), ap faults due.1)
-due-caused loads faults contents before after (make nodes) status text report due = inr ((λ e. absurd (omega arith)), ap faults due.1)
+due-caused loads faults contents before after refused status text report due =
+    inr ((λ e. let two : status ≡ 2 = due.due.0 in absurd (omega arith)), kept-none loads due.answers before after (faults before) (faults after) due.loaded due.counted)
+due-caused loads faults contents before after (make nodes) status text report due =
+    inr ((λ e. let zero : status ≡ 0 = due.due.0 in absurd (omega arith)), kept-none loads due.answers before after (faults before) (faults after) due.loaded due.counted)
 due-caused loads faults contents before after (over purpose ready names) status text report due =
     answers-caused purpose ready names due.answers (faults before) (faults after) status text report due.counted due.due
 
@@ -164,7 +185,7 @@ chosen-file told rose purpose read name names (Some whole) bytes status text rep
 
 -- What is due by the answers of a shelf that tells its files is what is due by these files.
 chosen-by : (files : List File) (purpose : Purpose) (read : List File) (names : List (List ℕ)) (answers : List FileAnswer) (before after : ℕ) (status : ℕ) (text : List ℕ) (report : Option Report) →
-    AreTold files names answers → CountsFaults answers before after → IsDueBy purpose read names answers status text report →
+    AreTold files names answers → CountsFaults answers before after → IsDueBy (over purpose read names) answers status text report →
     IsDueTo files (Rose before after) purpose read names status text report
 chosen-by files purpose read [] [] before after status text report told counted due = due
 chosen-by files purpose read [] (answer ∷ answers) before after status text report told counted due = absurd due
@@ -181,8 +202,8 @@ pub told-chosen : {S : Type 0} (loads : S → Load → S → Type 0) (faults : S
     IsDue loads faults contents before after work status text report →
     IfSome contents (λ files. IsChosen work files (Rose (faults before) (faults after)) status text report)
 told-chosen loads faults None before after work status text report due = tt
-told-chosen loads faults (Some files) before after refused status text report due = due.0
-told-chosen loads faults (Some files) before after (make nodes) status text report due = due.0
+told-chosen loads faults (Some files) before after refused status text report due = due.due
+told-chosen loads faults (Some files) before after (make nodes) status text report due = due.due
 told-chosen loads faults (Some files) before after (over purpose ready names) status text report due =
     chosen-by files purpose ready names due.answers (faults before) (faults after) status text report due.told due.counted due.due
 
@@ -195,7 +216,7 @@ claimed-written status (inr (inr (inr (inl e)))) = (((λ four. absurd (omega ari
 claimed-written status (inr (inr (inr (inr e)))) = (((λ four. absurd (omega arith)), (λ five. absurd (omega arith))), (λ two. absurd (omega arith)))
 
 answers-written : (purpose : Purpose) (read : List File) (names : List (List ℕ)) (answers : List FileAnswer) (status : ℕ) (text : List ℕ) (report : Option Report) →
-    IsDueBy purpose read names answers status text report → IsTextStatus status × (status ≢ 2)
+    IsDueBy (over purpose read names) answers status text report → IsTextStatus status × (status ≢ 2)
 answers-written purpose read [] [] status text report due = claimed-written status (five-statuses purpose read status text (told_of report status text) due)
 answers-written purpose read [] (answer ∷ answers) status text report due = absurd due
 answers-written purpose read (name ∷ names) [] status text report due = absurd due
@@ -207,15 +228,17 @@ answers-written purpose read (name ∷ names) (no_memory ∷ answers) status tex
 -- no answer of a call has the status of a write fault or of want of memory
 pub due-written : {S : Type 0} (loads : S → Load → S → Type 0) (faults : S → ℕ) (contents : Option (List File)) (before after : S) (work : Work) (status : ℕ) (text : List ℕ) (report : Option Report) →
     IsDue loads faults contents before after work status text report → IsTextStatus status
-due-written loads faults contents before after refused status text report due = ((λ four. absurd (omega arith)), (λ five. absurd (omega arith)))
-due-written loads faults contents before after (make nodes) status text report due = ((λ four. absurd (omega arith)), (λ five. absurd (omega arith)))
+due-written loads faults contents before after refused status text report due =
+    let two : status ≡ 2 = due.due.0 in ((λ four. absurd (omega arith)), (λ five. absurd (omega arith)))
+due-written loads faults contents before after (make nodes) status text report due =
+    let zero : status ≡ 0 = due.due.0 in ((λ four. absurd (omega arith)), (λ five. absurd (omega arith)))
 due-written loads faults contents before after (over purpose ready names) status text report due = (answers-written purpose ready names due.answers status text report due.due).0
 
 -- and the usage line's status is that of refused words
 pub due-usage : {S : Type 0} (loads : S → Load → S → Type 0) (faults : S → ℕ) (contents : Option (List File)) (before after : S) (work : Work) (status : ℕ) (text : List ℕ) (report : Option Report) →
     IsDue loads faults contents before after work status text report → status ≡ 2 → work ≡ refused
 due-usage loads faults contents before after refused status text report due two = refl
-due-usage loads faults contents before after (make nodes) status text report due two = absurd (omega arith)
+due-usage loads faults contents before after (make nodes) status text report due two = let zero : status ≡ 0 = due.due.0 in absurd (omega arith)
 due-usage loads faults contents before after (over purpose ready names) status text report due two = absurd ((answers-written purpose ready names due.answers status text report due.due).1 two)
 
 -- what words ask for is some work
@@ -227,4 +250,6 @@ some-work (words.make nodes) e = cc
 
 pub ruleset load_lemmas = (due-at-once, due-missing, due-failed, first-none, first-missing, first-failed, first-wanting)
 
-pub ruleset word_lemmas = (told-chosen, due-caused, due-written)
+pub ruleset work_lemmas = (due-made, due-refused)
+
+pub ruleset word_lemmas = (told-chosen, due-caused, due-written, due-refused)

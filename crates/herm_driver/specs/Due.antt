@@ -11,7 +11,7 @@ use Rattle.herm_commands.specs.Words.{asked}
 use Rattle.herm_ring.specs.Ring.{ring_text}
 use Rattle.herm_claim.specs.Claim.{Claim}
 use Rattle.herm_claim.specs.Purposes.{Purpose}
-use Rattle.herm_driver.specs.Words.{Work, refused, make, over, work_of}
+use Rattle.herm_driver.specs.Words.{Work, refused, make, over, work_of, names_of}
 use Rattle.herm_driver.specs.Loads.{load_limit, AreLoaded, CountsFaults, AreTold}
 use Rattle.herm_driver.specs.Texts.{usage_text, read_fault_text, not_found_text}
 
@@ -27,33 +27,11 @@ IsNotFound name status text report = (status ≡ 10) × (text ≡ not_found_text
 abbrev pub IsUnreadable : List ℕ → ℕ → List ℕ → Option Report → Type 0
 IsUnreadable name status text report = (status ≡ 3) × (text ≡ read_fault_text name) × (report ≡ None)
 
--- What is due by the answers for the named files, with those that were read before them: the first that is not its bytes
--- decides, and of files whose bytes were all read the claim holds.
-abbrev pub IsDueBy : Purpose → List File → List (List ℕ) → List FileAnswer → ℕ → List ℕ → Option Report → Type 0
-IsDueBy purpose read [] [] status text report = Claim purpose read status text (told_of report status text)
-IsDueBy purpose read [] (answer ∷ answers) status text report = ⊥
-IsDueBy purpose read (name ∷ names) [] status text report = ⊥
-IsDueBy purpose read (name ∷ names) (given bytes ∷ answers) status text report =
-    IsDueBy purpose (read ++ (record { name = name; bytes = bytes } ∷ [])) names answers status text report
-IsDueBy purpose read (name ∷ names) (not_there ∷ answers) status text report = IsNotFound name status text report
-IsDueBy purpose read (name ∷ names) (not_read ∷ answers) status text report = IsUnreadable name status text report
-IsDueBy purpose read (name ∷ names) (no_memory ∷ answers) status text report = ⊥
-
--- The named files were loaded, and the text, its status and the report are those that are due by the answers, beside the files that were there. The count of faults
--- rose where a file could not be read, and nowhere else; and the answers are what the shelf tells, where it tells its files.
-pub record IsDueByLoads {S : Type 0} (loads : S → Load → S → Type 0) (faults : S → ℕ) (contents : Option (List File))
-    (before after : S) (purpose : Purpose) (ready : List File) (names : List (List ℕ)) (status : ℕ) (text : List ℕ) (report : Option Report) : Type 0 where
-  pub answers : List FileAnswer
-  pub loaded : AreLoaded loads names answers before after
-  pub counted : CountsFaults answers (faults before) (faults after)
-  pub told : IfSome contents (λ files. AreTold files names answers)
-  pub due : IsDueBy purpose ready names answers status text report
-
 -- a status of 3 is that of a load that failed and raised the count of faults; with any other the count is as before
 abbrev pub IsCaused : ℕ → ℕ → ℕ → Type 0
 IsCaused before after status = ((status ≡ 3) × Rose before after) ⊎ ((status ≢ 3) × (after ≡ before))
 
--- words that are not taken are due the usage line, and no file is asked for
+-- the usage line, for words that are not taken
 abbrev pub IsUsage : ℕ → List ℕ → Option Report → Type 0
 IsUsage status text report = (status ≡ 2) × (text ≡ usage_text) × (report ≡ None)
 
@@ -61,11 +39,29 @@ IsUsage status text report = (status ≡ 2) × (text ≡ usage_text) × (report 
 abbrev pub IsMade : ℕ → ℕ → List ℕ → Option Report → Type 0
 IsMade nodes status text report = (status ≡ 0) × (text ≡ ring_text nodes) × (report ≡ None)
 
--- A text, its status and a report are those that are due to a call's work by what any shelf answers. No file is asked for but the named ones.
-abbrev pub IsDue : {S : Type 0} → (S → Load → S → Type 0) → (S → ℕ) → Option (List File) → S → S → Work → ℕ → List ℕ → Option Report → Type 0
-IsDue loads faults contents before after refused status text report = IsUsage status text report × (after ≡ before)
-IsDue loads faults contents before after (make nodes) status text report = IsMade nodes status text report × (after ≡ before)
-IsDue loads faults contents before after (over purpose ready names) status text report = IsDueByLoads loads faults contents before after purpose ready names status text report
+-- What a call's work is due by the answers for the files that it names. Words that are not taken are due the usage line, and `make` a ring's text. Of named files the first answer
+-- that is not its bytes decides; and of files whose bytes were all read, behind those that were there already, the claim holds.
+abbrev pub IsDueBy : Work → List FileAnswer → ℕ → List ℕ → Option Report → Type 0
+IsDueBy refused answers status text report = IsUsage status text report
+IsDueBy (make nodes) answers status text report = IsMade nodes status text report
+IsDueBy (over purpose read []) [] status text report = Claim purpose read status text (told_of report status text)
+IsDueBy (over purpose read []) (answer ∷ answers) status text report = ⊥
+IsDueBy (over purpose read (name ∷ names)) [] status text report = ⊥
+IsDueBy (over purpose read (name ∷ names)) (given bytes ∷ answers) status text report =
+    IsDueBy (over purpose (read ++ (record { name = name; bytes = bytes } ∷ [])) names) answers status text report
+IsDueBy (over purpose read (name ∷ names)) (not_there ∷ answers) status text report = IsNotFound name status text report
+IsDueBy (over purpose read (name ∷ names)) (not_read ∷ answers) status text report = IsUnreadable name status text report
+IsDueBy (over purpose read (name ∷ names)) (no_memory ∷ answers) status text report = ⊥
+
+-- The files that the work names were loaded, and no others, and the text, its status and the report are those that are due by the shelf's answers. The count of faults
+-- rose where a file could not be read, and nowhere else; and the answers are what the shelf tells, where it tells its files.
+pub record IsDue {S : Type 0} (loads : S → Load → S → Type 0) (faults : S → ℕ) (contents : Option (List File))
+    (before after : S) (work : Work) (status : ℕ) (text : List ℕ) (report : Option Report) : Type 0 where
+  pub answers : List FileAnswer
+  pub loaded : AreLoaded loads (names_of work) answers before after
+  pub counted : CountsFaults answers (faults before) (faults after)
+  pub told : IfSome contents (λ files. AreTold files (names_of work) answers)
+  pub due : IsDueBy work answers status text report
 
 -- What named files are due that a shelf tells, with those that were read before them: in their order, a file is not found, or it could not be read, where the shelf's
 -- count rose; and of their first bytes the claim holds.
@@ -94,28 +90,20 @@ IsWritten count after_count before after status chosen text =
     ((status ≡ chosen) × (after ≡ written_after before text) × (after_count ≡ count))
     ⊎ ((status ≡ 4) × Rose count after_count × (n : ℕ) × (n < length text) × (after ≡ written_after before (take n text)))
 
--- A text was chosen and written.
-pub record IsAnswer (chooses : ℕ → List ℕ → Type 0) (count after_count : ℕ) (before after : Option (List ℕ)) (status : ℕ) : Type 0 where
-  pub chosen : ℕ
-  pub text : List ℕ
-  pub is_chosen : chooses chosen text
-  pub written : IsWritten count after_count before after status chosen text
-
 -- memory was wanting: nothing was written and nothing is reported
 abbrev pub IsUnwritten : ℕ → ℕ → Option (List ℕ) → Option (List ℕ) → ℕ → Option Report → Type 0
 IsUnwritten count after_count before after status report =
     (status ≡ 5) × (after ≡ before) × (after_count ≡ count) × (report ≡ None)
 
--- What a call of the program does, for any shelf and any sink: memory was wanting, or the text that is due to what the words ask for, by what
--- the shelf answered, was written.
-abbrev pub IsAnswered : {S : Type 0} → (S → Load → S → Type 0) → (S → ℕ) → Option (List File) → S → S → List (List ℕ)
-    → (count after_count : ℕ) → (written after_written : Option (List ℕ)) → ℕ → Option Report → Type 0
-IsAnswered loads faults contents before after words count after_count written after_written status report =
-    IsUnwritten count after_count written after_written status report
-    ⊎ IsAnswer (λ chosen text. IsDue loads faults contents before after (work_of (asked words)) chosen text report) count after_count written after_written status
+-- What a call of the program does, for any sink: memory was wanting, or the text that is due was written.
+abbrev pub IsAnswered : (is_due : ℕ → List ℕ → Type 0) → (count after_count : ℕ) → (before after : Option (List ℕ)) → ℕ → Option Report → Type 0
+IsAnswered is_due count after_count before after status report =
+    IsUnwritten count after_count before after status report
+    ⊎ (chosen : ℕ) × (text : List ℕ) × is_due chosen text × IsWritten count after_count before after status chosen text
 
 -- the status that the program ends with is that of a call
 abbrev pub EndsWith : {S : Type 0} → (S → Load → S → Type 0) → (S → ℕ) → Option (List File) → S → S → List (List ℕ)
     → (count after_count : ℕ) → (written after_written : Option (List ℕ)) → ℕ → Type 0
 EndsWith loads faults contents before after words count after_count written after_written status =
-    (report : Option Report) × IsAnswered loads faults contents before after words count after_count written after_written status report
+    (report : Option Report) × IsAnswered (λ chosen text. IsDue loads faults contents before after (work_of (asked words)) chosen text report)
+    count after_count written after_written status report

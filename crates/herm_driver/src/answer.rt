@@ -39,7 +39,7 @@ fn made(alloc: Global, nodes: u32) -> Result<Answer, AllocError>
 }
 
 /// Answers for a command.
-#[tactic(auto, using(crate::proofs::Arguments::arg_text))]
+#[tactic(auto, using(crate::proofs::Arguments::arg_text, crate::proofs::Chosen::work_lemmas))]
 fn answer_for<F: Shelf>(
     alloc: Global,
     command: Command,

@@ -4,8 +4,9 @@ ghost use Rattle.herm_edge.specs.Faults.{Rose};
 ghost use Rattle.herm_edge.specs.View.{loaded_view};
 ghost use Rattle.herm_edge.specs.Shelf.{file_at, IfHere, OnMissing, OnFailed, UnlessFailed};
 ghost use Rattle.herm_driver.specs.Loads.{load_limit, load_of, FirstAreLoaded};
-ghost use Rattle.herm_driver.specs.Due.{IsNotFound, IsUnreadable, IsDueByLoads};
+ghost use Rattle.herm_driver.specs.Due.{IsNotFound, IsUnreadable, IsDue};
 ghost use Rattle.herm_driver.specs.Purposes.{purpose_view, HasText, files_view};
+ghost use Rattle.herm_driver.specs.Words.{over};
 
 use crate::accepting::judge;
 use crate::outcome::{Answer, plain};
@@ -80,7 +81,7 @@ pub fn answer_over<F: Shelf>(
     shelf: &mut F,
 ) -> Result<Answer, AllocError>
     requires text { HasText (purpose_view purpose.now) }
-    ensures due { IfOk result (λ a. IsDueByLoads F.loads F.faults (F.contents shelf.old) shelf.old shelf.new (purpose_view purpose.now) (files_view files.items) (map (λ name. name.now) names.now) a.status a.text.items a.report) }
+    ensures due { IfOk result (λ a. IsDue F.loads F.faults (F.contents shelf.old) shelf.old shelf.new (over (purpose_view purpose.now) (files_view files.items) (map (λ name. name.now) names.now)) a.status a.text.items a.report) }
     ensures memory { OnErr result (FirstAreLoaded F.loads (map (λ name. name.now) names.now) shelf.old shelf.new) }
     ensures counted { F.faults shelf.old ≤ F.faults shelf.new }
     ensures same { F.contents shelf.new ≡ F.contents shelf.old }

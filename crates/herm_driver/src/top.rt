@@ -3,7 +3,7 @@ ghost use Rattle.std.specs.Prelude.{◌≡◌, ◌≢◌, ◌≤◌, ◌⊎◌, 
 ghost use Rattle.herm_edge.specs.Faults.{Rose};
 ghost use Rattle.herm_commands.specs.Words.{asked};
 ghost use Rattle.herm_driver.specs.Loads.{FirstAreLoaded};
-ghost use Rattle.herm_driver.specs.Due.{IsAnswered, IsChosen, IsWritten, IsAnswer, IsUnwritten};
+ghost use Rattle.herm_driver.specs.Due.{IsAnswered, IsDue, IsChosen, IsWritten, IsUnwritten};
 ghost use Rattle.herm_driver.specs.Words.{names_of, work_of};
 ghost use Rattle.herm_driver.specs.Texts.{usage_text};
 
@@ -43,12 +43,11 @@ pub fn hermes<F: Shelf, S: Sink, G: Gate + Sync>(
     sink: &mut S,
     _gate: &G,
 ) -> Outcome
-    ensures answered { IsAnswered F.loads F.faults (F.contents shelf.old) shelf.old shelf.new (map string_bytes words.now)
+    ensures answered { IsAnswered (λ status text. IsDue F.loads F.faults (F.contents shelf.old) shelf.old shelf.new (work_of (asked (map string_bytes words.now))) status text result.report)
         (S.faults sink.old) (S.faults sink.new) (S.written sink.old) (S.written sink.new) result.status result.report }
     ensures told { IfSome (F.contents shelf.old) (λ files.
-        IsUnwritten (S.faults sink.old) (S.faults sink.new) (S.written sink.old) (S.written sink.new) result.status result.report
-        ⊎ IsAnswer (λ status text. IsChosen (work_of (asked (map string_bytes words.now))) files (Rose (F.faults shelf.old) (F.faults shelf.new)) status text result.report)
-        (S.faults sink.old) (S.faults sink.new) (S.written sink.old) (S.written sink.new) result.status) }
+        IsAnswered (λ status text. IsChosen (work_of (asked (map string_bytes words.now))) files (Rose (F.faults shelf.old) (F.faults shelf.new)) status text result.report)
+        (S.faults sink.old) (S.faults sink.new) (S.written sink.old) (S.written sink.new) result.status result.report) }
     ensures usage { asked (map string_bytes words.now) ≡ None →
         (IsUnwritten (S.faults sink.old) (S.faults sink.new) (S.written sink.old) (S.written sink.new) result.status result.report
         ⊎ IsWritten (S.faults sink.old) (S.faults sink.new) (S.written sink.old) (S.written sink.new)
