@@ -57,6 +57,22 @@ fn text(alloc: Global, bytes: &[u8]) -> Result<Value, AllocError>
     Ok(Value::Text(word))
 }
 
+/// The number of the next port where there are so many; none where ports have no such number.
+fn port_behind(count: usize) -> Option<PortNo> {
+    match u32::try_from(count) {
+        Ok(number) => PortNo::new(number),
+        Err(_) => None,
+    }
+}
+
+/// The number of the next process where there are so many; none where processes have no such number.
+fn process_behind(count: usize) -> Option<ProcNo> {
+    match u32::try_from(count) {
+        Ok(number) => ProcNo::new(number.wrapping_add(1)),
+        Err(_) => None,
+    }
+}
+
 /// The start message: a text and an outport to the console.
 #[tactic(auto, using(herm_values::proofs::Wholes::records))]
 fn start_value(alloc: Global) -> Result<Value, AllocError>
@@ -231,7 +247,7 @@ impl<'i> World<'i> {
             let goes = seat.actor.make_port(None)?;
             return Ok(goes);
         }
-        let made = PortNo::new(self.ports.len() as u32);
+        let made = port_behind(self.ports.len());
         self.ports.push(open_port(self.alloc))?;
         let goes = seat.actor.make_port(made)?;
         Ok(goes)
@@ -239,8 +255,8 @@ impl<'i> World<'i> {
 
     fn make_process(&mut self, place: usize, module: u32) -> Result<bool, AllocError> {
         let is_full = self.ports.len() > self.most.ports || self.seats.len() >= self.most.processes;
-        let port_number = PortNo::new(self.ports.len() as u32);
-        let number = ProcNo::new((self.seats.len() as u32).wrapping_add(1));
+        let port_number = port_behind(self.ports.len());
+        let number = process_behind(self.seats.len());
         let Some(seat) = self.seats.get_mut(place) else {
             return Ok(false);
         };
