@@ -53,8 +53,8 @@ IsDueBy (over purpose read (name ∷ names)) (not_there ∷ answers) status text
 IsDueBy (over purpose read (name ∷ names)) (not_read ∷ answers) status text report = IsUnreadable name status text report
 IsDueBy (over purpose read (name ∷ names)) (no_memory ∷ answers) status text report = ⊥
 
--- The files that the work names were loaded, and no others, and the text, its status and the report are those that are due by the shelf's answers. The count of faults
--- rose where a file could not be read, and nowhere else; and the answers are what the shelf tells, where it tells its files.
+-- The files that the work names were loaded, up to the first whose bytes were not given, and no others; and the text, its status and the report are those that are due by the shelf's answers. The count of faults
+-- rose where a file could not be read, and nowhere else; and where the shelf tells its files, an answer of bytes, or that no file has the name, is what it tells.
 pub record IsDue {S : Type 0} (loads : S → Load → S → Type 0) (faults : S → ℕ) (contents : Option (List File))
     (before after : S) (work : Work) (status : ℕ) (text : List ℕ) (report : Option Report) : Type 0 where
   pub answers : List FileAnswer
