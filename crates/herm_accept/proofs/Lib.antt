@@ -1,4 +1,5 @@
 pub mod Judging
+pub mod Searching
 pub mod Readiness
 pub mod Arms
 pub mod Begins

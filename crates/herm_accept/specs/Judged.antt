@@ -42,3 +42,9 @@ pub data IsJudged (types : NamedTable) (number : ℕ) (p : TypedProcess) (before
       → IsJudged types number p before lacks after lacks
   refuses : (refusals : List Refusal) (more : List Lack) → refusals ≢ [] → AreShortest (flow_of types.shapes (typed_process_view p)) refusals
       → map lack_view more ≡ map lack_view lacks ++ map (lacking types number p) refusals → IsJudged types number p before lacks before more
+
+-- what one process lacks is added, which is nothing where it is accepted
+pub record IsSearched (types : NamedTable) (number : ℕ) (p : TypedProcess) (before after : List Lack) : Type 0 where
+  pub refusals : List Refusal
+  pub are : AreShortest (flow_of types.shapes (typed_process_view p)) refusals
+  pub added : map lack_view after ≡ map lack_view before ++ map (lacking types number p) refusals

@@ -94,7 +94,7 @@ fn lack_of(
 }
 
 /// Adds what a process lacks.
-fn add_lacks(
+pub fn add_lacks(
     alloc: Global,
     types: &TypeTable,
     number: usize,
@@ -128,7 +128,7 @@ fn add_accepted(
 }
 
 /// The flow of a process, ready for the check.
-fn flow(alloc: Global, types: &TypeTable, p: &TypedProcess) -> Result<Flow, AllocError>
+pub fn flow(alloc: Global, types: &TypeTable, p: &TypedProcess) -> Result<Flow, AllocError>
     requires { IsKnown types.now p.now }
     ensures { IfOk result (λ f. IsReady types.now.shapes (typed_process_view p.now) f) }
 {

@@ -2,5 +2,7 @@
 #![tactic(auto)]
 
 mod accepting;
+mod lacks;
 
 pub use accepting::{AcceptFault, Accepted, Lack, accept};
+pub use lacks::lacks_of;

@@ -1,7 +1,10 @@
 -- What a phase says of the files.
-use Rattle.std.specs.Prelude.{ℕ, List, map, Result, Ok, Err}
+use Rattle.std.specs.Prelude.{ℕ, List, map, Result, Ok, Err, ⊤}
 use Rattle.std.specs.declared.vec.Vec.{Vec}
 use Rattle.std.specs.declared.alloc.Global.{Global}
+use Rattle.herm_model.specs.Lists.{IsIn}
+use Rattle.herm_model.specs.Statements.{Process}
+use Rattle.herm_model.specs.MissingFacts.{IsAccepted}
 use Rattle.herm_meaning.specs.Names.{NamedTable}
 use Rattle.herm_syntax.specs.declared.modules.Module.{Module}
 use Rattle.herm_typed.specs.View.{typed_process_view}
@@ -29,6 +32,10 @@ HaveThisProgram files types program = HaveProgram files types (map typed_process
 abbrev pub IsOfModules : List (List ℕ) → NamedTable → Program → Type 0
 IsOfModules files types program = (modules : List Module) × (owners : List ℕ) × HaveModules 0 files modules owners × IsProgramOf types modules program
 
+-- Each process of the program is accepted: each fact that a statement needs is held on every control path to it.
+abbrev pub EachIsAccepted : NamedTable → Program → Type 0
+EachIsAccepted types program = (p : Process) → IsIn p (map typed_process_view program.processes.items) → IsAccepted types.shapes p
+
 -- the program that the modules mean, or their faults of names and types
 abbrev pub IsResolution : List (List ℕ) → NamedTable → Result Program (Vec Fault Global) → Type 0
 IsResolution files types (Ok program) = HaveThisProgram files types program
@@ -38,3 +45,8 @@ IsResolution files types (Err faults) = AreMisnamed files faults.items
 abbrev pub IsAcceptance : List (List ℕ) → NamedTable → Program → Result Accepted (Vec Fault Global) → Type 0
 IsAcceptance files types program (Ok a) = AreAccepted types.shapes program.processes.items a.flows.items a.labels.items a.coercions.items
 IsAcceptance files types program (Err faults) = AreUnaccepted files faults.items
+
+-- each process of the program is accepted, or what they lack
+abbrev pub IsSearch : List (List ℕ) → NamedTable → Program → Result ⊤ (Vec Fault Global) → Type 0
+IsSearch files types program (Ok _) = EachIsAccepted types program
+IsSearch files types program (Err faults) = AreUnaccepted files faults.items

@@ -5,14 +5,14 @@ ghost use Rattle.herm_typed.specs.View.{typed_process_view};
 ghost use Rattle.herm_accept.specs.Lacking.{lack_view};
 ghost use Rattle.herm_compile.specs.FirstPhase.{HaveModules};
 ghost use Rattle.herm_compile.specs.FourthPhase.{IsMeant, is_process, process_modules, missing_fault};
-ghost use Rattle.herm_compile.specs.Phases.{IsAcceptance};
+ghost use Rattle.herm_compile.specs.Phases.{IsAcceptance, IsSearch};
 ghost use Rattle.herm_compile.specs.View.{fault_view};
 ghost use Rattle.herm_compile.specs.Spots.{AreShort, IsCursor};
 
 use crate::fault::Fault;
 use crate::phase::ReadFiles;
 use crate::spots::{Cursor, first_cursor, locate};
-use herm_accept::{AcceptFault, Accepted, Lack, accept};
+use herm_accept::{AcceptFault, Accepted, Lack, accept, lacks_of};
 use herm_base::Word;
 use herm_resolve::Program;
 use herm_syntax::Module;
@@ -126,4 +126,25 @@ pub fn acceptance_of(
         }
         Err(AcceptFault::Memory) => Err(AllocError),
     }
+}
+
+/// That the processes of the program are accepted, or what they lack at its places.
+pub fn search_of(
+    alloc: Global,
+    files: &[(Word, Vec<u8>)],
+    read: &ReadFiles,
+    types: &TypeTable,
+    program: &Program,
+) -> Result<Result<(), Vec<Fault>>, AllocError>
+    requires read { HaveModules 0 (map (λ file. file.1.items) files.now) read.now.modules.items read.now.owners.items }
+    requires meant { IsMeant read.now.modules.items types.now program.now }
+    ensures { IfOk result (λ said. IsSearch (map (λ file. file.1.items) files.now) types.now program.now said) }
+{
+    let lacks = lacks_of(alloc, types, program.processes.as_slice())?;
+    let count = lacks.len();
+    if count == 0 {
+        return Ok(Ok(()));
+    }
+    let faults = faults_of(alloc, files, read, lacks)?;
+    Ok(Err(faults))
 }

@@ -24,7 +24,8 @@ ghost use Rattle.herm_compile.specs.OneDefinition.{HaveOneTable, AreOneList, Typ
 ghost use Rattle.herm_compile.specs.Refused.{AreRefused, IfRefused};
 ghost use Rattle.herm_compile.specs.declared.fault.CompileFault.TheVariants.{Memory};
 
-use checked::{Checked, checked_files};
+pub use checked::{Checked, check};
+use checked::{CheckedFiles, checked_files};
 pub use compiled::Compiled;
 pub use fault::{CompileFault, Fault};
 use herm_base::Word;
@@ -85,7 +86,7 @@ pub fn accepted_or_refused()
 {}
 
 /// What was checked, with its image.
-fn with_image(alloc: Global, checked: Checked) -> Result<Compiled, CompileFault>
+fn with_image(alloc: Global, checked: CheckedFiles) -> Result<Compiled, CompileFault>
     requires typed { IsTypedProgram (length checked.types.exceptions) checked.types.shapes (map typed_process_view checked.program.processes.items) checked.program.main }
     requires checked { AreAccepted checked.types.shapes checked.program.processes.items checked.accepted.flows.items checked.accepted.labels.items checked.accepted.coercions.items }
     ensures types { IfOk result (λ c. c.image.types ≡ checked.types) }

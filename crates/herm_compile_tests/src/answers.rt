@@ -1,7 +1,7 @@
 //! What is said of files, as text.
 use herm_base::Word;
 use herm_check::MissingFact;
-use herm_compile::{CompileFault, Compiled, Fault, compile};
+use herm_compile::{Checked, CompileFault, Compiled, Fault, check, compile};
 use herm_typed::Outcome;
 use herm_types::Fact;
 use std::alloc::{AllocError, Global};
@@ -29,6 +29,27 @@ pub fn image_answer_to(alloc: Global, contents: &[&[u8]]) -> Result<String, Allo
         Ok(compiled) => module_counts(alloc, &compiled),
         Err(fault) => refusal(alloc, &fault),
     }
+}
+
+/// What a check says of files: their refusal, or the number of main and the name of each process.
+pub fn check_answer_to(alloc: Global, contents: &[&[u8]]) -> Result<String, AllocError> {
+    let files = files_of(alloc, contents)?;
+    match check(alloc, files.as_slice()) {
+        Ok(checked) => process_names(alloc, &checked),
+        Err(fault) => refusal(alloc, &fault),
+    }
+}
+
+fn process_names(alloc: Global, checked: &Checked) -> Result<String, AllocError> {
+    let main = checked.program.main;
+    let mut text = format!(in alloc; "main {main}|")?;
+    for process in checked.program.processes.as_slice() {
+        for byte in process.name.text.bytes() {
+            text.push(*byte as char)?;
+        }
+        text.push('|')?;
+    }
+    Ok(text)
 }
 
 fn module_counts(alloc: Global, compiled: &Compiled) -> Result<String, AllocError> {

@@ -1,5 +1,5 @@
-//! Programs of any forms, and the refusals of all phases.
-use crate::answers::image_answer_to;
+//! Programs of any forms, and the refusals of all phases, compiled and checked.
+use crate::answers::{check_answer_to, image_answer_to};
 use std::test::Fail;
 
 const TYPES: &[u8] = b"definitions d { type ask = callmessage (in q: string, inout w: string); \
@@ -31,8 +31,22 @@ fn programs_of_any_forms_have_images(rt: HostRuntime) -> Result<(), Fail> {
 }
 
 #[test]
+fn programs_of_any_forms_are_checked(rt: HostRuntime) -> Result<(), Fail> {
+    let cases: [(&[&[u8]], &str); 3] = [
+        (&[TYPES, SERVICE, CLIENT], "main 1|drop|main|"),
+        (&[CLIENT, SERVICE, TYPES], "main 0|main|drop|"),
+        (&[ENDLESS], "main 0|main|"),
+    ];
+    for (contents, expected) in cases {
+        let found = check_answer_to(rt.alloc(), contents)?;
+        assert_eq!(rt; found.as_str(), expected);
+    }
+    Ok(())
+}
+
+#[test]
 fn each_phase_refuses_its_faults(rt: HostRuntime) -> Result<(), Fail> {
-    let cases: [(&[&[u8]], &str); 6] = [
+    let cases: [(&[&[u8]], &str); 7] = [
         (&[], "0/0:0: F19 no main|"),
         (&[b"12a", TYPES, b"}"], "0/1:1: F2 token|2/1:1: F4 syntax|"),
         (
@@ -55,10 +69,22 @@ fn each_phase_refuses_its_faults(rt: HostRuntime) -> Result<(), Fail> {
             ],
             "2/1:36: F13 needs init(c) by start (1 init 1 0:)|",
         ),
+        (
+            &[
+                b"process p(s: ask_in) { var c: ask; discard c;\n discard c; }",
+                TYPES,
+                SERVICE,
+                ENDLESS,
+                b"process q(s: ask_in) { var c: ask;\n discard c; }",
+            ],
+            "0/1:36: F13 needs init(c) by start (1 init 1 0:)|0/2:2: F13 needs init(c) by start 1:ok (2 init 1 0: 1)|4/2:2: F13 needs init(c) by start (1 init 1 0:)|",
+        ),
     ];
     for (contents, expected) in cases {
         let found = image_answer_to(rt.alloc(), contents)?;
         assert_eq!(rt; found.as_str(), expected);
+        let checked = check_answer_to(rt.alloc(), contents)?;
+        assert_eq!(rt; checked.as_str(), expected);
     }
     Ok(())
 }

@@ -250,6 +250,6 @@ some-work (words.make nodes) e = cc
 
 pub ruleset load_lemmas = (due-at-once, due-missing, due-failed, first-none, first-missing, first-failed, first-wanting)
 
-pub ruleset work_lemmas = (due-made, due-refused)
+pub ruleset work_lemmas = (due-made)
 
 pub ruleset word_lemmas = (told-chosen, due-caused, due-written, due-refused)

@@ -6,9 +6,6 @@ use Rattle.std.specs.declared.alloc.Global.{Global}
 use Rattle.herm_edge.specs.Shelf.{File}
 use Rattle.herm_model.specs.Typed.{is_text}
 use Rattle.herm_model.specs.Types.{TypeTable}
-use Rattle.herm_model.specs.Statements.{Process}
-use Rattle.herm_model.specs.Lists.{IsIn}
-use Rattle.herm_model.specs.MissingFacts.{IsAccepted}
 use Rattle.herm_model.specs.Values.{Name}
 use Rattle.herm_journal.specs.Entries.{Text}
 use Rattle.herm_journal.specs.Journals.{IsRising, ordered}
@@ -41,7 +38,7 @@ use Rattle.herm_code_worlds.specs.CodeWorlds.{its_ready, named, nameless, Shows}
 use Rattle.herm_code_worlds.proofs.ProgramWorlds.{checked-code-works}
 use Rattle.herm_code_worlds.proofs.ReportsBare.{reports-bare}
 use Rattle.herm_images.specs.CheckedPrograms.{program_view, StandsForProgram}
-use Rattle.herm_compile.specs.Phases.{HaveThisProgram}
+use Rattle.herm_compile.specs.Phases.{HaveThisProgram, EachIsAccepted}
 use Rattle.herm_compile.specs.Refused.{AreRefused, IfRefused}
 use Rattle.herm_compile.specs.declared.fault.Fault.{Fault}
 use Rattle.herm_compile.specs.declared.fault.CompileFault.{CompileFault}
@@ -53,10 +50,10 @@ use Rattle.herm_report_laws.proofs.Described.{in-order, its-report}
 use Rattle.herm_report_laws.proofs.Strings.{console_strings}
 use Rattle.herm_text.specs.ReportTexts.{report_text, ends_of}
 use Rattle.herm_sizes.specs.AcceptedLines.{accepted_text}
-use Rattle.herm_claim.specs.Claim.{names_of, bytes_of, AreAccepted, IsByRounds, Runs, Checks, Accepts, Claim}
+use Rattle.herm_claim.specs.Claim.{names_of, bytes_of, IsByRounds, Runs, Checks, Accepts, Claim}
 use Rattle.herm_claim.specs.Purposes.{Purpose, Options}
 use Rattle.herm_claim.specs.RefusalLines.{refusals_text}
-use Rattle.herm_claim.proofs.Running.{coded-accepted, claim-of-accepted}
+use Rattle.herm_claim.proofs.Running.{claim-of-accepted}
 use Rattle.herm_claim.proofs.Refusing.{claim-of-refusal}
 use Rattle.herm_driver.specs.declared.outcome.Answer.{Answer}
 use Rattle.herm_driver.specs.Due.{told_of}
@@ -145,24 +142,19 @@ runs-of-end types program image stands options r argued of status s text e files
     } in
     subst (λ (t : Text). P status t) (sym e) (subst (λ (n : ℕ). P n (report_text types.exceptions options.asked r)) (sym s) at)
 
--- the processes of a program that an image stands for are accepted
-pub stands-accepted : (types : NamedTable) (program : compiled.Program) (image : CodeImage) → StandsForProgram types (program_view types.shapes program) image
-    → (files : List (List ℕ)) → HaveThisProgram files types program → AreAccepted files
-stands-accepted types program image stands files means = record {
-  types = types;
-  processes = map typed_process_view program.processes.items;
-  main = program.main;
-  program = means;
-  each = coded-accepted (program_view types.shapes program) (map typed_process_view program.processes.items) _ ((stands.checked).checked).accepted.codes;
-}
-
-pub checks-of-line : (types : NamedTable) (program : compiled.Program) (image : CodeImage) → StandsForProgram types (program_view types.shapes program) image → (answer : Answer) (text : Vec ℕ Global)
+-- what is told of a program whose processes are accepted, by its line
+pub checks-of-line : (types : NamedTable) (program : compiled.Program) → EachIsAccepted types program → (answer : Answer) (text : Vec ℕ Global)
     → answer ≡ record { status = 0; text = text; report = None } → text.items ≡ accepted_text (map typed_process_view program.processes.items)
     → (files : List (List ℕ)) → HaveThisProgram files types program → Checks files answer.status answer.text.items (told_of answer.report answer.status answer.text.items)
-unfolding stands-accepted
-checks-of-line types program image stands answer text is line files means =
+checks-of-line types program each answer text is line files means =
     subst (λ (a : Answer). Checks files a.status a.text.items (told_of a.report a.status a.text.items)) (sym is) (record {
-      accepted = stands-accepted types program image stands files means;
+      accepted = record {
+        types = types;
+        processes = map typed_process_view program.processes.items;
+        main = program.main;
+        program = means;
+        each = each;
+      };
       text_is = line;
       status_is = refl;
       unreported = refl;

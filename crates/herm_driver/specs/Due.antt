@@ -95,7 +95,7 @@ abbrev pub IsUnwritten : ℕ → ℕ → Option (List ℕ) → Option (List ℕ)
 IsUnwritten count after_count before after status report =
     (status ≡ 5) × (after ≡ before) × (after_count ≡ count) × (report ≡ None)
 
--- What a call of the program does, for any sink: memory was wanting, or the text that is due was written.
+-- What a call of the program does, for any sink: memory was wanting, or the text that is due was written or cut off.
 abbrev pub IsAnswered : (is_due : ℕ → List ℕ → Type 0) → (count after_count : ℕ) → (before after : Option (List ℕ)) → ℕ → Option Report → Type 0
 IsAnswered is_due count after_count before after status report =
     IsUnwritten count after_count before after status report

@@ -1,42 +1,90 @@
 //! Files whose bytes were read: refused, or accepted and then checked or run.
-ghost use Rattle.std.specs.Prelude.{◌≡◌, IfOk, List, ℕ, map};
-ghost use Rattle.herm_claim.specs.Claim.{Accepts, Checks, Claim};
-ghost use Rattle.herm_compile.specs.Phases.{HaveThisProgram};
-ghost use Rattle.herm_images.specs.CheckedPrograms.{program_view, StandsForProgram};
+ghost use Rattle.std.specs.Prelude.{◌≡◌, IfOk, IsTrue, List, ℕ, map};
+ghost use Rattle.herm_model.specs.Typed.{is_text};
+ghost use Rattle.herm_commands.specs.Words.{options_seen};
+ghost use Rattle.herm_claim.specs.Claim.{Checks, Claim};
+ghost use Rattle.herm_claim.specs.Purposes as claim;
+ghost use Rattle.herm_compile.specs.Phases.{HaveThisProgram, EachIsAccepted};
+ghost use Rattle.herm_compile.specs.Refused.{AreRefused, IfRefused};
 ghost use Rattle.herm_driver.specs.Due.{told_of};
 ghost use Rattle.herm_driver.specs.Purposes.{purpose_view, HasText, files_view};
+ghost use Rattle.herm_driver.specs.Words.{options_of};
 
 use crate::outcome::{Answer, plain};
 use crate::purpose::Purpose;
 use crate::running::run;
 use crate::text::refusals;
 use herm_base::Word;
-use herm_compile::{CompileFault, Compiled, compile};
+use herm_commands::RunOptions;
+use herm_compile::{Checked, CompileFault, check, compile};
 use herm_sizes::accepted_line;
 use std::alloc::{AllocError, Global};
 
-/// Says how many processes and statements a compiled program has.
-fn check(alloc: Global, compiled: &Compiled) -> Result<Answer, AllocError>
-    requires stands { StandsForProgram compiled.now.image.types (program_view compiled.now.image.types.shapes compiled.now.program) compiled.now.image }
-    ensures checks { IfOk result (λ a. (files : List (List ℕ)) → HaveThisProgram files compiled.now.image.types compiled.now.program → Checks files a.status a.text.items (told_of a.report a.status a.text.items)) }
+/// Says how many processes and statements a checked program has.
+fn size_answer(alloc: Global, checked: &Checked) -> Result<Answer, AllocError>
+    requires accepted { EachIsAccepted checked.now.types checked.now.program }
+    ensures checks { IfOk result (λ a. (files : List (List ℕ)) → HaveThisProgram files checked.now.types checked.now.program → Checks files a.status a.text.items (told_of a.report a.status a.text.items)) }
 {
-    let text = accepted_line(alloc, compiled.program.processes.as_slice())?;
+    let text = accepted_line(alloc, checked.program.processes.as_slice())?;
     Ok(plain(0, text))
 }
 
-/// Does with a compiled program what is asked for.
-fn serve(alloc: Global, purpose: &Purpose, compiled: &Compiled) -> Result<Answer, AllocError>
-    requires text { HasText (purpose_view purpose.now) }
-    requires stands { StandsForProgram compiled.now.image.types (program_view compiled.now.image.types.shapes compiled.now.program) compiled.now.image }
-    ensures accepts { IfOk result (λ a. (files : List (List ℕ)) → HaveThisProgram files compiled.now.image.types compiled.now.program → Accepts (purpose_view purpose.now) files a.status a.text.items (told_of a.report a.status a.text.items)) }
+/// Says where files are refused, whatever is asked for.
+fn refusal_answer(
+    alloc: Global,
+    files: &[(Word, Vec<u8>)],
+    fault: CompileFault,
+) -> Result<Answer, AllocError>
+    requires refused { IfRefused fault (λ faults. AreRefused (map (λ file. file.1.items) files.now) faults) }
+    ensures claim { IfOk result (λ a. (purpose : claim.Purpose) → Claim purpose (files_view files.now) a.status a.text.items (told_of a.report a.status a.text.items)) }
 {
-    match purpose {
-        Purpose::Check => check(alloc, compiled),
-        Purpose::Run(options) => run(alloc, compiled, options),
+    match fault {
+        CompileFault::Refused(faults) => {
+            let text = refusals(alloc, files, &faults)?;
+            Ok(plain(1, text))
+        }
+        CompileFault::Memory => Err(AllocError),
     }
 }
 
-/// Compiles the bytes of files and does what is asked for, or says where they are refused.
+/// Checks the bytes of files, and says how large their program is, or where they are refused. No image is made.
+fn check_answer(alloc: Global, files: &[(Word, Vec<u8>)]) -> Result<Answer, AllocError>
+    ensures claim { IfOk result (λ a. Claim claim.check (files_view files.now) a.status a.text.items (told_of a.report a.status a.text.items)) }
+{
+    match check(alloc, files) {
+        Ok(checked) => {
+            let answer = size_answer(alloc, &checked)?;
+            Ok(answer)
+        }
+        Err(fault) => {
+            let answer = refusal_answer(alloc, files, fault)?;
+            Ok(answer)
+        }
+    }
+}
+
+/// Compiles the bytes of files and runs their program, or says where they are refused.
+fn run_answer(
+    alloc: Global,
+    files: &[(Word, Vec<u8>)],
+    options: &RunOptions,
+) -> Result<Answer, AllocError>
+    requires text { IsTrue (is_text options.now.arg.now) }
+    ensures claim { IfOk result (λ a. Claim (claim.run (options_of (options_seen options.now))) (files_view files.now) a.status a.text.items (told_of a.report a.status a.text.items)) }
+{
+    match compile(alloc, files) {
+        Ok(compiled) => {
+            let answer = run(alloc, &compiled, options)?;
+            Ok(answer)
+        }
+        Err(fault) => {
+            let answer = refusal_answer(alloc, files, fault)?;
+            Ok(answer)
+        }
+    }
+}
+
+/// Does with the bytes of files what is asked for, or says where they are refused.
 pub fn judge(
     alloc: Global,
     purpose: &Purpose,
@@ -45,15 +93,14 @@ pub fn judge(
     requires text { HasText (purpose_view purpose.now) }
     ensures claim { IfOk result (λ a. Claim (purpose_view purpose.now) (files_view files.now) a.status a.text.items (told_of a.report a.status a.text.items)) }
 {
-    match compile(alloc, files) {
-        Ok(compiled) => {
-            let answer = serve(alloc, purpose, &compiled)?;
+    match purpose {
+        Purpose::Check => {
+            let answer = check_answer(alloc, files)?;
             Ok(answer)
         }
-        Err(CompileFault::Refused(faults)) => {
-            let text = refusals(alloc, files, &faults)?;
-            Ok(plain(1, text))
+        Purpose::Run(options) => {
+            let answer = run_answer(alloc, files, options)?;
+            Ok(answer)
         }
-        Err(CompileFault::Memory) => Err(AllocError),
     }
 }

@@ -1,0 +1,14 @@
+use Rattle.std.proofs.Common.{subst}
+use Rattle.herm_flow.specs.View.{flow_view}
+use Rattle.herm_check.specs.Faults.{IsFault}
+use Rattle.herm_accept.proofs.Searching.{searched_accepted, searched_refused}
+use Rattle.herm_accept.proofs.lacks.search.Goals as goal
+
+pub returns-in-Ok : goal.returns-in-Ok
+returns-in-Ok c = searched_accepted c.args.types.now c.args.number c.args.p.now c.in_ok-flow.flow c.args.lacks.now.items c.in_ok-flow.ensures c.in-Ok.ensures.accepted
+
+pub returns-in-Err-Missing : goal.returns-in-Err-Missing
+returns-in-Err-Missing c =
+    let fault = subst (IsFault (flow_view c.in_ok-flow.flow)) c.in-Err-Missing.field-0-is c.in-Err-Missing.ensures.missing in
+    searched_refused c.args.types.now c.args.number c.args.p.now c.in_ok-flow.flow c.in-Err-Missing.all.items c.args.lacks.now.items _
+    c.in_ok-flow.ensures fault.1 c.in_ok-add_lacks-in-Err-Missing.ensures
