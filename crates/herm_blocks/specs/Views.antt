@@ -1,5 +1,5 @@
 -- What blocks of the code stand for.
-use Rattle.std.specs.Prelude.{◌≡◌, ℕ, List, map}
+use Rattle.std.specs.Prelude.{◌≡◌, ℕ, List, [], map}
 use Rattle.herm_base.specs.declared.numbers.TypeNo.{TypeNo}
 use Rattle.herm_model.specs.Lists.{IsIn}
 use Rattle.herm_model.specs.Types.{TypeTable}
@@ -30,3 +30,8 @@ block_view b = record {
 pub record IsMarked (types : TypeTable) (variables : List ℕ) (b : Block) : Type 0 where
   pub made : (d : Departure) → IsIn d b.departures.items → map fact_view d.makes.now ≡ makes types variables (form_seen b.form.now) (outcome_view d.outcome)
   pub killed : (d : Departure) → IsIn d b.departures.items → map path_view d.kills.now ≡ kills types variables (form_seen b.form.now) (outcome_view d.outcome)
+
+-- The edge to where a process begins makes no facts and takes nothing away.
+pub record IsUnmarked (d : Departure) : Type 0 where
+  pub made : map fact_view d.makes.now ≡ []
+  pub killed : map path_view d.kills.now ≡ []

@@ -13,7 +13,7 @@ ghost use Rattle.herm_fronts.specs.Frames.{table_of, variables_of};
 ghost use Rattle.herm_blocks.specs.CheckedProcesses.{checked_view, held_lists, HasFlow};
 ghost use Rattle.herm_blocks.specs.Scopes.{departure_by, blocks_by};
 ghost use Rattle.herm_blocks.specs.Seen.{drops_view, seen_node, marked_block};
-ghost use Rattle.herm_blocks.specs.Views.{block_view, IsMarked};
+ghost use Rattle.herm_blocks.specs.Views.{block_view, IsMarked, IsUnmarked};
 ghost use Rattle.herm_blocks.specs.declared.block.Block.{Block};
 
 use crate::block::{Block, Blocks};
@@ -48,7 +48,8 @@ fn entry_edge<'a>(
     scope: &Scope<'_>,
     checked: &CheckedProcess<'a>,
 ) -> Result<Departure<'a>, AllocError>
-    ensures { IfOk result (λ d. departure_view d ≡ departure_by scope.now.numbers.now scope.now.lengths.now [] ok (first_of (length checked.now.flow.now.points.items)) (map path_view checked.now.coercions.now.entry.items)) }
+    ensures entry { IfOk result (λ d. departure_view d ≡ departure_by scope.now.numbers.now scope.now.lengths.now [] ok (first_of (length checked.now.flow.now.points.items)) (map path_view checked.now.coercions.now.entry.items)) }
+    ensures unmarked { IfOk result (λ d. IsUnmarked d) }
 {
     let exit = Exit {
         outcome: Outcome::Ok,
@@ -87,6 +88,7 @@ fn blocks_with<'a>(
     checked: &CheckedProcess<'a>,
 ) -> Result<Blocks<'a>, AllocError>
     ensures entry { IfOk result (λ b. departure_view b.entry ≡ departure_by scope.now.numbers.now scope.now.lengths.now [] ok (first_of (length checked.now.flow.now.points.items)) (map path_view checked.now.coercions.now.entry.items)) }
+    ensures unmarked { IfOk result (λ b. IsUnmarked b.entry) }
     ensures blocks { IfOk result (λ b. map marked_block b.blocks.items ≡ blocks_by (table_of frame.now) (variables_of frame.now) scope.now.numbers.now scope.now.lengths.now (departure_view b.entry) (map seen_node nodes.now) (held_lists (table_of frame.now) (variables_of frame.now) checked.now.labels.now.at.items) (map (λ v. drops_view v.items) checked.now.coercions.now.at.items)) }
 {
     let entry = entry_edge(alloc, scope, checked)?;
@@ -94,8 +96,8 @@ fn blocks_with<'a>(
     Ok(Blocks { entry, blocks })
 }
 
-/// The blocks of a checked process, one for each node in order, and the edge to where it begins. Each edge is marked with what its outcome makes and
-/// takes away. Code reference, "Blocks".
+/// The blocks of a checked process, one for each node in order, and the edge to where it begins, which makes and takes away nothing. Each edge of a
+/// block is marked with what its outcome makes and takes away. Code reference, "Blocks".
 ///
 /// # Errors
 ///
@@ -107,6 +109,7 @@ pub fn blocks_of<'a>(
 ) -> Result<Blocks<'a>, AllocError>
     requires flow { HasFlow types.now.shapes checked.now }
     ensures entry { IfOk result (λ b. departure_view b.entry ≡ entry_edge (checked_view types.now.shapes checked.now)) }
+    ensures unmarked { IfOk result (λ b. IsUnmarked b.entry) }
     ensures blocks { IfOk result (λ b. map block_view b.blocks.items ≡ blocks_of (settled (checked_view types.now.shapes checked.now))) }
     ensures marked { IfOk result (λ b. (x : Block) → IsIn x b.blocks.items → IsMarked types.now.shapes (typed_process_view checked.now.process.now).variables x) }
 {

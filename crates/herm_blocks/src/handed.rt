@@ -86,14 +86,14 @@ fn push_left(
 fn behind_edge(alloc: Global, edge: &Edge, facts: &[Fact]) -> Result<Vec<Fact>, AllocError>
     ensures { IfOk result (λ v. map fact_view v.items ≡ behind_edge (edge_view edge.now) (map fact_view facts.now)) }
 {
-    let mut out = Vec::new(alloc);
+    let mut out = Vec::with_capacity(alloc, facts.len())?;
     push_facts(alloc, edge.makes.as_slice(), &mut out)?;
     push_left(alloc, facts, edge.kills.as_slice(), &mut out)?;
     Ok(out)
 }
 
 /// What a node with these edges and facts hands on by `ok`; where it has no such edge, all of them.
-pub fn handed_on(alloc: Global, edges: &[Edge], facts: &[Fact]) -> Result<Vec<Fact>, AllocError>
+fn handed_on(alloc: Global, edges: &[Edge], facts: &[Fact]) -> Result<Vec<Fact>, AllocError>
     ensures { IfOk result (λ v. map fact_view v.items ≡ handed_by (map edge_view edges.now) (map fact_view facts.now)) }
 {
     'edges: for edge in edges {
@@ -102,7 +102,23 @@ pub fn handed_on(alloc: Global, edges: &[Edge], facts: &[Fact]) -> Result<Vec<Fa
             return Ok(out);
         }
     }
-    let mut out = Vec::new(alloc);
+    let mut out = Vec::with_capacity(alloc, facts.len())?;
     push_facts(alloc, facts, &mut out)?;
+    Ok(out)
+}
+
+/// The same, where no edge leads to the next node; where one does, the facts there are those of its label, and nothing is handed on.
+pub fn handed_unless(
+    alloc: Global,
+    led: bool,
+    edges: &[Edge],
+    facts: &[Fact],
+) -> Result<Vec<Fact>, AllocError>
+    ensures { IfOk result (λ v. map fact_view v.items ≡ cond led [] (handed_by (map edge_view edges.now) (map fact_view facts.now))) }
+{
+    if led {
+        return Ok(Vec::new(alloc));
+    }
+    let out = handed_on(alloc, edges, facts)?;
     Ok(out)
 }

@@ -8,7 +8,7 @@ ghost use Rattle.herm_blocks.specs.Seen.{ways_view, marked_block};
 ghost use Rattle.herm_blocks.specs.Scopes.{list_at, facts_by, block_with, settled_by};
 
 use crate::block::Block;
-use crate::handed::handed_on;
+use crate::handed::handed_unless;
 use crate::onward::is_for;
 use crate::ways::Ways;
 use herm_fronts::frame::Frame;
@@ -103,7 +103,8 @@ pub fn settle<'a>(
             place,
             handed,
         )?;
-        handed = handed_on(alloc, node.point.edges.as_slice(), facts.as_slice())?;
+        let next = is_led(led, place + 1);
+        handed = handed_unless(alloc, next, node.point.edges.as_slice(), facts.as_slice())?;
         found.push(block_with(way, facts))?;
     }
     Ok(found)

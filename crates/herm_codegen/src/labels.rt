@@ -155,7 +155,8 @@ fn facts_behind(
 ) -> Result<Vec<Fact>, AllocError>
     ensures { IfOk result (λ v. map fact_view v.items ≡ facts_behind (map fact_view edge.now.makes.now) (map path_view edge.now.kills.now) (map fact_view facts.now)) }
 {
-    let mut out = copy_facts(alloc, edge.makes)?;
+    let mut out = Vec::with_capacity(alloc, facts.len())?;
+    push_facts(alloc, edge.makes, &mut out)?;
     push_left(alloc, edge.kills, facts, &mut out)?;
     Ok(out)
 }

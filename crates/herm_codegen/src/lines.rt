@@ -150,7 +150,7 @@ fn front_code(
 ) -> Result<Vec<Instr>, AllocError>
     ensures { IfOk result (λ v. map instr_view v.items ≡ keyed_front (table_of frame.now) (variables_of frame.now) (map key_view keys.now.keys) at (exits_view exits.now) (block_view block.now)) }
 {
-    let mut out = Vec::with_capacity(alloc, 4)?;
+    let mut out = Vec::with_capacity(alloc, 8)?;
     out.push(Instr::Step)?;
     let operands = operands_of(alloc, frame, block.form)?;
     push_operands(keys, operands, &mut out)?;

@@ -168,7 +168,7 @@ fn held_through(
 ) -> Result<Vec<Fact>, AllocError>
     ensures { IfOk result (λ v. map fact_view v.items ≡ held_through (table_of frame.now) (has_fact state.now) depth (variables_of frame.now)) }
 {
-    let mut out = Vec::new(alloc);
+    let mut out = Vec::with_capacity(alloc, 8)?;
     'variables: for (number, t) in frame.of.iter().enumerate() {
         let number = small(number)?;
         let path = Path {
