@@ -2,6 +2,7 @@
 //! paths join.
 
 /// A source text, and the listing of its code.
+#[derive(Drop)]
 pub struct Coded {
     pub source: &'static str,
     pub listing: &'static str,

@@ -1,7 +1,7 @@
 //! What is seen of the code of a source text.
 use crate::listing::listing;
 use crate::meant::{image_of, meaning_of};
-use herm_code::Image;
+use herm_code::{Image, Instr};
 use std::alloc::{AllocError, Global};
 
 fn image_for(alloc: Global, source: &str) -> Result<Option<Image>, AllocError> {
@@ -23,21 +23,21 @@ pub fn listing_for(alloc: Global, source: &str) -> Result<String, AllocError> {
     }
 }
 
-/// How many instructions each module has.
-pub fn counts_for(alloc: Global, source: &str) -> Result<String, AllocError> {
+/// How many instructions the code of a source text has, and how many of them are steps.
+pub fn lengths_for(alloc: Global, source: &str) -> Result<(u32, u32), AllocError> {
+    let mut length: u32 = 0;
+    let mut steps: u32 = 0;
     let Some(image) = image_for(alloc, source)? else {
-        return String::from_str(alloc, "no image");
+        return Ok((length, steps));
     };
-    let mut out = String::new(alloc);
-    let mut is_first = true;
     for module in image.modules() {
-        if !is_first {
-            out.push(' ')?;
+        for instruction in module.code.as_slice() {
+            length = length.saturating_add(1);
+            steps = steps.saturating_add(match instruction {
+                Instr::Step => 1,
+                _ => 0,
+            });
         }
-        is_first = false;
-        let count = module.code.len();
-        let text = format!(in alloc; "{count}")?;
-        out.push_str(text.as_str())?;
     }
-    Ok(out)
+    Ok((length, steps))
 }

@@ -1,7 +1,7 @@
 //! The code of programs against code written by hand.
 use crate::by_hand::{Coded, GREETING, KEPT, LEFT_LOOP, RING, TWO_SENDERS};
-use crate::compiled::{counts_for, listing_for};
-use crate::programs::COUNTED;
+use crate::compiled::{lengths_for, listing_for};
+use crate::programs::PROGRAMS;
 use std::alloc::Global;
 use std::process::Abort;
 use std::test::Fail;
@@ -25,16 +25,20 @@ fn code_is_as_by_hand(rt: HostRuntime) -> Result<(), Fail> {
 }
 
 #[test]
-fn modules_are_as_long_as_counted(rt: HostRuntime) -> Result<(), Fail> {
-    let mut count: u32 = 0;
-    for line in COUNTED.lines() {
-        let Some((due, source)) = line.split_once(" | ") else {
-            break;
-        };
-        let found = counts_for(rt.alloc(), source)?;
-        assert_eq!(rt; found.as_str(), due, "{source}");
-        count = count.saturating_add(1);
+fn code_of_further_programs_is_as_by_hand(rt: HostRuntime) -> Result<(), Fail> {
+    let alloc = rt.alloc();
+    for coded in &PROGRAMS {
+        is_as_by_hand(&rt, alloc, coded)?;
     }
-    assert_eq!(rt; count, 20);
+    Ok(())
+}
+
+/// The ring has a step for each of its statements but `try`, and at most four instructions for each of them.
+#[test]
+fn ring_is_short(rt: HostRuntime) -> Result<(), Fail> {
+    let (length, steps) = lengths_for(rt.alloc(), RING.source)?;
+    assert_eq!(rt; length, 139);
+    assert_eq!(rt; steps, 36);
+    assert!(rt; length <= steps.saturating_mul(4));
     Ok(())
 }
