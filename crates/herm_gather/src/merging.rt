@@ -22,6 +22,6 @@ pub fn journal_of(entries: Vec<Entry>) -> Result<Journal, AllocError>
     ensures parts { IfOk result (λ j. (p : ℕ) → part_of_process p (entries_view j.entries.items) ≡ part_of_process p (entries_view entries.items)) }
 {
     let mut entries = entries;
-    entries.sort_by_key(|entry| place_of(entry))?;
+    entries.sort_by_cached_key(|entry| place_of(entry))?;
     Ok(Journal { entries })
 }

@@ -21,13 +21,13 @@ module _ (w k i : ℕ) (few : k < 64) where
   mask : 18446744073709551615 * 2 ^ k % 18446744073709551616 ≡ 2 ^ 64 - 2 ^ k
   mask = ones_shl 64 k (omega (arith, few))
 
-  below : i < k → bit_at (rest_of w k) i ≡ 0
+  pub below : i < k → bit_at (rest_of w k) i ≡ 0
   below lt = let m = bit_at_and w (18446744073709551615 * 2 ^ k % 18446744073709551616) i in let z = ap (λ m. bit_at m i) mask ∙ bit_at_mask_below k 64 i lt in m ∙ ap (min (bit_at w i)) z ∙ least (bit_at w i)
     where
       least : (a : ℕ) → min a 0 ≡ 0
       least a = omega arith
 
-  above : k ≤ i → i < 64 → bit_at (rest_of w k) i ≡ bit_at w i
+  pub above : k ≤ i → i < 64 → bit_at (rest_of w k) i ≡ bit_at w i
   above le lt = let m = bit_at_and w (18446744073709551615 * 2 ^ k % 18446744073709551616) i in let z = ap (λ m. bit_at m i) mask ∙ bit_at_mask_inside k 64 i le lt in m ∙ ap (min (bit_at w i)) z ∙ least (bit_at w i) (bit_at-lt w i)
     where
       least : (a : ℕ) → a < 2 → min a 1 ≡ a
@@ -40,7 +40,7 @@ at i b lt = (omega (arith, lt), omega (arith, lt))
 bit-there : (words : List ℕ) (i b : ℕ) → b < 64 → is_member words (i * 64 + b) ≡ nat_eq (bit_at (get_or words i 0) b) 1
 bit-there words i b lt = ap₂ (λ j c. nat_eq (bit_at (get_or words j 0) c) 1) (at i b lt).0 (at i b lt).1
 
-bit-of : (words : List ℕ) (r i : ℕ) → r / 64 ≡ i → bit_at (get_or words i 0) (r % 64) ≡ 0 → is_member words r ≡ false
+pub bit-of : (words : List ℕ) (r i : ℕ) → r / 64 ≡ i → bit_at (get_or words i 0) (r % 64) ≡ 0 → is_member words r ≡ false
 bit-of words r i e z = ap (λ j. nat_eq (bit_at (get_or words j 0) (r % 64)) 1) e ∙ ap (λ b. nat_eq b 1) z
 
 module _ (words : List ℕ) (n : ℕ) where

@@ -12,6 +12,8 @@ const WORD: u32 = 64;
 #[derive(Drop)]
 pub struct Ready {
     limit: u32,
+    // Bit i is 1 where word i is not 0.
+    filled: u64,
     // Number n is a member where bit n % 64 of word n / 64 is 1.
     words: Vec<u64>,
 }
@@ -26,7 +28,7 @@ impl Model for Ready {
 
     ghost view = { λ r. record { limit = r.limit; members = members r.words.items } };
 
-    ghost invariant = { λ r. IsTable r.limit r.words.items };
+    ghost invariant = { λ r. IsTable r.limit r.filled r.words.items };
 }
 
 impl Ready {
@@ -37,7 +39,11 @@ impl Ready {
         ensures none { IfOk result (λ r. r.members ≡ []) }
     {
         let words = vec![in alloc; 0u64; (limit / WORD) as usize + 1]?;
-        Ok(Ready { limit, words })
+        Ok(Ready {
+            limit,
+            filled: 0,
+            words,
+        })
     }
 
     /// Whether the number is a member.
@@ -58,6 +64,7 @@ impl Ready {
         ensures inserted { self.new ≡ record self.old { members = inserted n self.old.members } }
     {
         self.words[(n / WORD) as usize] |= 1 << (n % WORD);
+        self.filled |= 1 << (n / WORD);
     }
 
     /// Takes a number out, if it is a member.
@@ -67,6 +74,9 @@ impl Ready {
         let place = (n / WORD) as usize;
         if place < self.words.len() {
             self.words[place] &= !(1 << (n % WORD));
+            if self.words[place] == 0 {
+                self.filled &= !(1 << (n / WORD));
+            }
         }
     }
 
@@ -82,13 +92,13 @@ impl Ready {
         if rest != 0 {
             return Some(place as u32 * WORD + rest.trailing_zeros());
         }
-        for i in place + 1..self.words.len() {
-            let word = self.words[i];
-            if word != 0 {
-                return Some(i as u32 * WORD + word.trailing_zeros());
-            }
+        let later = self.filled & (u64::MAX << (from / WORD + 1));
+        if later == 0 {
+            return None;
         }
-        None
+        let next = later.trailing_zeros();
+        let word = self.words[next as usize];
+        Some(next * WORD + word.trailing_zeros())
     }
 
     /// Whether there are no members.

@@ -14,11 +14,20 @@ use herm_process::Process;
 use herm_report::{Journal, Report};
 use std::alloc::{AllocError, Global};
 
+/// How many entries the diaries have.
+fn entry_count(processes: &[Process]) -> usize {
+    let mut count: usize = 0;
+    for process in processes {
+        count = count.saturating_add(process.diary().entries().len());
+    }
+    count
+}
+
 /// The entries of all diaries.
 fn entries_of(alloc: Global, processes: Vec<Process>) -> Result<Vec<Entry>, AllocError>
     ensures entries { IfOk result (λ v. entries_view v.items ≡ all_entries processes.entry.items) }
 {
-    let mut entries = Vec::new(alloc);
+    let mut entries = Vec::with_capacity(alloc, entry_count(processes.as_slice()))?;
     for process in processes {
         let mut own = process.into_diary().into_entries();
         entries.append(&mut own)?;

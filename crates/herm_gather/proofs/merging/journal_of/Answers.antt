@@ -10,12 +10,12 @@ use Rattle.herm_gather.proofs.merging.journal_of.Goals as goal
 pub returns-clause-parts : goal.returns-clause-parts
 returns-clause-parts c =
     let keys = answers_always _ _ _ (λ f a r next called. search rules) in
-    same-parts c.args.entries.items c.sort_by_key.new.self.items c.requires.rise (IsNonDecreasingBy-from_sort place_in_order c.sort_by_key.new.self.items (c.in_ok-sort_by_key.ensures.sorted place_in_order keys))
-    (c.in_ok-sort_by_key.ensures.stable place_in_order keys)
+    same-parts c.args.entries.items c.sort_by_cached_key.new.self.items c.requires.rise (IsNonDecreasingBy-from_sort place_in_order c.sort_by_cached_key.new.self.items (c.in_ok-sort_by_cached_key.ensures.sorted place_in_order keys))
+    (c.in_ok-sort_by_cached_key.ensures.stable place_in_order keys)
 
 pub returns-clause-rising : goal.returns-clause-rising
 returns-clause-rising c =
     let keys = answers_always _ _ _ (λ f a r next called. search rules) in
-    let sorted = IsNonDecreasingBy-from_sort place_in_order c.sort_by_key.new.self.items (c.in_ok-sort_by_key.ensures.sorted place_in_order keys) in
-    let parts = same-parts c.args.entries.items c.sort_by_key.new.self.items c.requires.rise sorted (c.in_ok-sort_by_key.ensures.stable place_in_order keys) in
-    journal-rises c.sort_by_key.new.self.items (are-few c.sort_by_key.new.self.items) (rises_from_sort place_in_order c.sort_by_key.new.self.items sorted) (λ p. subst IsRising (sym (parts p)) (c.requires.rise p))
+    let sorted = IsNonDecreasingBy-from_sort place_in_order c.sort_by_cached_key.new.self.items (c.in_ok-sort_by_cached_key.ensures.sorted place_in_order keys) in
+    let parts = same-parts c.args.entries.items c.sort_by_cached_key.new.self.items c.requires.rise sorted (c.in_ok-sort_by_cached_key.ensures.stable place_in_order keys) in
+    journal-rises c.sort_by_cached_key.new.self.items (are-few c.sort_by_cached_key.new.self.items) (rises_from_sort place_in_order c.sort_by_cached_key.new.self.items sorted) (λ p. subst IsRising (sym (parts p)) (c.requires.rise p))

@@ -1,8 +1,10 @@
-use Rattle.std.proofs.Common.{◌≡◌, sym, ap, subst, ◌∙◌, ◌≤◌, ◌<◌, ◌*◌, ◌+◌, ◌/◌, ◌%◌, arith, rules, None}
+use Rattle.std.proofs.Common.{◌≡◌, sym, ap, ◌∙◌, ◌≤◌, ◌<◌, ◌*◌, ◌+◌, ◌/◌, ◌%◌, arith, length, w64}
+use Rattle.std.specs.Int.{trailing_zeros}
 use Rattle.herm_waking.specs.Numbers.{next_from}
 use Rattle.herm_ready.specs.Table.{ReadySet}
-use Rattle.herm_ready.proofs.Members.{next-absent, outside, word-at}
-use Rattle.herm_ready.proofs.NextMembers.{NoneBetween, none-rest, found-rest, none-word, found-word, none-at-all}
+use Rattle.herm_ready.proofs.Members.{next-absent, word-at}
+use Rattle.herm_ready.proofs.NextMembers.{none-rest, found-rest, rest_of}
+use Rattle.herm_ready.proofs.Summaries.{none-later-on, first-there, found-later-on}
 use Rattle.herm_ready.proofs.ready.Ready.next_from.Goals as goal
 
 pub returns-then-place-len : goal.returns-then-place-len
@@ -12,30 +14,32 @@ pub returns-then-rest-ne0 : goal.returns-then-rest-ne0
 returns-then-rest-ne0 c =
     record { first = sym (found-rest c.self.inside.words.items c.args.from c.index.result.now (word-at c.self.inside.words.items (c.args.from / 64) c.index.result.now (omega arith) c.index.ensures) (omega (arith, c.if-rest-ne0.true))) ∙ ap (λ (s : ReadySet). next_from c.args.from s.members) c.self.view_is }
 
-pub loop-i-init : goal.loop-i-init
-loop-i-init c =
-    subst (λ (s : ReadySet). NoneBetween s.members c.args.from (64 * (c.args.from / 64 + 1))) c.self.view_is
-    (λ r le lt. none-rest c.self.inside.words.items c.args.from c.index.result.now (word-at c.self.inside.words.items (c.args.from / 64) c.index.result.now (omega arith) c.index.ensures) c.if-rest-ne0.false r le (omega (arith, lt)))
-
-pub returns-then-word-ne0 : goal.returns-then-word-ne0
-returns-then-word-ne0 c =
+pub returns-then-later-eq0 : goal.returns-then-later-eq0
+returns-then-later-eq0 c =
     record {
       first =
-          sym (found-word c.self.inside.words.items c.args.from c.loop-i.i c.index-word.result.now (word-at c.self.inside.words.items c.loop-i.i c.index-word.result.now (omega arith) c.index-word.ensures)
-          (omega arith) (omega (arith, c.if-word-ne0.true)) (search rules)
-          (subst (λ (s : ReadySet). NoneBetween s.members c.args.from (64 * c.loop-i.i)) (sym c.self.view_is) c.loop-i.invariant))
+          sym (none-later-on c.self.inside.filled c.self.inside.words.items c.args.from c.self.invariant.summary (omega (arith, c.self.invariant.long, c.self.invariant.few)) (omega arith)
+          (none-rest c.self.inside.words.items c.args.from c.index.result.now (word-at c.self.inside.words.items (c.args.from / 64) c.index.result.now (omega arith) c.index.ensures) c.if-rest-ne0.false)
+          c.if-later-eq0.true)
           ∙ ap (λ (s : ReadySet). next_from c.args.from s.members) c.self.view_is;
     }
 
-pub loop-i-preserved : goal.loop-i-preserved
-loop-i-preserved c =
-    subst (λ (s : ReadySet). NoneBetween s.members c.args.from (64 * (c.loop-i.i + 1))) c.self.view_is
-    (λ r le lt. none-word c.self.inside.words.items c.args.from c.loop-i.i c.index-word.result.now (word-at c.self.inside.words.items c.loop-i.i c.index-word.result.now (omega arith) c.index-word.ensures) c.if-word-ne0.false
-    (subst (λ (s : ReadySet). NoneBetween s.members c.args.from (64 * c.loop-i.i)) (sym c.self.view_is) c.loop-i.invariant) r le (omega (arith, lt)))
+pub index-word-requires : goal.index-word-requires
+index-word-requires c =
+    let there : trailing_zeros w64 (rest_of c.self.inside.filled (c.args.from / 64 + 1)) < length c.self.inside.words.items =
+    first-there c.self.inside.filled c.self.inside.words.items c.args.from c.self.invariant.summary (omega (arith, c.self.invariant.long, c.self.invariant.few)) (omega arith)
+    (none-rest c.self.inside.words.items c.args.from c.index.result.now (word-at c.self.inside.words.items (c.args.from / 64) c.index.result.now (omega arith) c.index.ensures) c.if-rest-ne0.false)
+    c.if-later-eq0.false in
+    omega (arith, there)
 
 pub returns : goal.returns
 returns c =
+    let few : length c.self.inside.words.items ≤ 63 = omega (arith, c.self.invariant.long, c.self.invariant.few) in
+    let none = none-rest c.self.inside.words.items c.args.from c.index.result.now (word-at c.self.inside.words.items (c.args.from / 64) c.index.result.now (omega arith) c.index.ensures) c.if-rest-ne0.false in
+    let there = first-there c.self.inside.filled c.self.inside.words.items c.args.from c.self.invariant.summary few (omega arith) none c.if-later-eq0.false in
     record {
-      first = sym (none-at-all c.self.inside.words.items c.args.from c.loop-i.i (omega arith) (subst (λ (s : ReadySet). NoneBetween s.members c.args.from (64 * c.loop-i.i)) (sym c.self.view_is) c.loop-i.invariant))
+      first =
+          sym (found-later-on c.self.inside.filled c.self.inside.words.items c.args.from c.self.invariant.summary few (omega arith) none c.if-later-eq0.false c.index-word.result.now
+          (word-at c.self.inside.words.items _ c.index-word.result.now there c.index-word.ensures) (omega arith))
           ∙ ap (λ (s : ReadySet). next_from c.args.from s.members) c.self.view_is;
     }
