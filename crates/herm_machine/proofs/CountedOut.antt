@@ -21,10 +21,10 @@ use Rattle.herm_code_machine.specs.ReadyCode.{ReadyCode}
 use Rattle.herm_code_machine.specs.Stacks.{parts_from}
 use Rattle.herm_frames.specs.HeldFrames.{HeldFrame}
 use Rattle.herm_frames.specs.Standing.{Stands}
-use Rattle.herm_steps.specs.Coming.{coming}
+use Rattle.herm_steps.specs.Coming.{begins_with_step, coming}
 use Rattle.herm_stack.specs.Answers.{on_stack}
 use Rattle.herm_answers.specs.Orders.{IsGiven, IsLeft}
-use Rattle.herm_machine.specs.Machines.{HasOut, IsOut, MachineState, begins_with_step, code_of, counted_out}
+use Rattle.herm_machine.specs.Machines.{HasOut, IsOut, MachineState, code_of, counted_out}
 
 -- the steps and actions of one are those of the other
 pub record HasCountsOf (f : HeldFrame) (b : Frame ⊤) : Type 0 where

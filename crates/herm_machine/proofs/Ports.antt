@@ -1,6 +1,6 @@
 -- A sound process never wants to take a message from no port, so that something is told of each want.
 use Rattle.std.proofs.Common.{◌≡◌, ◌⊎◌, inl, inr, ℕ, List, [], ◌∷◌, Bool, true, false, Option, Some, None, option_map, option_and_then, is_some, refl, sym, ap, subst, ◌∙◌, true≢false}
-use Rattle.std.specs.Prelude.{IsTrue, ⊤}
+use Rattle.std.specs.Prelude.{IsTrue, slice_get, ⊤}
 use Rattle.herm_model.specs.Lists.{IsIn}
 use Rattle.herm_model.specs.Paths.{Path}
 use Rattle.herm_model.specs.Values.{Name, a_scalar, a_record, a_variant, a_table, a_polymorph, a_callmessage, an_inport, an_outport, Cell, cell, Value}
@@ -33,7 +33,9 @@ use Rattle.herm_code_machine.proofs.sound.CodeThere.{sound-at}
 use Rattle.herm_code_machine.proofs.sound.LocalSteps.{ComesNext, by_work, by_call, by_act, by_local, by_none, comes-next}
 use Rattle.herm_code_machine.proofs.sound.Processes.{module-of}
 use Rattle.herm_exchanges.specs.Told.{Told, a_port, a_process, a_put, a_take, a_close, an_answer, a_hearing, told, want_view}
+use Rattle.herm_exchanges.specs.declared.wants.PortList.{PortList}
 use Rattle.herm_exchanges.specs.declared.wants.Want.{Want}
+use Rattle.herm_exchanges.specs.declared.wants.Want.TheVariants as wants
 use Rattle.herm_machine.specs.Machines.{IsSoundState, nameless}
 
 -- where a message is wanted, it is wanted from some port
@@ -135,3 +137,12 @@ module _ (image : Image) (main : ℕ) where
       let t = told-there c s w h wanted in
       let want = map-some want_view o t.0 (same ∙ ap (option_and_then told) wanted ∙ t.1) in
       ap is_some want.1
+
+-- the first of the ports that are told
+pub first-told : (want : Want) (looked : PortList) → want ≡ wants.Take looked → (ports : List ℕ) → Some (want_view want) ≡ told (to_take ports) → slice_get ports 0 ≡ Some looked.first.number
+first-told want looked is [] e = none-not_some (sym e)
+first-told want looked is (port ∷ ports) e = ap (λ o. first_in o) (sym e ∙ ap (λ w. Some (want_view w)) is)
+  where
+    first_in : Option Told → Option ℕ
+    first_in (Some (a_take first count)) = Some first
+    first_in o = None

@@ -1,5 +1,5 @@
 -- What a machine stands for, behind what was done.
-use Rattle.std.proofs.Common.{◌≡◌, ◌⊎◌, ◌↔◌, inl, inr, ℕ, zero, suc, arith, List, [], ◌∷◌, map, length, Bool, true, false, Option, Some, None, option_map, option_and_then, refl, sym, ap, subst, ◌∙◌, true≢false}
+use Rattle.std.proofs.Common.{◌≡◌, ◌⊎◌, ◌↔◌, inl, inr, ℕ, zero, suc, arith, List, [], ◌∷◌, map, length, Bool, true, false, Option, Some, None, option_map, option_and_then, refl, sym, ap, ap₂, subst, ◌∙◌, true≢false}
 use Rattle.std.proofs.lemmas.Option.{slice_get-get_or, slice_get-map}
 use Rattle.std.specs.Prelude.{slice_get, ◌<◌, ⊤}
 use Rattle.herm_model.specs.Values.{Name, Value, an_inport}
@@ -19,7 +19,7 @@ use Rattle.herm_instructions.specs.Images.{Image}
 use Rattle.herm_code_machine.specs.CodeInstance.{code_at, code_machine, own_name, ready_if}
 use Rattle.herm_code_machine.specs.CodeSeen.{code_held, code_open_call, type_of_call}
 use Rattle.herm_code_machine.specs.CodeStates.{CodeState, Position, at_index, at_end, at_end_by, code_begin}
-use Rattle.herm_code_machine.specs.CodeSteps.{CodeNext, an_item, a_reply, an_action, a_local_piece, nothing, code_answered, code_local_step, code_next, code_wanted, met_at, ready_for}
+use Rattle.herm_code_machine.specs.CodeSteps.{CodeNext, an_item, a_reply, an_action, a_local_piece, nothing, call_or_piece, code_answered, code_local_step, code_next, code_wanted, item_or, met_at, ready_for}
 use Rattle.herm_code_machine.specs.Pieces.{Met, Piece}
 use Rattle.herm_code_machine.specs.ReadyCode.{ReadyCode, labelled_image, ready_code}
 use Rattle.herm_code_machine.specs.laws.GoodImageLaws.{IsGoodOver}
@@ -49,6 +49,10 @@ use Rattle.herm_machine.specs.declared.order.Got.{Got}
 use Rattle.herm_machine.specs.declared.order.Got.TheVariants as gots
 use Rattle.herm_machine.proofs.SoundStates.{GoesTo, answer-here, aside-sound, answer-sound, begun-sound, code-here, step-here, step-sound, wanted-here, wants-there}
 use Rattle.herm_machine.proofs.Wanted.{nothing-wanted, want-at, IsWantOf}
+
+-- all states at which a process stands have the same next
+pub next-same : (c : ReadyCode) (p : HeldState) (s t : CodeState ⊤) → StandsAt p s → StandsAt p t → code_next c s ≡ code_next c t
+next-same c p s t h k = ap₂ item_or (h.frame.work ∙ sym k.frame.work) (ap₂ (call_or_piece c) (h.position ∙ sym k.position) (h.frame.call ∙ sym k.frame.call))
 
 module _ (image : Image) (main : ℕ) where
   -- the process was led to a sound state behind
@@ -109,6 +113,11 @@ module _ (image : Image) (main : ℕ) where
   by-coming c s h none end (coming_action p m) e = let w = wants-there image main c s h (ap wants_nothing e) in none-not_some (sym none ∙ w.1)
   by-coming c s h none end (coming_piece p) e = (p, e)
   by-coming c s h none end coming_nothing e = ends-there c s h e end
+
+  -- then one is next at every state at which it stands
+  pub local-known : (m : MachineState) (s : CodeState ⊤) → IsAt image main m s → (nameless image main).wanted s ≡ None → end_of (code_of m) s ≡ None → (t : CodeState ⊤) → StandsAt m.held t → (p : Piece) × (coming (code_next (code_of m) t) ≡ coming_piece p)
+  local-known m s (inl h) none end t at = let p = by-coming (code_of m) s h.sound none end (coming (code_next (code_of m) s)) refl in (p.0, ap coming (next-same (code_of m) m.held t s at h.stands) ∙ p.1)
+  local-known m s (inr h) none end t at = none-not_some (ap (option_and_then told) (sym none) ∙ h.wanted)
 
   pub record Stepped (m : MachineState) (r : Bool) (new : HeldState) (o : Option (CodeState ⊤)) : Type 0 where
     pub goes : r ≡ true

@@ -1,8 +1,9 @@
 -- A process of an image as contracts see it, and the states of the machine of code for which it stands.
-use Rattle.std.specs.Prelude.{◌≡◌, ◌⊎◌, ◌<◌, ℕ, List, length, Bool, true, false, Option, Some, None, option_and_then, ⊤}
+use Rattle.std.specs.Prelude.{◌≡◌, ◌⊎◌, ◌<◌, ℕ, List, length, Bool, true, false, Option, Some, None, option_and_then, option_map, ⊤}
 use Rattle.herm_model.specs.Values.{Name, Value}
 use Rattle.herm_journal.specs.Actions.{to_put, to_take, to_answer}
 use Rattle.herm_journal.specs.Messages.{CellReply, CellWant}
+use Rattle.herm_journal.specs.Renaming.{forget_name}
 use Rattle.herm_system.specs.Machines.{Machine}
 use Rattle.herm_forms.specs.Frames.{Frame, counted_action}
 use Rattle.herm_instructions.specs.Images.{Image}
@@ -10,7 +11,7 @@ use Rattle.herm_code_machine.specs.CodeInstance.{code_at, nameless_code}
 use Rattle.herm_code_machine.specs.CodeLocal.{IsSoundCodeIn}
 use Rattle.herm_code_machine.specs.CodeRenaming.{forget_code}
 use Rattle.herm_code_machine.specs.CodeStates.{CodeState}
-use Rattle.herm_code_machine.specs.CodeSteps.{code_next, counted_if}
+use Rattle.herm_code_machine.specs.CodeSteps.{code_next, code_wanted, counted_if}
 use Rattle.herm_code_machine.specs.ReadyCode.{ReadyCode, labelled_image}
 use Rattle.herm_code_machine.specs.laws.GoodImageLaws.{IsGoodOver}
 use Rattle.herm_pieces.specs.View.{ready_view}
@@ -18,7 +19,8 @@ use Rattle.herm_pieces.specs.declared.code.Code.{Code}
 use Rattle.herm_exchanges.specs.Told.{told, want_view}
 use Rattle.herm_exchanges.specs.declared.wants.Want.{Want}
 use Rattle.herm_exchanges.specs.declared.wants.Want.TheVariants as wants
-use Rattle.herm_steps.specs.Coming.{Coming, coming, coming_item, coming_reply, coming_action, coming_piece, coming_nothing, ended_at}
+use Rattle.herm_steps.specs.Coming.{Coming, begins_with_step, coming, coming_item, end_view, ended_at, wants_nothing}
+use Rattle.herm_steps.specs.declared.coming.Coming as found
 use Rattle.herm_steps.specs.HeldStates.{HeldState}
 use Rattle.herm_steps.specs.StandingAt.{StandsAt}
 use Rattle.herm_answers.specs.Orders.{HoldsOrder}
@@ -58,14 +60,6 @@ IsOrderOut m = m.is_dead ≡ false → (want : Want) × (m.order ≡ Some want)
 -- how a process ended, if it has, by an exception or not
 abbrev pub end_of : ReadyCode → CodeState ⊤ → Option (Option ℕ)
 end_of c s = ended_at (coming (code_next c s)) s.position
-
--- what comes next begins with a step, which is counted
-abbrev pub begins_with_step : Coming → Bool
-begins_with_step coming_item = false
-begins_with_step (coming_reply index instruction) = false
-begins_with_step (coming_action p m) = p.has_step
-begins_with_step (coming_piece p) = p.has_step
-begins_with_step coming_nothing = false
 
 -- The frame as it is counted while an order is out: the action of a piece is counted when its message or reply goes out, with
 -- the step of the piece; the answer for the front of the work list is counted when it comes.
@@ -126,3 +120,14 @@ module _ (image : Image) (main : ℕ) where
 -- A process that is not dead is at a state of an image whose code is good, which is sound.
 abbrev pub IsMachine : MachineState → Type 0
 IsMachine m = m.is_dead ≡ false → (image : Image) × (main : ℕ) × (s : CodeState ⊤) × IsAt image main m s
+
+-- What was found to come next is what does, at each state at which the process stands.
+pub record IsFound (f : found.Coming) (c : ReadyCode) (p : HeldState) : Type 0 where
+  pub end : (s : CodeState ⊤) → StandsAt p s → option_map end_view f.end ≡ ended_at (coming (code_next c s)) s.position
+  pub step : (s : CodeState ⊤) → StandsAt p s → f.has_step ≡ begins_with_step (coming (code_next c s))
+  pub want : (s : CodeState ⊤) (w : CellWant ⊤) → StandsAt p s → code_wanted forget_name c s ≡ Some w → option_map want_view f.want ≡ told w
+  pub nothing : (s : CodeState ⊤) → StandsAt p s → wants_nothing (coming (code_next c s)) ≡ true → f.want ≡ None
+
+-- It is such a process; and what it found to come next does, while no order is out.
+abbrev pub IsKeptMachine : found.Coming → MachineState → Type 0
+IsKeptMachine f m = IsMachine m × (m.is_dead ≡ false → m.order ≡ None → IsFound f (code_of m) m.held)

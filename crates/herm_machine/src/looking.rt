@@ -1,5 +1,7 @@
 //! At which port a process looks, and which call it has open.
-ghost use Rattle.std.specs.Prelude.{◌≡◌, ◌∷◌, [], ℕ, find, map, nat_eq, option_map, option_and_then, ⊤};
+ghost use Rattle.std.specs.Prelude.{◌≡◌, ◌∷◌, [], ℕ, List, Some, IfSome, find, map, nat_eq, option_map, option_and_then, slice_get, ⊤};
+ghost use Rattle.herm_journal.specs.Actions.{to_take};
+ghost use Rattle.herm_exchanges.specs.Told.{told, want_view};
 ghost use Rattle.herm_model.specs.Lists.{any_pass, list_of};
 ghost use Rattle.herm_forms.specs.Forms.{inport_number};
 ghost use Rattle.herm_forms.specs.Frames as frames;
@@ -19,6 +21,7 @@ ghost use Rattle.herm_values.specs.View.{value_view};
 use crate::types::type_at;
 use herm_base::{PortNo, TypeNo};
 use herm_code::{Arm, Instr};
+use herm_exchanges::Want;
 use herm_frames::Frame;
 use herm_pieces::{Code, Position};
 use herm_steps::Running;
@@ -80,6 +83,31 @@ fn path_of_port<'i>(frame: &Frame, instruction: &'i Instr, port: PortNo) -> Opti
         }
         Instr::Select(arms) => path_among(frame, arms.as_slice(), port),
         _ => None,
+    }
+}
+
+/// The first port of a want to take a message; none of any other want.
+fn first_of(want: Want) -> Option<PortNo>
+    ensures port { (ports : List ℕ) → Some (want_view want) ≡ told (to_take ports) → IfSome result (λ p. slice_get ports 0 ≡ Some p.number) }
+{
+    match want {
+        Want::Take(ports) => Some(ports.first),
+        Want::MakePort => None,
+        Want::MakeProcess(_) => None,
+        Want::Put(_) => None,
+        Want::Close(_) => None,
+        Want::Answer(_, _) => None,
+        Want::Hear => None,
+    }
+}
+
+/// The same, where something is wanted.
+pub fn first_port(want: Option<Want>) -> Option<PortNo>
+    ensures port { (ports : List ℕ) → option_map want_view want ≡ told (to_take ports) → IfSome result (λ p. slice_get ports 0 ≡ Some p.number) }
+{
+    match want {
+        Some(want) => first_of(want),
+        None => None,
     }
 }
 

@@ -19,14 +19,14 @@ ghost use Rattle.herm_values.specs.View.{leaf, value_view};
 ghost use Rattle.herm_letters.specs.Letters.{IsWholeReply};
 ghost use Rattle.herm_letters.specs.View.{reply_view};
 ghost use Rattle.herm_exchanges.specs.Told.{told, want_view};
-ghost use Rattle.herm_steps.specs.Coming.{coming, end_view};
+ghost use Rattle.herm_steps.specs.Coming.{begins_with_step, coming, end_view};
 ghost use Rattle.herm_steps.specs.StandingAt.{StandsAt};
 ghost use Rattle.herm_answers.specs.Orders.{HoldsOrder};
 ghost use Rattle.herm_machine.specs.Gots.{Fits, IsOrdered, IsSuiting, IsWholeGot, TellsGot};
-ghost use Rattle.herm_machine.specs.Machines.{HasOut, IsAnswerWanted, IsAt, IsInside, IsPutWanted, IsTakeWanted, Reaches, StandsFor, begins_with_step, code_of, counted_out, end_of, nameless};
+ghost use Rattle.herm_machine.specs.Machines.{HasOut, IsAnswerWanted, IsAt, IsInside, IsPutWanted, IsTakeWanted, Reaches, StandsFor, code_of, counted_out, end_of, nameless};
 
 use crate::counting::{counted, counted_cells};
-use crate::looking::has_step_at;
+use crate::looking::{first_port, has_step_at};
 use crate::order::Got;
 use crate::settling::settle;
 use crate::suiting::{is_awaited, is_heard};
@@ -37,7 +37,7 @@ use herm_events::ReplyTrace;
 use herm_exchanges::Want;
 use herm_letters::{Letter, Reply, reply_trace_of};
 use herm_pieces::Code;
-use herm_steps::{End, Next, Running, sound_steps_are_made};
+use herm_steps::{Coming, End, Next, Running, sound_steps_are_made};
 use std::alloc::{AllocError, Global};
 use std::marker::Model;
 
@@ -50,6 +50,8 @@ pub struct Machine<'i> {
     code: Code<'i>,
     running: Running,
     order: Option<Want>,
+    // What comes next, found once for all that ask, while no order is out.
+    coming: Coming,
     is_front: bool,
     is_dead: bool,
 }
@@ -58,7 +60,7 @@ impl<'i> Model for Machine<'i> {
     ghost use Rattle.std.specs.Coded.{codes};
     ghost use Rattle.herm_values.specs.contracts.value.Value as held;
     ghost use Rattle.herm_values.specs.contracts.work.WorkItem as item;
-    ghost use Rattle.herm_machine.specs.Machines.{IsMachine, MachineState};
+    ghost use Rattle.herm_machine.specs.Machines.{IsKeptMachine, MachineState};
 
     ghost Value = { MachineState };
 
@@ -66,7 +68,7 @@ impl<'i> Model for Machine<'i> {
 
     ghost view = { λ m. record { code = m.code; held = m.running; order = m.order; is_front = m.is_front; is_dead = m.is_dead } };
 
-    ghost invariant = { λ m. IsMachine (record { code = m.code; held = m.running; order = m.order; is_front = m.is_front; is_dead = m.is_dead }) };
+    ghost invariant = { λ m. IsKeptMachine m.coming (record { code = m.code; held = m.running; order = m.order; is_front = m.is_front; is_dead = m.is_dead }) };
 }
 
 impl<'i> Machine<'i> {
@@ -89,11 +91,13 @@ impl<'i> Machine<'i> {
         let Some(running) = Running::begin(alloc, &code, number, first)? else {
             unreachable!()
         };
+        let coming = running.coming(&code);
         Ok(Machine {
             alloc,
             code,
             running,
             order: None,
+            coming,
             is_front: false,
             is_dead: false,
         })
@@ -110,7 +114,7 @@ impl<'i> Machine<'i> {
         }
         match self.order {
             Some(want) => Some(want),
-            None => self.running.wants(&self.code),
+            None => self.coming.want,
         }
     }
 
@@ -120,6 +124,11 @@ impl<'i> Machine<'i> {
         requires take { (image : images.Image) (main : ℕ) (s : CodeState ⊤) → IsAt image main self.now s → IsTakeWanted place ((nameless image main).wanted s) }
         ensures port { (image : images.Image) (main : ℕ) (s : CodeState ⊤) (ports : List ℕ) → IsAt image main self.now s → (nameless image main).wanted s ≡ Some (to_take ports) → slice_get ports place ≡ Some result.number }
     {
+        if place == 0 {
+            if let Some(port) = first_port(self.wants()) {
+                return port;
+            }
+        }
         let Some(port) = self.running.look(&self.code, place) else {
             unreachable!()
         };
@@ -137,7 +146,17 @@ impl<'i> Machine<'i> {
         if self.order.is_some() {
             return None;
         }
-        self.running.ended(&self.code)
+        self.coming.end
+    }
+
+    /// What comes next, where no order is out: how it has ended, if it has; whether a step begins it; and what it wants of a place.
+    pub fn coming(&self) -> Coming
+        ensures end { (image : images.Image) (main : ℕ) (s : CodeState ⊤) → StandsFor image main self.now s → option_map end_view result.end ≡ end_of (code_of self.now) s }
+        ensures step { (image : images.Image) (main : ℕ) (s : CodeState ⊤) → StandsFor image main self.now s → result.has_step ≡ begins_with_step (coming (code_next (code_of self.now) s)) }
+        ensures wanted { (image : images.Image) (main : ℕ) (s : CodeState ⊤) → StandsFor image main self.now s → option_map want_view result.want ≡ option_and_then told ((nameless image main).wanted s) }
+        ensures there { (image : images.Image) (main : ℕ) (s : CodeState ⊤) (w : CellWant ⊤) → StandsFor image main self.now s → (nameless image main).wanted s ≡ Some w → is_some result.want ≡ true }
+    {
+        self.coming
     }
 
     /// Whether what comes next begins with a step, also while its order is out. A dead process has no next.
@@ -173,10 +192,11 @@ impl<'i> Machine<'i> {
             return Err(AllocError);
         }
         sound_steps_are_made();
-        let made = self.running.local_step(self.alloc, &self.code)?;
+        let made = self.running.known_step(self.alloc, &self.code)?;
         if !made {
             unreachable!()
         }
+        self.coming = self.running.coming(&self.code);
         self.is_dead = false;
         Ok(())
     }
@@ -194,7 +214,7 @@ impl<'i> Machine<'i> {
             return Err(AllocError);
         }
         self.is_dead = true;
-        let want = self.running.wants(&self.code);
+        let want = self.coming.want;
         let Some(message) = message_of(&mut self.running, self.alloc, &self.code)? else {
             unreachable!()
         };
@@ -222,7 +242,7 @@ impl<'i> Machine<'i> {
             return Err(AllocError);
         }
         self.is_dead = true;
-        let want = self.running.wants(&self.code);
+        let want = self.coming.want;
         let Some((reply, is_front)) = reply_of(&mut self.running, self.alloc, &self.code)? else {
             unreachable!()
         };
@@ -297,6 +317,7 @@ impl<'i> Machine<'i> {
             unreachable!()
         }
         self.order = None;
+        self.coming = self.running.coming(&self.code);
         self.is_dead = false;
         Ok(())
     }
@@ -309,6 +330,7 @@ impl<'i> Machine<'i> {
         ensures dead { self.new.is_dead ≡ self.old.is_dead }
     {
         count_aside(&mut self.running);
+        self.coming = self.running.coming(&self.code);
     }
 
     /// How many steps and how many actions it has made. While the order of an action is out, its own are among them.

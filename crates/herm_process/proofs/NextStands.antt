@@ -30,8 +30,8 @@ use Rattle.herm_code_machine.proofs.sound.ItemSteps.{item-wants}
 use Rattle.herm_code_machine.proofs.sound.LocalSteps.{ComesNext, by_work, by_act, comes-next}
 use Rattle.herm_code_machine.proofs.sound.Processes.{module-of}
 use Rattle.herm_code_machine.proofs.sound.SoundProcesses.{goes-on}
-use Rattle.herm_steps.specs.Coming.{coming, ended_at, end_at}
-use Rattle.herm_machine.specs.Machines.{IsSoundState, begins_with_step, end_of}
+use Rattle.herm_steps.specs.Coming.{begins_with_step, coming, ended_at, end_at}
+use Rattle.herm_machine.specs.Machines.{IsSoundState, end_of}
 use Rattle.herm_process.specs.Nexts.{is_spent}
 
 abbrev bare : CodeNext Name → CodeNext ⊤

@@ -1,5 +1,5 @@
 -- What the standing of a sound state without names says of its want, its end and its actions; and what is told of a want.
-use Rattle.std.proofs.Common.{◌≡◌, inl, inr, ℕ, ◌<◌, [], ◌∷◌, Bool, true, false, nat_lt, Option, Some, None, option_and_then, refl, sym, ap, subst, ◌∙◌, arith}
+use Rattle.std.proofs.Common.{◌≡◌, ap₂, inl, inr, ℕ, ◌<◌, [], ◌∷◌, Bool, true, false, nat_lt, Option, Some, None, option_and_then, refl, sym, ap, subst, ◌∙◌, arith}
 use Rattle.std.proofs.lemmas.Bool.Decides.{nat_tests}
 use Rattle.std.specs.Prelude.{⊤}
 use Rattle.herm_model.specs.Values.{Value}
@@ -12,10 +12,13 @@ use Rattle.herm_system.specs.Machines.{local, acting, to_act, greatest_actions}
 use Rattle.herm_instructions.specs.Images.{Image}
 use Rattle.herm_code_machine.specs.CodeInstance.{code_at, ready_if}
 use Rattle.herm_code_machine.specs.CodeStates.{CodeState}
-use Rattle.herm_code_machine.specs.CodeSteps.{CodeNext, an_item, a_reply, an_action, a_local_piece, nothing, code_next, code_wanted, ready_for, wanted_next, within_steps}
+use Rattle.herm_code_machine.specs.CodeSteps.{CodeNext, an_item, a_reply, an_action, a_local_piece, nothing, call_or_piece, code_next, code_wanted, item_or, ready_for, wanted_next, within_steps}
+use Rattle.herm_code_machine.specs.Pieces.{Piece}
 use Rattle.herm_code_machine.specs.ReadyCode.{ReadyCode, labelled_image}
 use Rattle.herm_exchanges.specs.Told.{Told, a_put, an_answer, told}
 use Rattle.herm_steps.specs.Coming.{coming, ended_at}
+use Rattle.herm_steps.specs.HeldStates.{HeldState}
+use Rattle.herm_steps.specs.StandingAt.{StandsAt}
 use Rattle.herm_machine.specs.Machines.{MachineState, IsAt, StandsFor, IsSoundState, code_of, end_of, nameless, IsPutWanted, IsAnswerWanted}
 
 pub coded : (image : Image) (main : ℕ) (c : ReadyCode) (s : CodeState ⊤) → IsSoundState image main c s → code_at (labelled_image image main) s ≡ Some c
@@ -138,3 +141,30 @@ at-sound image main m s (inr h) = h.sound
 pub at-inside : (image : Image) (main : ℕ) (m : MachineState) (s : CodeState ⊤) → IsAt image main m s → m.order ≡ None → StandsFor image main m s
 at-inside image main m s (inl h) none = h
 at-inside image main m s (inr h) none = none-not_some (sym none ∙ h.order)
+
+-- all states at which a process stands have the same next
+next-same : (c : ReadyCode) (p : HeldState) (s t : CodeState ⊤) → StandsAt p s → StandsAt p t → code_next c s ≡ code_next c t
+next-same c p s t h k = ap₂ item_or (h.frame.work ∙ sym k.frame.work) (ap₂ (call_or_piece c) (h.position ∙ sym k.position) (h.frame.call ∙ sym k.frame.call))
+
+local-piece : (limit : ℕ) (b : Frame ⊤) (n : CodeNext ⊤) → ready_for limit b n ≡ local → (p : Piece) × (n ≡ a_local_piece p)
+local-piece limit b (an_item item work) e = never-local (nat_lt b.actions greatest_actions) e
+local-piece limit b (a_reply call i instruction) e = never-local (nat_lt b.actions greatest_actions) e
+local-piece limit b (an_action p m) e = never-local_within p.has_step (nat_lt b.steps limit) (nat_lt b.actions greatest_actions) e
+local-piece limit b (a_local_piece p) e = (p, refl)
+local-piece limit b nothing e = cc
+
+unwanted-inside : (image : Image) (main : ℕ) (m : MachineState) (s : CodeState ⊤) → IsAt image main m s → (nameless image main).wanted s ≡ None → m.order ≡ None
+unwanted-inside image main m s (inl h) e = h.inside
+unwanted-inside image main m s (inr h) e = none-not_some (sym (ap (option_and_then told) e) ∙ h.wanted)
+
+-- where a local step is next at one state, nothing is wanted at any, and none has ended
+pub steps-everywhere : (m : MachineState) (image0 : Image) (main0 limit : ℕ) (s0 : CodeState ⊤) → IsAt image0 main0 m s0 → (nameless image0 main0).ready limit s0 ≡ local
+    → (image : Image) (main : ℕ) (s : CodeState ⊤) → IsAt image main m s → ((nameless image main).wanted s ≡ None) × (end_of (code_of m) s ≡ None)
+steps-everywhere m image0 main0 limit s0 at0 e image main s at =
+    let c = code_of m in
+    let none = unwanted-inside image0 main0 m s0 at0 (local-wants_nothing image0 main0 limit c s0 (at-sound image0 main0 m s0 at0) e).0 in
+    let h = at-inside image0 main0 m s0 at0 none in
+    let k = at-inside image main m s at none in
+    let p = local-piece limit s0.frame (code_next c s0) (sym (ap (ready_if limit s0) (coded image0 main0 c s0 h.sound)) ∙ e) in
+    let n = next-same c m.held s s0 k.stands h.stands ∙ p.1 in
+    (ap (option_and_then (λ c. code_wanted forget_name c s)) (coded image main c s k.sound) ∙ ap (wanted_next forget_name c s) n, ap (λ n. ended_at (coming n) s.position) n)

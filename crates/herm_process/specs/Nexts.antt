@@ -6,8 +6,7 @@ use Rattle.herm_code_machine.specs.CodeStates.{CodeState}
 use Rattle.herm_code_machine.specs.CodeSteps.{code_next}
 use Rattle.herm_code_machine.specs.ReadyCode.{ReadyCode}
 use Rattle.herm_exchanges.specs.Told.{told, want_view}
-use Rattle.herm_steps.specs.Coming.{coming, end_view}
-use Rattle.herm_machine.specs.Machines.{begins_with_step}
+use Rattle.herm_steps.specs.Coming.{begins_with_step, coming, end_view}
 use Rattle.herm_process.specs.declared.next.Next.{Next}
 use Rattle.herm_process.specs.declared.next.Next.TheVariants as nexts
 use Rattle.herm_process.specs.declared.next.Spent.TheVariants as spent

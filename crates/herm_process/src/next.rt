@@ -4,6 +4,8 @@ ghost use Rattle.herm_journal.specs.Messages.{CellWant};
 ghost use Rattle.herm_system.specs.Machines.{acting};
 ghost use Rattle.herm_instructions.specs.Images.{Image};
 ghost use Rattle.herm_code_machine.specs.CodeStates.{CodeState};
+ghost use Rattle.herm_code_machine.specs.CodeSteps.{code_next};
+ghost use Rattle.herm_steps.specs.Coming.{begins_with_step, coming};
 ghost use Rattle.herm_machine.specs.Machines.{IsAt, StandsFor, code_of, nameless};
 ghost use Rattle.herm_process.specs.Nexts.{IsNext, is_spent};
 
@@ -35,13 +37,14 @@ const MOST_ACTIONS: u32 = 16384;
 pub fn next_of(machine: &Machine, limit: u32) -> Next
     ensures next { (image : Image) (main : ℕ) (s : CodeState ⊤) → StandsFor image main machine.now s → IsNext (nameless image main) limit s result }
 {
-    if let Some(end) = machine.ended() {
+    let coming = machine.coming();
+    if let Some(end) = coming.end {
         return Next::Ended(end);
     }
-    if is_out_of_steps(machine, limit) {
+    if is_out_of_steps(machine, coming.has_step, limit) {
         return Next::Stopped(Spent::Steps(limit));
     }
-    let Some(want) = machine.wants() else {
+    let Some(want) = coming.want else {
         return Next::Local;
     };
     let (_, actions) = machine.counts();
@@ -52,11 +55,11 @@ pub fn next_of(machine: &Machine, limit: u32) -> Next
 }
 
 /// Whether a step is next, and none is left.
-fn is_out_of_steps(machine: &Machine, limit: u32) -> bool
-    ensures spent { (image : Image) (main : ℕ) (s : CodeState ⊤) → StandsFor image main machine.now s → result ≡ is_spent (code_of machine.now) limit s }
+fn is_out_of_steps(machine: &Machine, has_step: bool, limit: u32) -> bool
+    ensures spent { (image : Image) (main : ℕ) (s : CodeState ⊤) → StandsFor image main machine.now s → has_step ≡ begins_with_step (coming (code_next (code_of machine.now) s)) → result ≡ is_spent (code_of machine.now) limit s }
 {
     let (steps, _) = machine.counts();
-    machine.has_step() && !(steps < limit as u64)
+    has_step && !(steps < limit as u64)
 }
 
 /// What comes next where an action does: what it wants.

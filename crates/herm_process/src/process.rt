@@ -15,7 +15,7 @@ ghost use Rattle.herm_journal.specs.Actions.{to_take};
 ghost use Rattle.herm_process.specs.Entries.{IsOrderOf, IsWholeOrder, may_be_dropped};
 ghost use Rattle.herm_process.specs.Nexts.{IsNext};
 ghost use Rattle.herm_process.specs.declared.next.Next.TheVariants as nexts;
-ghost use Rattle.herm_process.specs.Sums.{AreSums};
+ghost use Rattle.herm_process.specs.Sums.{AreSums, sums_in};
 ghost use Rattle.herm_process.specs.Processes.{Comes, FitsProcess, IsKept, IsProcess, IsSettled};
 
 use crate::birth::Birth;
@@ -178,7 +178,7 @@ impl<'i> Process<'i> {
         requires next { (image : images.Image) (main : ℕ) (x : CodeState ⊤) → IsProcess image main self.old x → (nameless image main).ready self.old.limit x ≡ local }
         ensures step { OnOk result ((image : images.Image) (main : ℕ) (x : CodeState ⊤) → IsProcess image main self.old x → Comes image main self.new ((nameless image main).local_step x)) }
         ensures same { OnOk result (self.new ≡ record self.old { machine = self.new.machine }) }
-        ensures failed { IsErr result → self.new.is_dead ≡ true }
+        ensures failed { IsErr result → self.new ≡ record self.old { machine = self.new.machine; is_dead = true } }
         ensures dead { self.old.is_dead ≡ true → IsErr result }
     {
         if self.is_dead {
@@ -200,7 +200,7 @@ impl<'i> Process<'i> {
         ensures out { OnOk result ((image : images.Image) (main : ℕ) (x : CodeState ⊤) → IsProcess image main self.old x → IsProcess image main self.new x) }
         ensures is_out { OnOk result (IsSome self.new.ordered) }
         ensures same { OnOk result (self.new ≡ record self.old { machine = self.new.machine; ordered = self.new.ordered }) }
-        ensures failed { IsErr result → self.new.is_dead ≡ true }
+        ensures failed { IsErr result → self.new ≡ record self.old { machine = self.new.machine; is_dead = true } }
         ensures dead { self.old.is_dead ≡ true → IsErr result }
     {
         if self.is_dead {
@@ -223,7 +223,7 @@ impl<'i> Process<'i> {
         requires later { self.old.clock < stamp.0 }
         ensures settled { OnOk result ((image : images.Image) (main : ℕ) (x : CodeState ⊤) (w : CellWant ⊤) → IsProcess image main self.old x → (nameless image main).wanted x ≡ Some w → FitsWant got w → IsSettled image main self.old self.new x got w stamp.0) }
         ensures same { OnOk result (self.new ≡ record self.old { machine = self.new.machine; clock = stamp.0; diary = self.new.diary; ordered = None }) }
-        ensures failed { IsErr result → self.new.is_dead ≡ true }
+        ensures failed { IsErr result → self.new ≡ record self.old { machine = self.new.machine; clock = self.new.clock; diary = self.new.diary; ordered = self.new.ordered; is_dead = true } }
         ensures dead { self.old.is_dead ≡ true → IsErr result }
     {
         if self.is_dead {
@@ -257,9 +257,10 @@ impl<'i> Process<'i> {
         )
     }
 
-    /// How many cells it has made, how many it holds, and how many it has finalised, each cut at 2^63, while no order is out.
+    /// How many cells it has made, how many it holds, and how many it has finalised, each cut at 2^63, while no message and no reply is
+    /// out.
     pub fn cells(&self) -> (u64, u64, u64)
-        requires free { self.now.ordered ≡ None }
+        requires whole { sums_in self.now.ordered ≡ None }
         ensures made { (image : images.Image) (main : ℕ) (x : CodeState ⊤) → IsProcess image main self.now x → result.0 ≡ cut ((nameless image main).serial x) }
         ensures held { (image : images.Image) (main : ℕ) (x : CodeState ⊤) → IsProcess image main self.now x → result.1 ≡ cut (held_by (λ n. 1) (nameless image main) x) }
         ensures finalised { (image : images.Image) (main : ℕ) (x : CodeState ⊤) → IsProcess image main self.now x → result.2 ≡ cut (length ((nameless image main).finalised x)) }

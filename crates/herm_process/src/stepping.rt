@@ -14,12 +14,6 @@ pub fn make_step(machine: &mut Machine) -> Result<(), AllocError>
     requires next { IsStepping machine.old }
     ensures step { OnOk result ((image : Image) (main : ℕ) (s : CodeState ⊤) → IsAt image main machine.old s → Reaches image main machine.new ((nameless image main).local_step s)) }
 {
-    let None = machine.wants() else {
-        unreachable!()
-    };
-    let None = machine.ended() else {
-        unreachable!()
-    };
     machine.local_step()?;
     Ok(())
 }

@@ -32,6 +32,14 @@ next_view (nexts.Action p m) = coming_action (piece_view p) (met_view m)
 next_view (nexts.Local p) = coming_piece (piece_view p)
 next_view nexts.Nothing = coming_nothing
 
+-- what comes next begins with a step, which is counted
+abbrev pub begins_with_step : Coming → Bool
+begins_with_step coming_item = false
+begins_with_step (coming_reply index instruction) = false
+begins_with_step (coming_action p m) = p.has_step
+begins_with_step (coming_piece p) = p.has_step
+begins_with_step coming_nothing = false
+
 -- a local step or nothing comes next, so nothing is wanted
 abbrev pub wants_nothing : Coming → Bool
 wants_nothing coming_item = false

@@ -22,7 +22,7 @@ use crate::leading::outcome_of;
 use crate::running::{End, Running};
 use herm_code::Instr;
 use herm_frames::Outcome;
-use herm_pieces::{Code, Position};
+use herm_pieces::{Code, Outcome as Led, Position};
 use std::alloc::{AllocError, Global};
 
 impl Running {
@@ -64,6 +64,7 @@ impl Running {
         ensures behind { (s : CodeState ⊤) (e : Effect ⊤) → Performs outcome self.old e → IsBehind result self.new s (behind_effect (ready_view code.now) s index (instr_view instruction.now) e) }
     {
         match outcome_of(outcome) {
+            Some(Led::Ok) => self.pass_on(code, index, instruction),
             Some(led) => self.lead_on(code, index, instruction, led),
             None => false,
         }

@@ -2,6 +2,7 @@
 ghost use Rattle.std.specs.Prelude.{◌≡◌, ◌<◌, length, option_map, ⊤};
 ghost use Rattle.herm_forms.specs.Frames as frames;
 ghost use Rattle.herm_forms.specs.Frames.{goes};
+ghost use Rattle.herm_model.specs.Outcomes.{ok};
 ghost use Rattle.herm_code.specs.View.{instr_view};
 ghost use Rattle.herm_code_machine.specs.CodeStates.{CodeState, stack_after, state_behind};
 ghost use Rattle.herm_frames.specs.Completed as completed;
@@ -33,6 +34,18 @@ impl Running {
         };
         self.clear_raised(outcome);
         self.position = Position::At(next);
+        true
+    }
+
+    /// Goes on behind the instruction at an index, or where it jumps. False where that is nowhere.
+    pub fn pass_on(&mut self, code: &Code, index: usize, instruction: &Instr) -> bool
+        requires within { index < length code.now.code.now.code.items }
+        ensures behind { (s : CodeState ⊤) (b : frames.Frame ⊤) → Stands self.old.frame b → IsBehind result self.new s (state_behind (ready_view code.now) s index (instr_view instruction.now) (on_stack self.old.stack) (goes ok b)) }
+    {
+        let Some(target) = code.leads(index, instruction, Outcome::Ok) else {
+            return false;
+        };
+        self.position = Position::At(target);
         true
     }
 

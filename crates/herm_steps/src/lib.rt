@@ -2,6 +2,7 @@
 #![tactic(auto)]
 
 mod branching;
+mod coming;
 mod doing;
 mod evaluating;
 mod expressions;
@@ -20,6 +21,7 @@ mod tabulating;
 mod visiting;
 mod wants;
 
+pub use coming::Coming;
 pub use expressions::{apply_operator, combine_operands, push_value};
 pub use leading::outcome_of;
 pub use messages::{count_piece, take_sent};

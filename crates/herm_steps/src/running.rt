@@ -78,7 +78,7 @@ impl Running {
     }
 
     /// The end that it is at, if it is at one.
-    fn end(&self) -> Option<End>
+    pub(crate) fn end(&self) -> Option<End>
         ensures end { option_map end_view result ≡ end_at self.now.position }
     {
         match self.position {

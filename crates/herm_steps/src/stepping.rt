@@ -3,13 +3,15 @@ ghost use Rattle.std.specs.Prelude.{◌≡◌, ◌<◌, ◌∷◌, ℕ, IfOk, If
 ghost use Rattle.herm_journal.specs.Renaming.{forget_name};
 ghost use Rattle.herm_model.specs.Values.{an_inport};
 ghost use Rattle.herm_code_machine.specs.CodeStates.{CodeState, code_begin, to_next_piece};
-ghost use Rattle.herm_code_machine.specs.CodeSteps.{code_local_step};
+ghost use Rattle.herm_code_machine.specs.CodeSteps.{code_local_step, code_next};
+ghost use Rattle.herm_code_machine.specs.Pieces as pieces;
 ghost use Rattle.herm_frames.specs.EmptyPlaces.{nothings};
 ghost use Rattle.herm_pieces.specs.View.{piece_view, ready_view};
 ghost use Rattle.herm_values.specs.View.{leaf};
 ghost use Rattle.herm_values.specs.declared.value.Value.TheVariants as Value;
 ghost use Rattle.herm_values.specs.Whole.{AllWhole};
 ghost use Rattle.herm_steps.specs.Behind.{IsBehind};
+ghost use Rattle.herm_steps.specs.Coming.{coming, coming_piece};
 ghost use Rattle.herm_steps.specs.StandingAt.{StandsAt};
 ghost use Rattle.herm_steps.specs.Stepped.{at_piece, begun};
 
@@ -40,6 +42,20 @@ impl Running {
             }
             Next::Nothing => Ok(false),
         }
+    }
+
+    /// Makes the local step that is known to come next: without a look for an action behind its step. False only where an instruction is
+    /// stuck.
+    pub fn known_step(&mut self, alloc: Global, code: &Code) -> Result<bool, AllocError>
+        requires steps { self.old.frame.steps < u64.MAX }
+        requires known { (s : CodeState ⊤) → StandsAt self.old s → (p : pieces.Piece) × (coming (code_next (ready_view code.now) s) ≡ coming_piece p) }
+        ensures step { IfOk result (λ r. (s : CodeState ⊤) → StandsAt self.old s → IsBehind r self.new s (code_local_step forget_name (ready_view code.now) s)) }
+    {
+        let Some(piece) = code.piece_at(self.position) else {
+            return Ok(false);
+        };
+        let made = self.make_step(alloc, code, piece)?;
+        Ok(made)
     }
 
     /// Does a piece that has no action: its step is counted, and then its instructions are done.

@@ -52,7 +52,7 @@ impl Running {
     }
 
     /// What the front of its work list wants.
-    fn work_wanted(&self) -> Option<Want>
+    pub(crate) fn work_wanted(&self) -> Option<Want>
         ensures want { (item : model.Value) (w : CellWant ⊤) → slice_get (map item_view self.now.frame.work) 0 ≡ Some item → work_wants item ≡ Some w → option_map want_view result ≡ told w }
         ensures exactly { option_map want_view result ≡ told_front (map item_view self.now.frame.work) }
     {

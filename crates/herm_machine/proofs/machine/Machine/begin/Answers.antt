@@ -22,12 +22,12 @@ unreachable-requires-in_default-2 c =
     (none_of c.in_ok-running.field-0 c.in_default-2.is c.in_ok-running.ensures.stuck c.args.module_number)
 
 pub invariant_of-result : goal.invariant_of-result
-invariant_of-result c = λ alive.
+invariant_of-result c =
     let good : IsGoodOver (length c.args.image.now.types.exceptions) (image_view c.args.image.now) =
     record { good = c.keeps.ensures.good; table = subst (λ (t : NamedTable). IsWellFormedTable (length t.exceptions) t.shapes) c.types.ensures.types c.keeps-2.ensures.well_named.well_formed } in
     let b = process-begun (image_view c.args.image.now) 0 (length c.args.image.now.types.exceptions) good (ready_view c.in-Some.code) c.args.module_number c.args.number.number c.args.first.number c.in-Some-2.running (begun (ready_view c.in-Some.code) c.args.module_number c.args.number.number (leaf (an_inport c.args.first.number))) (sym (c.in-Some.ensures.code 0))
     (some_of _ c.in_ok-running.field-0 c.in-Some-2.running c.in-Some-2.is c.in_ok-running.ensures.begins c.args.module_number) in
-    (image_view c.args.image.now, 0, b.behind, inl (record { alive = refl; inside = refl; sound = b.sound; stands = b.stands }))
+    ((λ alive. (image_view c.args.image.now, 0, b.behind, inl (record { alive = refl; inside = refl; sound = b.sound; stands = b.stands }))), (λ alive order. record { end = c.coming-coming.ensures.end; step = c.coming-coming.ensures.step; want = c.coming-coming.ensures.want; nothing = c.coming-coming.ensures.nothing }))
 
 pub returns : goal.returns
 returns c = record {

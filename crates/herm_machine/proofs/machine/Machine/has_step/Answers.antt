@@ -1,9 +1,9 @@
 use Rattle.std.proofs.Common.{inl, inr, refl, sym, ap, subst, ◌∙◌}
 use Rattle.herm_code_machine.specs.CodeSteps.{code_next}
-use Rattle.herm_steps.specs.Coming.{coming}
+use Rattle.herm_steps.specs.Coming.{begins_with_step, coming}
 use Rattle.herm_steps.specs.StandingAt.{StandsAt}
 use Rattle.herm_answers.specs.Orders.{HoldsOrder}
-use Rattle.herm_machine.specs.Machines.{MachineState, begins_with_step, code_of}
+use Rattle.herm_machine.specs.Machines.{MachineState, code_of}
 use Rattle.herm_machine.proofs.machine.Machine.has_step.Goals as goal
 
 pub returns-then-gave_away : goal.returns-then-gave_away

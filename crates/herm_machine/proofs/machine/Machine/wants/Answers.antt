@@ -6,8 +6,11 @@ use Rattle.herm_machine.proofs.machine.Machine.wants.Goals as goal
 
 pub returns-in-None-clause-wanted : goal.returns-in-None-clause-wanted
 returns-in-None-clause-wanted c = λ image main s at.
-    inside-at image main _ s c.in-None.is (subst (λ m. IsAt image main m s) (sym c.self.view_is) at) (λ h. told-want image main _ s c.wants.result h.sound (λ w e. c.wants.ensures.want s w h.stands e) (λ e. c.wants.ensures.nothing s h.stands e))
+    let f = c.self.invariant.1 c.if-self.false c.in-None.is in
+    inside-at image main _ s c.in-None.is (subst (λ m. IsAt image main m s) (sym c.self.view_is) at) (λ h. told-want image main _ s c.self.inside.coming.want h.sound (λ w e. f.want s w h.stands e) (λ e. f.nothing s h.stands e))
 
 pub returns-in-None-clause-there : goal.returns-in-None-clause-there
 returns-in-None-clause-there c = λ image main s w at e.
-    inside-at image main _ s c.in-None.is (subst (λ m. IsAt image main m s) (sym c.self.view_is) at) (λ h. some-want image main _ s c.wants.result w h.sound e (told-want image main _ s c.wants.result h.sound (λ w e. c.wants.ensures.want s w h.stands e) (λ e. c.wants.ensures.nothing s h.stands e)))
+    let f = c.self.invariant.1 c.if-self.false c.in-None.is in
+    inside-at image main _ s c.in-None.is (subst (λ m. IsAt image main m s) (sym c.self.view_is) at)
+    (λ h. some-want image main _ s c.self.inside.coming.want w h.sound e (told-want image main _ s c.self.inside.coming.want h.sound (λ w e. f.want s w h.stands e) (λ e. f.nothing s h.stands e)))

@@ -1,0 +1,5 @@
+use Rattle.herm_machine.proofs.Ports.{first-told}
+use Rattle.herm_machine.proofs.looking.first_of.Goals as goal
+
+pub returns-in-Take : goal.returns-in-Take
+returns-in-Take c = record { port = λ ports e. first-told c.args.want c.in-Take.ports c.in-Take.is ports e }
