@@ -1,4 +1,4 @@
-//! Processes of images with their ports, as tests and times want them; and tests of such processes, from their beginning to their
+//! Processes of images with their ports, as tests want them; and tests of such processes, from their beginning to their
 //! end.
 #![tactic(auto)]
 
