@@ -101,17 +101,17 @@ impl Trace {
         ensures same { IfOk result (λ t. t ≡ self.now) }
         ensures short { length self.now ≤ 22 → IsOk result }
     {
-        let bytes = self.bytes();
-        if bytes.len() <= INLINE {
-            return Ok(Trace {
-                text: Text::Short(short_text(bytes)),
-            });
-        }
         match &self.text {
             Text::Short(short) => Ok(Trace {
                 text: Text::Short(*short),
             }),
             Text::Long(shared) => {
+                let bytes = shared.as_slice();
+                if bytes.len() <= INLINE {
+                    return Ok(Trace {
+                        text: Text::Short(short_text(bytes)),
+                    });
+                }
                 let shared = shared.clone()?;
                 Ok(Trace {
                     text: Text::Long(shared),
