@@ -1,11 +1,13 @@
 //! The texts of values without parts, and what stands before the parts of others.
-ghost use Rattle.std.specs.Prelude.{◌≡◌, ◌++◌, ◌∷◌, OnOk, flat_map};
+ghost use Rattle.std.specs.Prelude.{◌≡◌, ◌++◌, ◌∷◌, IfOk, IsOk, OnOk, flat_map};
 ghost use Rattle.herm_model.specs.ValueTexts.{numeral, scalar_text, opening};
 ghost use Rattle.herm_model.specs.Escapes.{escaped};
 ghost use Rattle.herm_model.specs.Values.{a_boolean, an_integer, a_text, a_tag, a_variant, a_polymorph, a_callmessage};
 
 use herm_base::{ProcNo, TypeNo, decimal, signed};
-use std::alloc::AllocError;
+use herm_events::Trace;
+use itoa::Buffer;
+use std::alloc::{AllocError, Global};
 
 /// Appends a number in decimal.
 #[tactic(auto, using(crate::proofs::Decimals::numeral_is))]
@@ -114,4 +116,25 @@ pub fn push_callmessage(out: &mut Vec<u8>, caller: ProcNo, call: u64) -> Result<
     push_sign_and_number(out, b',', call)?;
     out.push(b':')?;
     Ok(())
+}
+
+/// The text of a boolean. It takes no memory.
+pub fn boolean_trace(alloc: Global, boolean: bool) -> Result<Trace, AllocError>
+    ensures text { IfOk result (λ t. t ≡ scalar_text (a_boolean boolean)) }
+    ensures short { IsOk result }
+{
+    if boolean {
+        return Trace::of(alloc, b"true");
+    }
+    Trace::of(alloc, b"false")
+}
+
+/// The text of an integer. It takes no memory.
+#[tactic(auto, using(crate::proofs::Decimals::signed_is))]
+pub fn integer_trace(alloc: Global, integer: i64) -> Result<Trace, AllocError>
+    ensures text { IfOk result (λ t. t ≡ scalar_text (an_integer integer)) }
+    ensures short { IsOk result }
+{
+    let mut buffer = Buffer::new();
+    Trace::of(alloc, buffer.format(integer).as_bytes())
 }

@@ -7,8 +7,8 @@ ghost use Rattle.herm_values.specs.View.{value_view, views_of, table_parts};
 ghost use Rattle.herm_letters.specs.PlaceTexts.{comma_behind};
 
 use crate::scalars::{
-    push_boolean, push_callmessage, push_integer, push_polymorph, push_sign_and_number,
-    push_string, push_tag, push_variant,
+    boolean_trace, integer_trace, push_boolean, push_callmessage, push_integer, push_polymorph,
+    push_sign_and_number, push_string, push_tag, push_variant,
 };
 use herm_events::Trace;
 use herm_values::{Table, Value};
@@ -136,8 +136,8 @@ fn push_more_texts(out: &mut Vec<u8>, values: &[Value]) -> Result<(), AllocError
     Ok(())
 }
 
-/// The text of a value.
-pub fn trace_of(alloc: Global, v: &Value) -> Result<Trace, AllocError>
+/// The text of a value, written into memory of its own first.
+fn written_trace(alloc: Global, v: &Value) -> Result<Trace, AllocError>
     ensures text { IfOk result (λ t. t ≡ text_of (value_view v.now)) }
 {
     let mut text = Vec::new(alloc);
@@ -146,18 +146,36 @@ pub fn trace_of(alloc: Global, v: &Value) -> Result<Trace, AllocError>
     Ok(trace)
 }
 
+/// The text of a value. That of a boolean or an integer takes no memory.
+#[tactic(auto, using(crate::proofs::Layers::layer_texts))]
+pub fn trace_of(alloc: Global, v: &Value) -> Result<Trace, AllocError>
+    ensures text { IfOk result (λ t. t ≡ text_of (value_view v.now)) }
+{
+    match v {
+        Value::Bool(boolean) => boolean_trace(alloc, *boolean),
+        Value::Int(integer) => integer_trace(alloc, *integer),
+        other => written_trace(alloc, other),
+    }
+}
+
 /// The texts of several values, joined by commas.
 pub fn joined_trace_of(alloc: Global, values: &[Value]) -> Result<Trace, AllocError>
     ensures texts { IfOk result (λ t. t ≡ texts_of (map value_view values.now)) }
 {
-    let mut text = Vec::new(alloc);
     match values {
-        [] => {}
-        [first, rest @ ..] => {
-            push_text(&mut text, first)?;
-            push_more_texts(&mut text, rest)?;
-        }
+        [] => Trace::of(alloc, b""),
+        [only] => trace_of(alloc, only),
+        [first, rest @ ..] => joined_trace(alloc, first, rest),
     }
+}
+
+/// The text of a value, and that of each further one with a comma before it.
+fn joined_trace(alloc: Global, first: &Value, rest: &[Value]) -> Result<Trace, AllocError>
+    ensures texts { IfOk result (λ t. t ≡ text_of (value_view first.now) ++ more_texts_of (map value_view rest.now)) }
+{
+    let mut text = Vec::new(alloc);
+    push_text(&mut text, first)?;
+    push_more_texts(&mut text, rest)?;
     let trace = Trace::from_vec(text)?;
     Ok(trace)
 }
