@@ -1,5 +1,5 @@
 -- Entries that are sorted by their place in the order are a journal, if those of each process rise.
-use Rattle.std.proofs.Common.{◌≡◌, ℕ, suc, ◌+◌, ◌*◌, ◌<◌, ◌≤◌, Bool, true, false, List, [], ◌∷◌, map, filter, nat_eq, refl, sym, ap, subst, ◌∙◌, arith, inl, inr, ◌⊎◌}
+use Rattle.std.proofs.Common.{◌≡◌, ℕ, zero, suc, ◌+◌, ◌*◌, ◌<◌, ◌≤◌, Bool, true, List, [], ◌∷◌, filter, nat_eq, length, get_or, ◌^◌, ◌-◌, refl, sym, ap, subst, ◌∙◌, arith, inl, inr, ◌⊎◌}
 use Rattle.std.proofs.lemmas.Bool.{cond-true, cond-false, cases_Bool}
 use Rattle.std.proofs.lemmas.Bool.Decides.{nat_tests}
 use Rattle.std.specs.List.Sorted.{IsNonDecreasingBy, IsStableByKey}
@@ -8,7 +8,7 @@ use Rattle.herm_journal.specs.Entries as source
 use Rattle.herm_journal.specs.Journals.{IsBefore, IsRising, IsRisingFrom, part_of_process}
 use Rattle.herm_events.specs.View.{entry_view, entries_view}
 use Rattle.herm_events.specs.declared.entry.Entry.{Entry}
-use Rattle.herm_gather.specs.Orders.{place_in_order}
+use Rattle.herm_gather.specs.Orders.{place_in_order, short_place}
 use Rattle.herm_gather.proofs.SameClasses.{AreAtLeast, Rises, filters-swap, rises_from_sort, rises_kept, same_class, same_from_classes}
 
 abbrev is_of : ℕ → Entry → Bool
@@ -41,36 +41,38 @@ are-of p (e ∷ es) =
       | inr without ↦ subst (AreOf p) (sym (cond-false (is_of p e) (e ∷ filter (is_of p) es) (filter (is_of p) es) without)) (are-of p es)
     ]
 
-at-least-le : (n m : ℕ) (es : List Entry) → n ≤ m → AreAtLeast place_in_order m es → AreAtLeast place_in_order n es
-at-least-le n m [] le h = tt
-at-least-le n m (e ∷ es) le h = let first = h.0 in (omega arith, at-least-le n m es le h.1)
-
 -- entries of one process that rise are in order
 before-place : (e f : Entry) → e.proc.number ≡ f.proc.number → IsBefore (entry_view e) (entry_view f) → place_in_order e ≤ place_in_order f
 before-place e f same (inl less) = omega arith
 before-place e f same (inr both) = let stamps = both.0 in omega arith
 
-placed-from : (p : ℕ) (e : Entry) (es : List Entry) → e.proc.number ≡ p → AreOf p es → IsRisingFrom (entry_view e) (entries_view es) → AreAtLeast place_in_order (place_in_order e) es × Rises place_in_order es
-placed-from p e [] its all rising = (tt, tt)
-placed-from p e (f ∷ es) its all rising =
-    let rest = placed-from p f es all.0 all.1 rising.1 in
-    let le : place_in_order e ≤ place_in_order f = before-place e f (its ∙ sym all.0) rising.0 in
-    ((le, at-least-le (place_in_order e) (place_in_order f) es le rest.0), rest)
+-- by a number that does not fall where the place does not
+module _ (key : Entry → ℕ) (rises : (e f : Entry) → place_in_order e ≤ place_in_order f → key e ≤ key f) where
+  at-least-le : (n m : ℕ) (es : List Entry) → n ≤ m → AreAtLeast key m es → AreAtLeast key n es
+  at-least-le n m [] le h = tt
+  at-least-le n m (e ∷ es) le h = let first = h.0 in (omega arith, at-least-le n m es le h.1)
 
-placed : (p : ℕ) (es : List Entry) → AreOf p es → IsRising (entries_view es) → Rises place_in_order es
-placed p [] all rising = tt
-placed p (e ∷ es) all rising = placed-from p e es all.0 all.1 rising
+  placed-from : (p : ℕ) (e : Entry) (es : List Entry) → e.proc.number ≡ p → AreOf p es → IsRisingFrom (entry_view e) (entries_view es) → AreAtLeast key (key e) es × Rises key es
+  placed-from p e [] its all rising = (tt, tt)
+  placed-from p e (f ∷ es) its all rising =
+      let rest = placed-from p f es all.0 all.1 rising.1 in
+      let le : key e ≤ key f = rises e f (before-place e f (its ∙ sym all.0) rising.0) in
+      ((le, at-least-le (key e) (key f) es le rest.0), rest)
 
--- each process has the same entries in the same order
-pub same-parts : (xs ys : List Entry) → ((p : ℕ) → IsRising (part_of_process p (entries_view xs))) → IsNonDecreasingBy place_in_order ys → IsStableByKey place_in_order nat_cmp xs ys
-    → (p : ℕ) → part_of_process p (entries_view ys) ≡ part_of_process p (entries_view xs)
-same-parts xs ys rise sorted stable p =
-    part-kept p ys
-    ∙ ap entries_view
-    (same_from_classes place_in_order (filter (is_of p) ys) (filter (is_of p) xs) (rises_kept place_in_order (is_of p) ys (rises_from_sort place_in_order ys sorted))
-    (placed p (filter (is_of p) xs) (are-of p xs) (subst IsRising (part-kept p xs) (rise p)))
-    (λ x. filters-swap (same_class place_in_order x) (is_of p) ys ∙ ap (filter (is_of p)) (stable x) ∙ filters-swap (is_of p) (same_class place_in_order x) xs))
-    ∙ sym (part-kept p xs)
+  placed : (p : ℕ) (es : List Entry) → AreOf p es → IsRising (entries_view es) → Rises key es
+  placed p [] all rising = tt
+  placed p (e ∷ es) all rising = placed-from p e es all.0 all.1 rising
+
+  -- each process has the same entries in the same order
+  pub same-parts : (xs ys : List Entry) → ((p : ℕ) → IsRising (part_of_process p (entries_view xs))) → IsNonDecreasingBy key ys → IsStableByKey key nat_cmp xs ys
+      → (p : ℕ) → part_of_process p (entries_view ys) ≡ part_of_process p (entries_view xs)
+  same-parts xs ys rise sorted stable p =
+      part-kept p ys
+      ∙ ap entries_view
+      (same_from_classes key (filter (is_of p) ys) (filter (is_of p) xs) (rises_kept key (is_of p) ys (rises_from_sort key ys sorted))
+      (placed p (filter (is_of p) xs) (are-of p xs) (subst IsRising (part-kept p xs) (rise p)))
+      (λ x. filters-swap (same_class key x) (is_of p) ys ∙ ap (filter (is_of p)) (stable x) ∙ filters-swap (is_of p) (same_class key x) xs))
+      ∙ sym (part-kept p xs)
 
 -- numbers of processes are small
 abbrev pub AreFew : List Entry → Type 0
@@ -129,3 +131,38 @@ few-of e = omega (arith, e.proc.in_range)
 pub are-few : (es : List Entry) → AreFew es
 are-few [] = tt
 are-few (e ∷ es) = (few-of e, are-few es)
+
+-- the places cut to 64 bits do not fall either, and are the places where the cut leaves less than the most
+pub same-place : (e f : Entry) → place_in_order e ≤ place_in_order f → place_in_order e ≤ place_in_order f
+same-place e f le = le
+
+pub short-rises : (e f : Entry) → place_in_order e ≤ place_in_order f → short_place e ≤ short_place f
+short-rises e f le = grind (arith)
+
+short-is : (e : Entry) → short_place e < 2 ^ 64 - 1 → short_place e ≡ place_in_order e
+short-is e h = grind (arith)
+
+same-at : (es : List Entry) (n : ℕ) (d e : Entry) → n < length es → get_or es n d ≡ get_or es n e
+same-at [] n d e h = absurd (omega (arith, h))
+same-at (x ∷ es) zero d e h = refl
+same-at (x ∷ es) (suc n) d e h = same-at es n d e (omega (arith, h))
+
+-- so it is of each default, where it is of an entry that stands there
+pub fits-there : (es : List Entry) (n : ℕ) (e : Entry) → n < length es → e ≡ get_or es n e → short_place e < 2 ^ 64 - 1 → (d : Entry) → short_place (get_or es n d) < 2 ^ 64 - 1
+fits-there es n e below is h d = subst (λ x. short_place x < 2 ^ 64 - 1) (is ∙ same-at es n e d below) h
+
+pub all-fit : (es : List Entry) (n : ℕ) → n + 1 ≡ length es → IsNonDecreasingBy short_place es → ((d : Entry) → short_place (get_or es n d) < 2 ^ 64 - 1) → IsNonDecreasingBy place_in_order es
+all-fit es n last sorted fits i j d le lt =
+    let to_last = sorted j n d (omega (arith, last, lt)) (omega (arith, last)) in
+    let pair = sorted i j d le lt in
+    let few = fits d in
+    let a = short-is (get_or es j d) (omega (arith, to_last, few)) in
+    let b = short-is (get_or es i d) (omega (arith, to_last, few, pair)) in
+    omega (arith, a, b, pair)
+
+pub rises-again : (xs ys : List Entry) → ((p : ℕ) → part_of_process p (entries_view ys) ≡ part_of_process p (entries_view xs)) → ((p : ℕ) → IsRising (part_of_process p (entries_view xs)))
+    → (p : ℕ) → IsRising (part_of_process p (entries_view ys))
+rises-again xs ys parts rise p = subst IsRising (sym (parts p)) (rise p)
+
+pub sorted-rises : (ys : List Entry) → IsNonDecreasingBy place_in_order ys → ((p : ℕ) → IsRising (part_of_process p (entries_view ys))) → IsRising (entries_view ys)
+sorted-rises ys sorted rise = journal-rises ys (are-few ys) (rises_from_sort place_in_order ys sorted) rise

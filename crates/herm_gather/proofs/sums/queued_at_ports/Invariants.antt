@@ -1,4 +1,4 @@
-use Rattle.std.proofs.Common.{◌≡◌, ◌≤◌, ◌+◌, ◌^◌, ℕ, drop}
+use Rattle.std.proofs.Common.{◌≡◌, ◌≤◌, ◌+◌, ◌^◌, drop}
 use Rattle.herm_system.specs.Summary.{cut}
 use Rattle.herm_waking.specs.AddedCounts.{added}
 use Rattle.herm_gather.specs.declared.counting.PortCounts.{PortCounts}
