@@ -1,19 +1,18 @@
 -- What a change at a path leaves.
-use Rattle.std.proofs.Common.{◌≡◌, ◌<◌, ◌≤◌, ℕ, zero, suc, List, [], ◌∷◌, Bool, true, false, cond, Option, Some, None, option_map, is_some, get_or, length, refl, sym, ap, ap₂, subst, ◌∙◌, arith, Vec, Global, Box}
+use Rattle.std.proofs.Common.{◌≡◌, ◌≤◌, ℕ, zero, suc, List, [], ◌∷◌, false, cond, Option, Some, None, option_map, get_or, length, refl, sym, ap, ap₂, ◌∙◌, arith, Vec, Global, Box}
 use Rattle.std.proofs.lemmas.List.{map-set, set-set, length-map, get_or_past}
 use Rattle.std.proofs.lemmas.Bool.{le-ltb}
-use Rattle.std.specs.Prelude.{slice_set, nat_lt}
+use Rattle.std.specs.Prelude.{slice_set}
 use Rattle.herm_parcels.specs.declared.call.CallMsg.{CallMsg}
-use Rattle.herm_parcels.specs.declared.poly.Poly.{Poly}
 use Rattle.herm_model.specs.Values as model
 use Rattle.herm_model.specs.Values.{Kind, Cell, Parts, cell, no_parts, gap, part, place, part_at, size, inside, opens, kind_of, cell_at, set_part, set_at, clear_at, change_part, change_inside, has_place}
 use Rattle.herm_values.specs.Parts.{parts_from}
-use Rattle.herm_values.specs.Keyed.{keyed_view, keyed_of, keyed_parts}
-use Rattle.herm_values.specs.declared.value.Value.{Value, Fields, Call, Case, Poly as a_poly, Table as a_table}
+use Rattle.herm_values.specs.Keyed.{keyed_view, keyed_of}
+use Rattle.herm_values.specs.declared.value.Value.{Value, Fields, Call, Table as a_table}
 use Rattle.herm_values.specs.declared.value.Table.{Table}
 use Rattle.herm_values.proofs.Forgotten.{fields_keyed, table_keyed, call_keyed}
 use Rattle.herm_places.specs.Held.{keyed_places, cell_in}
-use Rattle.herm_places.proofs.Read.{part-at, keyed_get}
+use Rattle.herm_places.proofs.Read.{keyed_get}
 
 module _ {N : Type 0} where
   set_part-from : (i : ℕ) (o : Option (Cell N)) (os : List (Option (Cell N))) → set_part i o (parts_from os) ≡ parts_from (slice_set os i o)

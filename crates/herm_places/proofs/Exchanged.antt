@@ -1,9 +1,8 @@
 -- What an exchange at a path leaves.
-use Rattle.std.proofs.Common.{◌≡◌, ◌≤◌, ℕ, zero, suc, List, [], ◌∷◌, Bool, true, false, cond, Option, Some, None, option_map, get_or, length, refl, sym, ap, ap₂, subst, ◌∙◌, arith, Vec, Global, Box}
+use Rattle.std.proofs.Common.{◌≡◌, ◌≤◌, ℕ, zero, suc, List, [], ◌∷◌, Bool, true, false, Option, Some, None, option_map, get_or, length, refl, sym, ap, ap₂, ◌∙◌, Vec, Global, Box}
 use Rattle.std.specs.Prelude.{slice_set}
 use Rattle.herm_parcels.specs.declared.call.CallMsg.{CallMsg}
 use Rattle.herm_model.specs.Paths.{Path}
-use Rattle.herm_model.specs.Values as model
 use Rattle.herm_model.specs.Values.{Kind, a_scalar, a_record, a_variant, a_table, a_polymorph, a_callmessage, an_inport, an_outport, Cell, cell, Parts, no_parts, gap, part, part_at, set_part, kind_of, read_at, readable_of, change_part, change_behind, change_from, change_readable}
 use Rattle.herm_model.proofs.Options.{some-injective}
 use Rattle.herm_places.specs.Held.{keyed_places, read_in, change_in}

@@ -1,9 +1,8 @@
 -- What is so with the keys of tables is so without them.
-use Rattle.std.proofs.Common.{◌≡◌, ℕ, List, [], ◌∷◌, Bool, map, Option, Some, None, Result, Ok, Err, IfOk, OnOk, option_map, refl, sym, ap, ◌∙◌}
-use Rattle.std.specs.Prelude.{⊤, nat_lt}
+use Rattle.std.proofs.Common.{◌≡◌, ℕ, List, [], ◌∷◌, Bool, map, Option, Some, None, Result, Ok, Err, IfOk, OnOk, OnErr, option_map, refl, sym, ap, ◌∙◌}
+use Rattle.std.specs.Prelude.{nat_lt}
 use denote.Bor.{Bor}
 use Rattle.herm_model.specs.Paths.{Path}
-use Rattle.herm_model.specs.Values as model
 use Rattle.herm_model.specs.Values.{Cell, Parts, gap, part, part_at, inside, cell_at, read_at, set_at, put_at, clear_at, has_place, change_at}
 use Rattle.herm_model.specs.CellNames.{forget, forget_in}
 use Rattle.herm_model.proofs.Renaming.{part_at-rename, inside-rename, cell_at-rename, read_at-rename, set_at-rename, change_at-rename, size-rename}
@@ -73,8 +72,12 @@ pub old_told : (r : Result (Option Value) Value) (p : Path) (vs : List (Option V
 old_told (Err w) p vs h = tt
 old_told (Ok o) p vs h = taken_seen o p vs h
 
-pub put_told : (r : Result (Option Value) Value) (p : Path) (v : Value) (vs new : List (Option Value)) → OnOk r (keyed_places new ≡ put_at p (keyed_view v) (keyed_places vs)) → OnOk r (seen_places new ≡ put_at p (value_view v) (seen_places vs))
+pub put_told : {X : Type 0} (r : Result X Value) (p : Path) (v : Value) (vs new : List (Option Value)) → OnOk r (keyed_places new ≡ put_at p (keyed_view v) (keyed_places vs)) → OnOk r (seen_places new ≡ put_at p (value_view v) (seen_places vs))
 put_told (Err w) p v vs new h = tt
 put_told (Ok o) p v vs new h = put_seen p v vs new h
+
+pub kept_told : {X : Type 0} (r : Result X Value) (vs new : List (Option Value)) → OnErr r (keyed_places new ≡ keyed_places vs) → OnErr r (seen_places new ≡ seen_places vs)
+kept_told (Err w) vs new h = sym (places_seen new) ∙ ap forget_in h ∙ places_seen vs
+kept_told (Ok o) vs new h = tt
 
 pub ruleset told = (read_seen, cell_seen, taken_seen, cleared_seen, place_told, old_told, put_told)

@@ -3,3 +3,4 @@ pub mod Exchanged
 pub mod Forgotten
 pub mod Put
 pub mod Read
+pub mod Replaced

@@ -1,5 +1,5 @@
 -- What is placed at a path, by the parts of the code's answers.
-use Rattle.std.proofs.Common.{◌≡◌, ◌<◌, ◌≤◌, ℕ, zero, suc, List, [], ◌∷◌, Bool, true, false, Option, Some, None, Result, Ok, Err, is_ok, IfOk, OnOk, OnErr, option_map, get_or, length, refl, sym, ap, ap₂, subst, ◌∙◌, arith, Vec, Global}
+use Rattle.std.proofs.Common.{◌≡◌, ◌<◌, ◌≤◌, ℕ, List, [], ◌∷◌, Bool, true, false, Option, Some, None, Result, Ok, Err, IfOk, OnOk, OnErr, option_map, get_or, length, refl, sym, ap, ap₂, ◌∙◌, Vec, Global}
 use Rattle.std.proofs.lemmas.List.{length-map, get_or_past}
 use Rattle.std.proofs.lemmas.Bool.{lt-ltb, le-ltb}
 use Rattle.std.specs.Prelude.{slice_set, nat_lt}
@@ -112,12 +112,12 @@ nowhere_kept vs new i none put =
     ap keyed_places put ∙ ap parts_from (set_keyed vs i None) ∙ ap (λ o. parts_from (slice_set (keyed_of vs) i o)) (ap (option_map keyed_view) none ∙ sym (keyed_get vs i)) ∙ ap parts_from (set_itself (keyed_of vs) i)
 
 -- a value with another one inside, and one that is as it was
-pub fields_put : (v : Value) (x new : Vec (Option Value) Global) (p : List ℕ) (c : Cell (List ℕ)) (answer : Result (Option Value) Value) → v ≡ Fields x
+pub fields_put : {X : Type 0} (v : Value) (x new : Vec (Option Value) Global) (p : List ℕ) (c : Cell (List ℕ)) (answer : Result X Value) → v ≡ Fields x
     → OnOk answer (keyed_places new.items ≡ put_at p c (keyed_places x.items)) → OnOk answer (keyed_view (Fields new) ≡ change_inside (set_at p (Some c)) (keyed_view v))
 fields_put v x new p c (Err w) is put = tt
 fields_put v x new p c (Ok o) is put = fields_changed v x new p (Some c) is put
 
-pub fields_held : (v : Value) (x new : Vec (Option Value) Global) (answer : Result (Option Value) Value) → v ≡ Fields x → OnErr answer (keyed_places new.items ≡ keyed_places x.items) → OnErr answer (keyed_view (Fields new) ≡ keyed_view v)
+pub fields_held : {X : Type 0} (v : Value) (x new : Vec (Option Value) Global) (answer : Result X Value) → v ≡ Fields x → OnErr answer (keyed_places new.items ≡ keyed_places x.items) → OnErr answer (keyed_view (Fields new) ≡ keyed_view v)
 fields_held v x new (Err w) is same = fields_keyed (Fields new) new refl ∙ ap (cell [] model.a_record) same ∙ sym (fields_keyed v x is)
 fields_held v x new (Ok o) is same = tt
 

@@ -1,12 +1,12 @@
 -- What is read at a path, one step further.
-use Rattle.std.proofs.Common.{◌≡◌, ℕ, zero, suc, List, [], ◌∷◌, Option, Some, None, option_map, get_or, true, cond, refl, sym, ap, ◌∙◌, Vec, Global, Box}
+use Rattle.std.proofs.Common.{◌≡◌, ℕ, zero, suc, List, [], ◌∷◌, Option, Some, None, option_map, get_or, true, cond, refl, sym, ap, ◌∙◌, Vec, Global}
 use Rattle.std.proofs.Math.ListN as lists
 use Rattle.herm_parcels.specs.declared.call.CallMsg.{CallMsg}
 use Rattle.herm_model.specs.Values as model
 use Rattle.herm_model.specs.Values.{Kind, Cell, Parts, cell, no_parts, gap, part, part_at, inside, opens, readable, readable_of, cell_at, read_at, behind_gaps}
 use Rattle.herm_values.specs.Parts.{parts_from}
 use Rattle.herm_values.specs.Keyed.{keyed_view, keyed_of}
-use Rattle.herm_values.specs.declared.value.Value.{Value, Fields, Call, Case}
+use Rattle.herm_values.specs.declared.value.Value.{Value, Fields, Call}
 use Rattle.herm_values.proofs.Forgotten.{fields_keyed, call_keyed}
 use Rattle.herm_values.proofs.Wholes.{fields-whole, call-whole}
 use Rattle.herm_places.specs.Held.{cell_in, read_in}

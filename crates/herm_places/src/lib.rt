@@ -5,7 +5,9 @@ mod exchanging;
 mod places;
 mod placing;
 mod reading;
+mod replacing;
 mod taking;
 mod variables;
 
+pub use replacing::is_plain;
 pub use variables::Variables;

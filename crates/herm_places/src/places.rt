@@ -35,5 +35,5 @@ pub fn set(places: &mut Vec<Option<Value>>, place: u32, v: Value)
     ensures put { places.new.items ≡ slice_set places.old.items place (Some v) }
     ensures whole { AllWhole places.old.items → IsWhole v → AllWhole places.new.items }
 {
-    let _ = exchange(places, place, Some(v));
+    places[place as usize] = Some(v);
 }

@@ -1,15 +1,17 @@
 //! The variables of a process.
-ghost use Rattle.std.specs.Prelude.{◌≡◌, IfSome, IfOk, IfErr, OnOk, OnErr, is_ok, option_map};
-ghost use Rattle.herm_model.specs.Values.{cell_at, read_at, clear_at, put_at, has_place, change_at};
+ghost use Rattle.std.specs.Prelude.{◌≡◌, true, IfSome, IfOk, IfErr, OnOk, OnErr, is_ok, option_map};
+ghost use Rattle.herm_model.specs.Values.{cell_at, read_at, clear_at, put_at, has_place, has_value, change_at};
 ghost use Rattle.herm_types.specs.View.{path_view};
 ghost use Rattle.herm_values.specs.Keyed.{keyed_view};
 ghost use Rattle.herm_values.specs.View.{value_view};
 ghost use Rattle.herm_values.specs.Whole.{IsWhole, AllWhole};
 ghost use Rattle.herm_places.specs.Held.{keyed_places, seen_places};
+ghost use Rattle.herm_places.specs.Plain.{IsPlain, has_replaceable};
 
 use crate::exchanging::exchange_at;
 use crate::placing;
 use crate::reading::{read_at, value_at};
+use crate::replacing::replace_at;
 use crate::taking::take_at;
 use herm_types::Path;
 use herm_values::Value;
@@ -101,6 +103,24 @@ impl Variables {
         self.put_keyed(path, v)
     }
 
+    /// Puts a value at a path that is a variable by itself, where nothing stands, or a scalar or an outport, which is gone. The
+    /// answer is whether something stood there, or the value itself where there is no such place: then all is as it was.
+    #[tactic(auto, using(crate::proofs::Forgotten::told))]
+    pub fn replace(&mut self, path: &Path, v: Value) -> Result<bool, Value>
+        requires whole { IsWhole v }
+        ensures done { is_ok result ≡ has_replaceable (seen_places self.old) (path_view path.now) }
+        ensures there { OnOk result (has_place (seen_places self.old) (path_view path.now) ≡ true) }
+        ensures held { IfOk result (λ b. b ≡ has_value (seen_places self.old) (path_view path.now)) }
+        ensures plain { OnOk result (IfSome (cell_at (path_view path.now) (seen_places self.old)) IsPlain) }
+        ensures put { OnOk result (keyed_places self.new ≡ put_at (path_view path.now) (keyed_view v) (keyed_places self.old)) }
+        ensures put_seen { OnOk result (seen_places self.new ≡ put_at (path_view path.now) (value_view v) (seen_places self.old)) }
+        ensures kept { OnErr result (keyed_places self.new ≡ keyed_places self.old) }
+        ensures kept_seen { OnErr result (seen_places self.new ≡ seen_places self.old) }
+        ensures handed_back { IfErr result (λ w. w ≡ v) }
+    {
+        self.replace_keyed(path, v)
+    }
+
     /// Puts a value in place of what is read at a path, which may pass through components. The answer is what was there.
     /// Where nothing is there all is as it was, and the value is gone.
     #[tactic(auto, using(crate::proofs::Forgotten::told))]
@@ -113,6 +133,18 @@ impl Variables {
         ensures whole { IfSome result IsWhole }
     {
         self.exchange_keyed(path, v)
+    }
+
+    fn replace_keyed(&mut self, path: &Path, v: Value) -> Result<bool, Value>
+        requires whole { IsWhole v }
+        ensures done { is_ok result ≡ has_replaceable (seen_places self.old) (path_view path.now) }
+        ensures held { IfOk result (λ b. b ≡ has_value (seen_places self.old) (path_view path.now)) }
+        ensures plain { OnOk result (IfSome (cell_at (path_view path.now) (seen_places self.old)) IsPlain) }
+        ensures put { OnOk result (keyed_places self.new ≡ put_at (path_view path.now) (keyed_view v) (keyed_places self.old)) }
+        ensures kept { OnErr result (keyed_places self.new ≡ keyed_places self.old) }
+        ensures handed_back { IfErr result (λ w. w ≡ v) }
+    {
+        replace_at(&mut self.places, path.var.0, path.parts.as_slice(), v)
     }
 
     fn exchange_keyed(&mut self, path: &Path, v: Value) -> Option<Value>

@@ -1,4 +1,4 @@
-use Rattle.std.proofs.Common.{◌≡◌, ◌∷◌, Some, None, get_or, length, ◌≤◌, sym, ◌∙◌, arith}
+use Rattle.std.proofs.Common.{length, ◌≤◌, sym, ◌∙◌, arith}
 use Rattle.herm_places.proofs.Changed.{get_past}
 use Rattle.herm_values.specs.Keyed.{keyed_view}
 use Rattle.herm_places.proofs.Exchanged.{exchanged_past, exchanged_none, exchanged_some, case_changed, case_unchanged, read_past, read_there}
