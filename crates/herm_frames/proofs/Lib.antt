@@ -11,6 +11,7 @@ mod LeftLoops
 mod LostJoined
 mod Moved
 pub mod Predefined
+mod PlainCells
 mod PutBack
 mod Rekeyed
 mod Removed

@@ -6,6 +6,7 @@ ghost use Rattle.herm_values.specs.View.{value_view, table_parts, views_of};
 ghost use Rattle.herm_values.specs.Works.{waiting, spare};
 ghost use Rattle.herm_frames.specs.Counts.{cut};
 
+use herm_places::is_plain;
 use herm_values::{Table, Value, Work, finalise, pending};
 use std::alloc::AllocError;
 
@@ -90,11 +91,15 @@ fn make_room(v: &Value, work: &mut Work) -> Result<(), AllocError>
 
 /// Finalises a value, where so many cells have been finalised before. The answer is how many have been then. Memory is
 /// wanted only where an inport or a callmessage goes on the work list.
+#[tactic(auto, using(crate::proofs::PlainCells::counting))]
 pub fn let_go(v: Value, work: &mut Work, before: u64) -> Result<u64, AllocError>
     ensures waiting { OnOk result (waiting work.new ≡ waiting work.old ++ pending (value_view v)) }
     ensures count { IfOk result (λ n. n ≡ cut (before + length (finalised (value_view v)))) }
     ensures refused { IsErr result → 0 < length (pending (value_view v)) }
 {
+    if is_plain(&v) {
+        return Ok(sum(before, 1));
+    }
     make_room(&v, work)?;
     let count = sum(before, ended(&v));
     finalise(v, work);

@@ -1,5 +1,5 @@
 //! What a process holds but its position, and the few ways in which it changes.
-ghost use Rattle.std.specs.Prelude.{◌≡◌, ◌<◌, ◌+◌, ◌∷◌, ◌++◌, [], map, suc, length, slice_get, Some, None, Option, IfSome, IfNone, IfOk, OnOk, OnErr, IsErr, IsTrue, IsFalse, option_map, option_to_list, ⊤, ℕ};
+ghost use Rattle.std.specs.Prelude.{◌≡◌, ◌<◌, ◌+◌, ◌∷◌, ◌++◌, [], map, suc, length, slice_get, true, Some, None, Option, IfSome, IfNone, IfOk, IfErr, OnOk, OnErr, IsErr, IsTrue, IsFalse, option_map, option_to_list, ⊤, ℕ};
 ghost use Rattle.herm_model.specs.Finalising.{pending};
 ghost use Rattle.herm_model.specs.CellNames.{count};
 ghost use Rattle.herm_model.specs.Outcomes as model;
@@ -271,6 +271,48 @@ impl Frame {
     /// is wanted only where an inport or a callmessage stood there.
     #[tactic(auto, using(crate::proofs::Stood::standing, crate::proofs::Stood::waiting))]
     pub fn put(&mut self, path: &Path, v: Value) -> Result<bool, AllocError>
+        requires whole { IsWhole v }
+        ensures there { IfOk result (λ b. b ≡ has_place (seen_places self.old.variables) (path_view path.now)) }
+        ensures keyed { IfOk result (λ b. IsTrue b → keyed_places self.new.variables ≡ put_at (path_view path.now) (keyed_view v) (keyed_places self.old.variables)) }
+        ensures is_there { IfOk result (λ b. (s : frames.Frame ⊤) → Stands self.old s → b ≡ has_place s.variables (path_view path.now)) }
+        ensures stands { IfOk result (λ b. IsTrue b → (s : frames.Frame ⊤) → Stands self.old s → Stands self.new (frames.put (path_view path.now) (value_view v) s)) }
+        ensures refused { IsErr result → Waits (cell_at (path_view path.now) (seen_places self.old.variables)) }
+    {
+        match self.replace(path, v) {
+            Ok(()) => Ok(true),
+            Err(v) => {
+                let is_there = self.put_over(path, v)?;
+                Ok(is_there)
+            }
+        }
+    }
+
+    /// Puts a value at a path that is a variable by itself, where nothing stands, or a scalar or an outport: that is finalised.
+    /// Elsewhere the value comes back, and all is as it was.
+    #[tactic(auto, using(crate::proofs::PlainCells::replaced))]
+    fn replace(&mut self, path: &Path, v: Value) -> Result<(), Value>
+        requires whole { IsWhole v }
+        ensures there { OnOk result (has_place (seen_places self.old.variables) (path_view path.now) ≡ true) }
+        ensures keyed { OnOk result (keyed_places self.new.variables ≡ put_at (path_view path.now) (keyed_view v) (keyed_places self.old.variables)) }
+        ensures stands { OnOk result ((s : frames.Frame ⊤) → Stands self.old s → Stands self.new (frames.put (path_view path.now) (value_view v) s)) }
+        ensures kept { OnErr result (keyed_places self.new.variables ≡ keyed_places self.old.variables) }
+        ensures kept_seen { OnErr result (seen_places self.new.variables ≡ seen_places self.old.variables) }
+        ensures stays { OnErr result ((s : frames.Frame ⊤) → Stands self.old s → Stands self.new s) }
+        ensures handed_back { IfErr result (λ w. w ≡ v) }
+    {
+        match self.variables.replace(path, v) {
+            Ok(false) => Ok(()),
+            Ok(true) => {
+                self.finalise_cell();
+                Ok(())
+            }
+            Err(v) => Err(v),
+        }
+    }
+
+    /// The same, whatever stands there.
+    #[tactic(auto, using(crate::proofs::Stood::standing, crate::proofs::Stood::waiting))]
+    fn put_over(&mut self, path: &Path, v: Value) -> Result<bool, AllocError>
         requires whole { IsWhole v }
         ensures there { IfOk result (λ b. b ≡ has_place (seen_places self.old.variables) (path_view path.now)) }
         ensures keyed { IfOk result (λ b. IsTrue b → keyed_places self.new.variables ≡ put_at (path_view path.now) (keyed_view v) (keyed_places self.old.variables)) }

@@ -5,7 +5,7 @@ use Rattle.herm_types.specs.View.{path_view}
 use Rattle.herm_values.specs.View.{value_view}
 use Rattle.herm_frames.specs.Standing.{Stands}
 use Rattle.herm_frames.proofs.Stood.{put_found}
-use Rattle.herm_frames.proofs.frame.Frame.put.Goals as goal
+use Rattle.herm_frames.proofs.frame.Frame.put_over.Goals as goal
 
 pub returns-clause-stands : goal.returns-clause-stands
 returns-clause-stands c t s h =
