@@ -1,5 +1,5 @@
 -- Numbers of 64 bits and those that the model takes for them.
-use Rattle.std.proofs.Common.{◌≡◌, ◌<◌, ◌^◌, ◌%◌, ℕ, zero, suc, ℤ, pos, negsuc, Bool, true, false, IsTrue, Option, Some, None, refl, sym, ap, ◌∙◌, arith}
+use Rattle.std.proofs.Common.{◌≡◌, ◌<◌, ◌^◌, ◌%◌, ℕ, zero, suc, ℤ, pos, negsuc, false, IsTrue, Option, Some, None, refl, sym, ap, ◌∙◌, arith}
 use Rattle.std.proofs.lemmas.Bool.{lt-ltb, le-ltb, ne_eqb}
 use Rattle.std.specs.Prelude.{FitsSigned, SomeIff, cond, int_div, int_rem, neg_ℤ}
 use Rattle.std.specs.Int.{w64, IsNonZero, CanDivide}
@@ -7,7 +7,7 @@ use Rattle.herm_model.specs.Outcomes.{overflow}
 use Rattle.herm_model.specs.Values.{an_integer}
 use Rattle.herm_model.specs.Tables.{same_integer}
 use Rattle.herm_model.specs.Typed.{is_integer}
-use Rattle.herm_forms.specs.Evaluate.{Evaluated, raises, gives_scalar, within_bits, by_divisor}
+use Rattle.herm_forms.specs.Evaluate.{raises, gives_scalar, within_bits, by_divisor}
 use Rattle.herm_stack.specs.Answers.{checked}
 
 fits : (z : ℤ) → FitsSigned w64 z → IsTrue (is_integer z)

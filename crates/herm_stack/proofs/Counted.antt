@@ -1,12 +1,12 @@
 -- Scalars and rows that are counted.
-use Rattle.std.proofs.Common.{◌≡◌, ℕ, ℤ, pos, suc, List, [], ◌∷◌, ◌++◌, length, map, Option, Some, None, option_map, append_assoc, refl, sym, ap, ◌∙◌, Box, Global}
+use Rattle.std.proofs.Common.{◌≡◌, ℕ, pos, suc, List, [], ◌∷◌, ◌++◌, length, map, Option, Some, None, option_map, append_assoc, refl, sym, ap, ◌∙◌, Box, Global}
 use Rattle.std.proofs.lemmas.List.{append-nil, map-append}
 use Rattle.herm_model.specs.Values as model
 use Rattle.herm_model.specs.Values.{a_scalar, a_record, a_variant, a_table, a_polymorph, a_callmessage, an_inport, an_outport, cell, size, no_parts, gap, part, place}
 use Rattle.herm_forms.specs.Evaluate.{rows_there}
-use Rattle.herm_code_machine.specs.Stacks.{scalars_of, scalar_before}
+use Rattle.herm_code_machine.specs.Stacks.{scalars_of}
 use Rattle.herm_values.specs.Parts.{parts_from}
-use Rattle.herm_values.specs.View.{value_view, scalar_view, key_view, row_views, table_parts}
+use Rattle.herm_values.specs.View.{value_view, scalar_view, key_view, row_views}
 use Rattle.herm_values.specs.declared.scalar.Scalar.{Scalar}
 use Rattle.herm_values.specs.declared.value.Value.{Value, Table as a_held_table}
 use Rattle.herm_values.specs.declared.value.Table.{Table}

@@ -1,13 +1,13 @@
 -- Operators by the scalars that their operands are.
-use Rattle.std.proofs.Common.{◌≡◌, ◌<◌, ℕ, ℤ, pos, negsuc, List, [], ◌∷◌, Bool, true, false, not, ◌&&◌, ◌||◌, Option, Some, None, refl, sym, ap, ap₂, ◌∙◌, arith}
+use Rattle.std.proofs.Common.{◌≡◌, ℕ, ℤ, pos, negsuc, List, [], ◌∷◌, Bool, not, ◌&&◌, ◌||◌, Option, Some, None, refl, sym, ap, ap₂, ◌∙◌, arith}
 use Rattle.std.proofs.lemmas.Bool.Decides.{nat_tests}
 use Rattle.std.proofs.lemmas.Cmp.{same_from_slice_cmp}
-use Rattle.std.specs.Prelude.{int_lt, int_le, int_div, int_rem, ◌+ℤ◌, ◌-ℤ◌, ◌*ℤ◌, neg_ℤ, ◌++◌, length, option_map, nat_lt, nat_eq, bytes_eq}
-use Rattle.std.specs.Ordering.{is_eq, is_lt, is_gt, is_le, is_ge, nat_cmp, int_cmp}
+use Rattle.std.specs.Prelude.{int_lt, int_le, int_div, int_rem, ◌+ℤ◌, ◌-ℤ◌, ◌*ℤ◌, neg_ℤ, ◌++◌, length, option_map, nat_eq, bytes_eq}
+use Rattle.std.specs.Ordering.{is_lt, is_gt, is_le, is_ge, nat_cmp, int_cmp}
 use Rattle.std.specs.Cmp.Lexicographic.{slice_cmp}
 use Rattle.std.specs.declared.cmp.Ordering.{Ordering}
 use Rattle.std.specs.declared.cmp.Ordering.TheVariants.{Less, Equal, Greater}
-use Rattle.herm_model.specs.Values.{Scalar, a_boolean, an_integer, a_text, a_tag, a_scalar, a_record, a_variant, a_table, a_polymorph, a_callmessage, an_inport, an_outport, Cell, cell, Value}
+use Rattle.herm_model.specs.Values.{Scalar, a_boolean, an_integer, a_text, a_tag, a_scalar, a_record, a_variant, a_table, a_polymorph, a_callmessage, an_inport, an_outport, cell, Value}
 use Rattle.herm_model.specs.Lists.{same_numbers}
 use Rattle.herm_model.specs.Tables.{same_scalar}
 use Rattle.herm_forms.specs.Evaluate.{Evaluated, gives, no_value, scalar_then, one_then, two_then, boolean_then, integer_then, text_then, gives_boolean, gives_scalar, on_booleans, on_integers, on_texts, compared, is_before, within_bits, within_length, by_divisor, operate}
@@ -15,7 +15,7 @@ use Rattle.herm_model.specs.Expressions.{logical_or, logical_and, equal, unequal
 use Rattle.herm_model.specs.ValueTexts.{signed_numeral}
 use Rattle.herm_instructions.specs.Instructions.{negative, complement, as_text, text_length}
 use Rattle.herm_code_machine.specs.Effects.{applied}
-use Rattle.herm_stack.specs.Operands.{scalar_in, boolean_in, integer_in, text_in, tag_in, both_of, given_both, given_one, tested, sameness, ordering}
+use Rattle.herm_stack.specs.Operands.{scalar_in, boolean_in, integer_in, text_in, both_of, given_both, given_one, tested, sameness, ordering}
 
 -- on with a scalar, and no value without it
 abbrev on_scalar : (Scalar → Evaluated) → Option Scalar → Evaluated

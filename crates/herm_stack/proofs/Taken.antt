@@ -1,12 +1,12 @@
 -- Values that are taken from the end of a list are taken from the top of the stack that it is.
-use Rattle.std.proofs.Common.{◌≡◌, ◌<◌, ◌≤◌, ◌-◌, ℕ, zero, suc, List, [], ◌∷◌, ◌++◌, map, take, drop, length, Option, Some, None, option_map, append_assoc, refl, sym, ap, ap₂, subst, ◌∙◌, arith}
+use Rattle.std.proofs.Common.{◌≡◌, ◌<◌, ◌≤◌, ◌-◌, ℕ, zero, suc, List, [], ◌∷◌, ◌++◌, map, take, drop, length, Some, None, append_assoc, refl, sym, ap, ap₂, subst, ◌∙◌, arith}
 use Rattle.std.proofs.lemmas.List.{reverse-append, reverse-reverse, length-reverse, append-nil, length-map, length-drop, take-append-drop, map-append}
 use Rattle.std.proofs.lemmas.Grind.{reverse_onto}
-use Rattle.std.proofs.lemmas.List.Elements.{All-append, All-push, All-pop, All-take, All-drop, All-nil}
+use Rattle.std.proofs.lemmas.List.Elements.{All-take, All-drop}
 use Rattle.std.specs.Prelude.{reverse}
 use Rattle.std.specs.List.{All}
 use Rattle.herm_model.specs.Values as model
-use Rattle.herm_code_machine.specs.Stacks.{pop_onto, pop, Popped}
+use Rattle.herm_code_machine.specs.Stacks.{pop_onto, pop}
 use Rattle.herm_values.specs.View.{value_view}
 use Rattle.herm_values.specs.Whole.{IsWhole}
 use Rattle.herm_values.specs.declared.value.Value.{Value}

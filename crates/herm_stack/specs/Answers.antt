@@ -1,20 +1,21 @@
 -- What evaluations and instructions of the code come to, in the words of the model.
-use Rattle.std.specs.Prelude.{ℕ, List, ◌∷◌, map, ℤ, Option, Some, None, ⊤, ◌≡◌}
+use Rattle.std.specs.Prelude.{ℕ, option_to_list, Bool, true, false, List, [], ◌∷◌, map, ℤ, Option, Some, None, ⊤, ◌≡◌}
 use Rattle.std.specs.declared.vec.Vec.{Vec}
 use Rattle.std.specs.declared.alloc.Global.{Global}
 use Rattle.herm_model.specs.Expressions as model
 use Rattle.herm_model.specs.Outcomes.{ok, raised, overflow}
-use Rattle.herm_model.specs.Values.{Cell, Value, a_scalar, an_integer}
-use Rattle.herm_forms.specs.Evaluate.{Evaluated, gives, raises, no_value, gives_scalar, scalar_of}
+use Rattle.herm_model.specs.Values.{Cell, Value, a_scalar, an_integer, a_text}
+use Rattle.herm_forms.specs.Evaluate.{Evaluated, raises, no_value, gives_boolean, gives_scalar, scalar_of}
 use Rattle.herm_forms.specs.Frames.{Frame, goes}
 use Rattle.herm_instructions.specs.Instructions as instructions
 use Rattle.herm_code_machine.specs.Stacks.{Effect, leaving, no_effect, Popped}
-use Rattle.herm_values.specs.View.{value_view, scalar_view, leaf}
+use Rattle.herm_values.specs.View.{value_view, leaf}
 use Rattle.herm_values.specs.Keyed.{keyed_view}
-use Rattle.herm_values.specs.declared.scalar.Scalar.{Scalar}
 use Rattle.herm_values.specs.declared.value.Value as code
 use Rattle.herm_stack.specs.declared.answers.Evaluation.{Evaluation}
 use Rattle.herm_stack.specs.declared.answers.Evaluation.TheVariants as evaluations
+use Rattle.herm_stack.specs.declared.answers.Written.{Written}
+use Rattle.herm_stack.specs.declared.answers.Written.TheVariants as writtens
 use Rattle.herm_stack.specs.declared.answers.Completion.{Completion}
 use Rattle.herm_stack.specs.declared.answers.Completion.TheVariants as completions
 use Rattle.herm_stack.specs.declared.operators.Unary.{Unary}
@@ -23,9 +24,15 @@ use Rattle.herm_stack.specs.declared.operators.Binary.{Binary}
 use Rattle.herm_stack.specs.declared.operators.Binary.TheVariants as binaries
 
 abbrev pub evaluated : Evaluation → Evaluated
-evaluated (evaluations.Gives s) = gives_scalar (scalar_view s)
+evaluated (evaluations.Boolean b) = gives_boolean b
+evaluated (evaluations.Integer z) = gives_scalar (an_integer z)
 evaluated (evaluations.Raises e) = raises e.0
 evaluated evaluations.Stuck = no_value
+
+abbrev pub written : Written → Evaluated
+written (writtens.Gives text) = gives_scalar (a_text text)
+written (writtens.Raises e) = raises e.0
+written writtens.Stuck = no_value
 
 -- a number of 64 bits, and Overflow where there is none
 abbrev pub checked : Option ℤ → Evaluated
@@ -64,10 +71,6 @@ effect_of completions.Stuck stack b = no_effect
 abbrev pub on_stack : List code.Value → List Value
 on_stack vs = map value_view vs
 
--- the value that a scalar is
-abbrev pub scalar_cell : Scalar → Value
-scalar_cell s = leaf (a_scalar (scalar_view s))
-
 -- the value that a literal is
 abbrev pub literal_cell : model.Literal → Value
 literal_cell l = leaf (a_scalar (scalar_of l))
@@ -81,6 +84,24 @@ counted (Some z) = gives_scalar (an_integer z)
 abbrev pub popped : Option (Vec code.Value Global) → List Value → Option Popped
 popped None rest = None
 popped (Some vs) rest = Some (record { values = on_stack vs.items; rest = rest })
+
+-- what is on the stack now is what was, and a value in front that is this tree
+abbrev pub IsPushed : Value → (old new : List code.Value) → Type 0
+IsPushed c old new = (v : code.Value) × (new ≡ v ∷ old) × (value_view v ≡ c)
+
+-- what is on the stack now is what was, and an equal value in front, whose tables have the same fields as their keys
+abbrev pub IsCopied : code.Value → (old new : List code.Value) → Type 0
+IsCopied seen old new = (v : code.Value) × (new ≡ v ∷ old) × (value_view v ≡ value_view seen) × (keyed_view v ≡ keyed_view seen)
+
+-- the top is gone, and where this is false there was none
+abbrev pub IsLetGo : Bool → (old new : List code.Value) → Type 0
+IsLetGo true old new = (v : code.Value) × (old ≡ v ∷ new)
+IsLetGo false old new = old ≡ []
+
+-- the top two are gone, and where this is false there was one at most
+abbrev pub AreLetGo : Bool → (old new : List code.Value) → Type 0
+AreLetGo true old new = (right : code.Value) × (left : code.Value) × (old ≡ right ∷ left ∷ new)
+AreLetGo false old new = (v : Option code.Value) × (old ≡ option_to_list v)
 
 -- what is on the stack now is what was, and a value in front that has this tree with its keys
 abbrev pub IsPushedAs : Cell (List ℕ) → (old new : List code.Value) → Type 0

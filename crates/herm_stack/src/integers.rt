@@ -5,7 +5,6 @@ ghost use Rattle.herm_stack.specs.Answers.{evaluated, checked};
 
 use crate::answers::Evaluation;
 use herm_base::ExcNo;
-use herm_values::Scalar;
 
 /// Arithmetic that left the 64 bits, or a divisor of 0.
 const OVERFLOW: ExcNo = ExcNo(0);
@@ -15,7 +14,7 @@ fn checked(n: Option<i64>) -> Evaluation
     ensures { evaluated result ≡ checked n }
 {
     match n {
-        Some(n) => Evaluation::Gives(Scalar::Int(n)),
+        Some(n) => Evaluation::Integer(n),
         None => Evaluation::Raises(OVERFLOW),
     }
 }
@@ -25,7 +24,7 @@ fn checked(n: Option<i64>) -> Evaluation
 fn fitting(n: i64) -> Evaluation
     ensures { evaluated result ≡ within_bits n }
 {
-    Evaluation::Gives(Scalar::Int(n))
+    Evaluation::Integer(n)
 }
 
 #[tactic(auto, using(crate::proofs::Checked::checked_fits))]

@@ -1,18 +1,19 @@
 //! Operators between two operands, and on one, that take no memory.
-ghost use Rattle.std.specs.Prelude.{◌≡◌, ◌&&◌, ◌||◌, not, ◌+ℤ◌, ◌-ℤ◌, ◌*ℤ◌};
+ghost use Rattle.std.specs.Prelude.{◌≡◌, ◌&&◌, ◌||◌, not, ◌+ℤ◌, ◌-ℤ◌, ◌*ℤ◌, ◌∷◌, List, reverse};
 ghost use Rattle.std.specs.Ordering.{is_lt, is_le, is_gt, is_ge};
 ghost use Rattle.herm_model.specs.Expressions.{logical_or, logical_and, equal, unequal, less, at_most, greater, at_least, plus, minus, times, divided, modulo};
 ghost use Rattle.herm_forms.specs.Evaluate.{two_then, gives, operate, gives_boolean, scalar_then};
 ghost use Rattle.herm_instructions.specs.Instructions.{negative, complement, text_length};
 ghost use Rattle.herm_code_machine.specs.Effects.{applied};
 ghost use Rattle.herm_values.specs.View.{value_view};
+ghost use Rattle.herm_values.specs.declared.value.Value as held;
 ghost use Rattle.herm_stack.specs.Answers.{evaluated, binary_view, unary_view};
 ghost use Rattle.herm_stack.specs.Operands.{scalar_in, boolean_in, integer_in, both_of, tested, sameness, differing, ordering};
 
 use crate::answers::Evaluation;
 use crate::integers::{difference, negated, product, quotient, remainder, sum};
 use crate::operands::{as_boolean, as_integer, as_tag, as_text, is_scalar};
-use herm_values::{Scalar, Value};
+use herm_values::Value;
 use std::cmp::Ordering;
 
 /// An operator on one operand that takes no memory: the minus of an integer, `not`, the length of a string.
@@ -46,7 +47,7 @@ fn tested(answer: Option<bool>) -> Evaluation
     ensures { evaluated result ≡ tested answer }
 {
     match answer {
-        Some(b) => Evaluation::Gives(Scalar::Bool(b)),
+        Some(b) => Evaluation::Boolean(b),
         None => Evaluation::Stuck,
     }
 }
@@ -140,8 +141,19 @@ fn ordering(left: &Value, right: &Value) -> Option<Ordering>
     }
 }
 
+/// What the last two of these values give, the right operand last. Nothing where there are fewer.
+#[tactic(auto, using(crate::proofs::Stacked::ends))]
+pub fn combined_at_end(o: Binary, values: &[Value]) -> Evaluation
+    ensures { (left right : held.Value) (rest : List held.Value) → reverse values.now ≡ right ∷ left ∷ rest → evaluated result ≡ two_then (operate (binary_view o)) (gives (value_view left)) (gives (value_view right)) }
+{
+    let [.., left, right] = values else {
+        return Evaluation::Stuck;
+    };
+    combined(o, left, right)
+}
+
 /// What two operands give, the left one first.
-pub fn combined(o: Binary, left: &Value, right: &Value) -> Evaluation
+fn combined(o: Binary, left: &Value, right: &Value) -> Evaluation
     ensures { evaluated result ≡ two_then (operate (binary_view o)) (gives (value_view left.now)) (gives (value_view right.now)) }
 {
     match o {
@@ -288,8 +300,19 @@ fn modulo(left: &Value, right: &Value) -> Evaluation
     }
 }
 
+/// What the last of these values gives. Nothing where there is none.
+#[tactic(auto, using(crate::proofs::Stacked::ends))]
+pub fn applied_at_end(o: Unary, values: &[Value]) -> Evaluation
+    ensures { (v : held.Value) (rest : List held.Value) → reverse values.now ≡ v ∷ rest → evaluated result ≡ scalar_then (applied (unary_view o)) (value_view v) }
+{
+    let [.., v] = values else {
+        return Evaluation::Stuck;
+    };
+    applied(o, v)
+}
+
 /// What one operand gives.
-pub fn applied(o: Unary, v: &Value) -> Evaluation
+fn applied(o: Unary, v: &Value) -> Evaluation
     ensures { evaluated result ≡ scalar_then (applied (unary_view o)) (value_view v.now) }
 {
     match o {
@@ -324,7 +347,7 @@ fn text_length(v: &Value) -> Evaluation
     ensures { evaluated result ≡ scalar_then (applied text_length) (value_view v.now) }
 {
     match as_text(v) {
-        Some(text) => Evaluation::Gives(Scalar::Int(text.bytes().len() as i64)),
+        Some(text) => Evaluation::Integer(text.bytes().len() as i64),
         None => Evaluation::Stuck,
     }
 }

@@ -1,45 +1,13 @@
 //! Scalars and the values that they are.
 ghost use Rattle.std.specs.Prelude.{◌≡◌, ◌++◌, IfOk, Some, map, option_map};
-ghost use Rattle.herm_code.specs.View.{const_view};
 ghost use Rattle.herm_code_machine.specs.Stacks.{scalars_of};
 ghost use Rattle.herm_forms.specs.Evaluate.{rows_there};
 ghost use Rattle.herm_values.specs.View.{value_view, scalar_view, key_view};
-ghost use Rattle.herm_values.specs.Whole.{IsWhole};
-ghost use Rattle.herm_stack.specs.Answers.{scalar_cell, counted, literal_cell};
+ghost use Rattle.herm_stack.specs.Answers.{counted};
 ghost use Rattle.herm_stack.specs.Operands.{scalar_in};
 
-use herm_code::Const;
 use herm_values::{Scalar, Value};
 use std::alloc::{AllocError, Global};
-
-/// The value that a scalar is.
-pub fn of_scalar(scalar: Scalar) -> Value
-    ensures cell { value_view result ≡ scalar_cell scalar }
-    ensures whole { IsWhole result }
-{
-    match scalar {
-        Scalar::Bool(b) => Value::Bool(b),
-        Scalar::Int(n) => Value::Int(n),
-        Scalar::Text(text) => Value::Text(text),
-        Scalar::Tag(i) => Value::Tag(i),
-    }
-}
-
-/// The value that a constant is.
-pub fn of_constant(constant: &Const) -> Result<Value, AllocError>
-    ensures cell { IfOk result (λ v. value_view v ≡ literal_cell (const_view constant.now)) }
-    ensures whole { IfOk result IsWhole }
-{
-    match constant {
-        Const::Bool(b) => Ok(Value::Bool(*b)),
-        Const::Int(n) => Ok(Value::Int(*n)),
-        Const::Text(text) => {
-            let text = text.clone()?;
-            Ok(Value::Text(text))
-        }
-        Const::Tag(_, place) => Ok(Value::Tag(*place)),
-    }
-}
 
 /// The scalar that a value is, if it is one.
 fn scalar_of(v: &Value) -> Result<Option<Scalar>, AllocError>

@@ -1,5 +1,5 @@
 //! The stack of values of a process.
-ghost use Rattle.std.specs.Prelude.{◌≡◌, ◌∷◌, ◌++◌, [], ◌<◌, IfOk, IfSome, IfNone, OnOk, option_to_list, option_map, reverse, slice_get, Some, ℕ, List, ⊤};
+ghost use Rattle.std.specs.Prelude.{◌≡◌, ◌∷◌, ◌++◌, [], ◌<◌, IfOk, IfSome, IfNone, OnOk, option_to_list, option_map, IsTrue, reverse, slice_get, Some, ℕ, List, ⊤};
 ghost use Rattle.std.specs.Vec.{vec_len, vec_capacity};
 ghost use Rattle.std.specs.List.{All};
 ghost use Rattle.herm_journal.specs.Renaming.{forget_name};
@@ -14,16 +14,16 @@ ghost use Rattle.herm_instructions.specs.Instructions as instructions;
 ghost use Rattle.herm_instructions.specs.Instructions.{Apply, Combine, Load, Size, as_text};
 ghost use Rattle.herm_code.specs.View.{const_view};
 ghost use Rattle.herm_code_machine.specs.ReadyCode.{ReadyCode};
-ghost use Rattle.herm_code_machine.specs.Stacks.{pushing, leaving, pop, with_key, with_key_of};
+ghost use Rattle.herm_code_machine.specs.Stacks.{pushing, leaving, no_effect, pop, with_key, with_key_of};
 ghost use Rattle.herm_code_machine.specs.Effects.{effect};
 ghost use Rattle.herm_values.specs.View.{value_view, key_view};
 ghost use Rattle.herm_values.specs.Keyed.{keyed_view};
 ghost use Rattle.herm_values.specs.Whole.{IsWhole};
-ghost use Rattle.herm_stack.specs.Answers.{evaluated, binary_view, unary_view, effect_of, on_stack, popped, IsPushedAs};
+ghost use Rattle.herm_stack.specs.Answers.{evaluated, written, binary_view, unary_view, effect_of, on_stack, popped, literal_cell, IsPushed, IsCopied, IsLetGo, AreLetGo, IsPushedAs};
 
-use crate::answers::{Completion, Evaluation};
-use crate::operators::{Binary, Unary, applied, combined};
-use crate::scalars::{of_constant, of_scalar, row_count, scalars_of};
+use crate::answers::{Completion, Evaluation, Written};
+use crate::operators::{Binary, Unary, applied_at_end, combined_at_end};
+use crate::scalars::{row_count, scalars_of};
 use crate::texts::{concatenation, text_of};
 use herm_code::Const;
 use herm_values::{Scalar, Value, copy_of};
@@ -92,8 +92,7 @@ impl Stack {
     pub fn constant(&mut self, constant: &Const) -> Result<(), AllocError>
         ensures effect { OnOk result ((c : ReadyCode) (k : ℕ) (b : Frame ⊤) → slice_get c.constants k ≡ Some (const_view constant.now) → effect forget_name c (instructions.Const k) (on_stack self.old) b ≡ leaving (on_stack self.new) (goes ok b)) }
     {
-        let value = of_constant(constant)?;
-        push(&mut self.values, value)
+        push_constant(&mut self.values, constant)
     }
 
     /// Pushes a copy of what was read at a path, and is stuck where nothing was.
@@ -106,8 +105,7 @@ impl Stack {
         let Some(v) = read else {
             return Ok(Completion::Stuck);
         };
-        let copy = copy_of(alloc, v)?;
-        push(&mut self.values, copy)?;
+        push_copy(&mut self.values, alloc, v)?;
         Ok(Completion::Next)
     }
 
@@ -127,28 +125,27 @@ impl Stack {
     }
 
     /// Replaces the top by what an operator gives of it. It takes no memory.
-    #[tactic(auto, using(crate::proofs::Stacked::one_popped))]
+    #[tactic(auto, using(crate::proofs::Stacked::operands_gone))]
     pub fn apply(&mut self, o: Unary) -> Completion
         ensures effect { (c : ReadyCode) (b : Frame ⊤) → effect forget_name c (Apply (unary_view o)) (on_stack self.old) b ≡ effect_of result (on_stack self.new) b }
     {
-        let Some(v) = pop(&mut self.values) else {
+        let e = applied_at_end(o, self.values.as_slice());
+        if !let_go(&mut self.values) {
             return Completion::Stuck;
-        };
-        put(&mut self.values, applied(o, &v))
+        }
+        put(&mut self.values, e)
     }
 
     /// Replaces the top two by what an operator gives of them, the right operand on top. It takes no memory.
-    #[tactic(auto, using(crate::proofs::Stacked::two_popped))]
+    #[tactic(auto, using(crate::proofs::Stacked::operands_gone))]
     pub fn combine(&mut self, o: Binary) -> Completion
         ensures effect { (c : ReadyCode) (b : Frame ⊤) → effect forget_name c (Combine (binary_view o)) (on_stack self.old) b ≡ effect_of result (on_stack self.new) b }
     {
-        let Some(right) = pop(&mut self.values) else {
+        let e = combined_at_end(o, self.values.as_slice());
+        if !let_two_go(&mut self.values) {
             return Completion::Stuck;
-        };
-        let Some(left) = pop(&mut self.values) else {
-            return Completion::Stuck;
-        };
-        put(&mut self.values, combined(o, &left, &right))
+        }
+        put(&mut self.values, e)
     }
 
     /// Replaces the top by its decimal text.
@@ -160,7 +157,7 @@ impl Stack {
             return Ok(Completion::Stuck);
         };
         let text = text_of(alloc, &v)?;
-        Ok(put(&mut self.values, text))
+        Ok(put_text(&mut self.values, text))
     }
 
     /// Replaces the top two strings by the one behind the other.
@@ -175,7 +172,7 @@ impl Stack {
             return Ok(Completion::Stuck);
         };
         let joined = concatenation(alloc, &left, &right)?;
-        Ok(put(&mut self.values, joined))
+        Ok(put_text(&mut self.values, joined))
     }
 
     /// Takes so many values, the first pushed one first, and none where there are fewer.
@@ -220,7 +217,49 @@ fn push(values: &mut Vec<Value>, v: Value) -> Result<(), AllocError>
     ensures pushed { OnOk result (reverse values.new.items ≡ v ∷ reverse values.old.items) }
     ensures whole { All IsWhole values.old.items → All IsWhole values.new.items }
 {
-    values.push(v)?;
+    values.reserve(1)?;
+    values.push_reserved(v);
+    Ok(())
+}
+
+/// Pushes the value that a constant is.
+#[tactic(auto, using(crate::proofs::Stacked::constants_pushed))]
+fn push_constant(values: &mut Vec<Value>, constant: &Const) -> Result<(), AllocError>
+    ensures pushed { OnOk result (IsPushed (literal_cell (const_view constant.now)) (reverse values.old.items) (reverse values.new.items)) }
+    ensures whole { All IsWhole values.old.items → All IsWhole values.new.items }
+{
+    values.reserve(1)?;
+    match constant {
+        Const::Bool(b) => values.push_reserved(Value::Bool(*b)),
+        Const::Int(n) => values.push_reserved(Value::Int(*n)),
+        Const::Text(text) => {
+            let text = text.clone()?;
+            values.push_reserved(Value::Text(text));
+        }
+        Const::Tag(_, place) => values.push_reserved(Value::Tag(*place)),
+    }
+    Ok(())
+}
+
+/// Pushes an equal value, whose tables have the same fields as their keys. One that takes no memory is written where it goes.
+#[tactic(auto, using(crate::proofs::Stacked::copies_pushed))]
+fn push_copy(values: &mut Vec<Value>, alloc: Global, v: &Value) -> Result<(), AllocError>
+    requires whole { IsWhole v.now }
+    ensures pushed { OnOk result (IsCopied v.now (reverse values.old.items) (reverse values.new.items)) }
+    ensures whole { All IsWhole values.old.items → All IsWhole values.new.items }
+{
+    values.reserve(1)?;
+    match v {
+        Value::Bool(b) => values.push_reserved(Value::Bool(*b)),
+        Value::Int(n) => values.push_reserved(Value::Int(*n)),
+        Value::Tag(place) => values.push_reserved(Value::Tag(*place)),
+        Value::Inport(port) => values.push_reserved(Value::Inport(*port)),
+        Value::Outport(port) => values.push_reserved(Value::Outport(*port)),
+        _ => {
+            let copy = copy_of(alloc, v)?;
+            values.push_reserved(copy);
+        }
+    }
     Ok(())
 }
 
@@ -236,6 +275,34 @@ fn pop(values: &mut Vec<Value>) -> Option<Value>
     values.pop()
 }
 
+/// Lets the last value go, if there is one. The place that it leaves is room for another.
+fn let_go(values: &mut Vec<Value>) -> bool
+    ensures gone { IsLetGo result (reverse values.old.items) (reverse values.new.items) }
+    ensures room { IsTrue result → vec_len values.new < vec_capacity values.new }
+    ensures left_whole { All IsWhole values.old.items → All IsWhole values.new.items }
+{
+    match pop(values) {
+        Some(_) => true,
+        None => false,
+    }
+}
+
+/// Lets the last two values go, if there are two. The places that they leave are room for others.
+#[tactic(auto, using(crate::proofs::Stacked::letting_go))]
+fn let_two_go(values: &mut Vec<Value>) -> bool
+    ensures gone { AreLetGo result (reverse values.old.items) (reverse values.new.items) }
+    ensures room { IsTrue result → vec_len values.new < vec_capacity values.new }
+    ensures left_whole { All IsWhole values.old.items → All IsWhole values.new.items }
+{
+    if !let_go(values) {
+        return false;
+    }
+    if !let_go(values) {
+        return false;
+    }
+    true
+}
+
 /// Pushes what an operator gives, for which there is room. Behind an exception nothing is on the stack.
 #[tactic(auto, using(crate::proofs::Stacked::stacking))]
 fn put(values: &mut Vec<Value>, e: Evaluation) -> Completion
@@ -244,8 +311,12 @@ fn put(values: &mut Vec<Value>, e: Evaluation) -> Completion
     ensures whole { All IsWhole values.old.items → All IsWhole values.new.items }
 {
     match e {
-        Evaluation::Gives(scalar) => {
-            values.push_reserved(of_scalar(scalar));
+        Evaluation::Boolean(b) => {
+            values.push_reserved(Value::Bool(b));
+            Completion::Next
+        }
+        Evaluation::Integer(z) => {
+            values.push_reserved(Value::Int(z));
             Completion::Next
         }
         Evaluation::Raises(e) => {
@@ -253,5 +324,22 @@ fn put(values: &mut Vec<Value>, e: Evaluation) -> Completion
             Completion::Raised(e)
         }
         Evaluation::Stuck => Completion::Stuck,
+    }
+}
+
+/// Pushes what an operator that makes a string gives, for which there is room.
+#[tactic(auto, using(crate::proofs::Stacked::stacking))]
+fn put_text(values: &mut Vec<Value>, w: Written) -> Completion
+    requires room { vec_len values.old < vec_capacity values.old }
+    ensures effect { (b : Frame ⊤) → pushing (written w) (on_stack (reverse values.old.items)) b ≡ effect_of result (on_stack (reverse values.new.items)) b }
+    ensures whole { All IsWhole values.old.items → All IsWhole values.new.items }
+{
+    match w {
+        Written::Gives(text) => {
+            values.push_reserved(Value::Text(text));
+            Completion::Next
+        }
+        Written::Raises(e) => put(values, Evaluation::Raises(e)),
+        Written::Stuck => Completion::Stuck,
     }
 }

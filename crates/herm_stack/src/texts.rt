@@ -7,12 +7,12 @@ ghost use Rattle.herm_forms.specs.Evaluate.{two_then, gives, operate, scalar_the
 ghost use Rattle.herm_instructions.specs.Instructions.{as_text};
 ghost use Rattle.herm_code_machine.specs.Effects.{applied};
 ghost use Rattle.herm_values.specs.View.{value_view};
-ghost use Rattle.herm_stack.specs.Answers.{evaluated};
+ghost use Rattle.herm_stack.specs.Answers.{written};
 
-use crate::answers::Evaluation;
+use crate::answers::Written;
 use crate::operands::{as_integer, as_text};
 use herm_base::{ExcNo, Word};
-use herm_values::{Scalar, Value};
+use herm_values::Value;
 use itoa::Buffer;
 use std::alloc::{AllocError, Global};
 
@@ -33,42 +33,42 @@ fn numeral(alloc: Global, z: i64) -> Result<Word, AllocError>
 }
 
 /// Both strings, the one behind the other, and Depletion where they are too long.
-fn joined(alloc: Global, s: &[u8], t: &[u8]) -> Result<Evaluation, AllocError>
-    ensures { IfOk result (λ e. evaluated e ≡ within_length (s.now ++ t.now)) }
+fn joined(alloc: Global, s: &[u8], t: &[u8]) -> Result<Written, AllocError>
+    ensures { IfOk result (λ w. written w ≡ within_length (s.now ++ t.now)) }
 {
     if s.len() > GREATEST_TEXT || t.len() > GREATEST_TEXT - s.len() {
-        return Ok(Evaluation::Raises(DEPLETION));
+        return Ok(Written::Raises(DEPLETION));
     }
     let mut bytes = Vec::with_capacity(alloc, s.len() + t.len())?;
     bytes.extend_from_slice(s)?;
     bytes.extend_from_slice(t)?;
-    Ok(Evaluation::Gives(Scalar::Text(Word::from_vec(bytes))))
+    Ok(Written::Gives(Word::from_vec(bytes)))
 }
 
 /// The decimal text of an integer.
 #[tactic(auto, using(crate::proofs::Operated::as_text_given))]
-pub fn text_of(alloc: Global, v: &Value) -> Result<Evaluation, AllocError>
-    ensures { IfOk result (λ e. evaluated e ≡ scalar_then (applied as_text) (value_view v.now)) }
+pub fn text_of(alloc: Global, v: &Value) -> Result<Written, AllocError>
+    ensures { IfOk result (λ w. written w ≡ scalar_then (applied as_text) (value_view v.now)) }
 {
     match as_integer(v) {
         Some(z) => {
             let word = numeral(alloc, z)?;
-            Ok(Evaluation::Gives(Scalar::Text(word)))
+            Ok(Written::Gives(word))
         }
-        None => Ok(Evaluation::Stuck),
+        None => Ok(Written::Stuck),
     }
 }
 
 /// Both strings, the left one first. Depletion where they have more than 4,096 bytes together.
 #[tactic(auto, using(crate::proofs::Operated::concatenated_given))]
-pub fn concatenation(alloc: Global, left: &Value, right: &Value) -> Result<Evaluation, AllocError>
-    ensures { IfOk result (λ e. evaluated e ≡ two_then (operate concatenated) (gives (value_view left.now)) (gives (value_view right.now))) }
+pub fn concatenation(alloc: Global, left: &Value, right: &Value) -> Result<Written, AllocError>
+    ensures { IfOk result (λ w. written w ≡ two_then (operate concatenated) (gives (value_view left.now)) (gives (value_view right.now))) }
 {
     let Some(s) = as_text(left) else {
-        return Ok(Evaluation::Stuck);
+        return Ok(Written::Stuck);
     };
     let Some(t) = as_text(right) else {
-        return Ok(Evaluation::Stuck);
+        return Ok(Written::Stuck);
     };
     let joined = joined(alloc, s.bytes(), t.bytes())?;
     Ok(joined)
