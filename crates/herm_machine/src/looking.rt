@@ -10,8 +10,6 @@ ghost use Rattle.herm_code.specs.View.{choice_view, instr_view};
 ghost use Rattle.herm_code_machine.specs.CodeActions.{ports_of_choices};
 ghost use Rattle.herm_code_machine.specs.CodeSeen.{code_port_type, ports_of};
 ghost use Rattle.herm_code_machine.specs.CodeStates.{CodeState};
-ghost use Rattle.herm_code_machine.specs.CodeSteps.{an_action, code_next};
-ghost use Rattle.herm_code_machine.specs.Pieces as pieces;
 ghost use Rattle.herm_frames.specs.Scopes.{number_of};
 ghost use Rattle.herm_frames.specs.Standing.{Stands};
 ghost use Rattle.herm_pieces.specs.View.{position_view, ready_view};
@@ -124,15 +122,5 @@ pub fn port_type(code: &Code, position: Position, frame: &Frame, port: PortNo) -
     match path_of_port(frame, met.instruction, port) {
         Some(path) => type_at(code.types, code.code.vars.as_slice(), path),
         None => None,
-    }
-}
-
-/// Whether the piece at which a process is begins with a step, where its action is next.
-pub fn has_step_at(process: &Running, code: &Code) -> bool
-    ensures step { (s : CodeState ⊤) (p : pieces.Piece) (m : pieces.Met) → s.position ≡ process.now.position → code_next (ready_view code.now) s ≡ an_action p m → result ≡ p.has_step }
-{
-    match code.piece_at(process.position) {
-        Some(piece) => piece.has_step,
-        None => false,
     }
 }

@@ -26,7 +26,7 @@ ghost use Rattle.herm_machine.specs.Gots.{Fits, IsOrdered, IsSuiting, IsWholeGot
 ghost use Rattle.herm_machine.specs.Machines.{HasOut, IsAnswerWanted, IsAt, IsInside, IsPutWanted, IsTakeWanted, Reaches, StandsFor, code_of, counted_out, end_of, nameless};
 
 use crate::counting::{counted, counted_cells};
-use crate::looking::{first_port, has_step_at};
+use crate::looking::first_port;
 use crate::order::Got;
 use crate::settling::settle;
 use crate::suiting::{is_awaited, is_heard};
@@ -149,31 +149,24 @@ impl<'i> Machine<'i> {
         self.coming.end
     }
 
-    /// What comes next, where no order is out: how it has ended, if it has; whether a step begins it; and what it wants of a place.
+    /// What comes next, where no order is out: how it has ended, if it has; whether a step begins it; and what it wants of a place. Nothing
+    /// comes next of a dead process.
+    #[inline(always)]
     pub fn coming(&self) -> Coming
         ensures end { (image : images.Image) (main : ℕ) (s : CodeState ⊤) → StandsFor image main self.now s → option_map end_view result.end ≡ end_of (code_of self.now) s }
         ensures step { (image : images.Image) (main : ℕ) (s : CodeState ⊤) → StandsFor image main self.now s → result.has_step ≡ begins_with_step (coming (code_next (code_of self.now) s)) }
         ensures wanted { (image : images.Image) (main : ℕ) (s : CodeState ⊤) → StandsFor image main self.now s → option_map want_view result.want ≡ option_and_then told ((nameless image main).wanted s) }
         ensures there { (image : images.Image) (main : ℕ) (s : CodeState ⊤) (w : CellWant ⊤) → StandsFor image main self.now s → (nameless image main).wanted s ≡ Some w → is_some result.want ≡ true }
+        ensures dead { self.now.is_dead ≡ true → (result.end ≡ None) × ((result.has_step ≡ false) × (result.want ≡ None)) }
     {
+        if self.is_dead {
+            return Coming {
+                end: None,
+                has_step: false,
+                want: None,
+            };
+        }
         self.coming
-    }
-
-    /// Whether what comes next begins with a step, also while its order is out. A dead process has no next.
-    pub fn has_step(&self) -> bool
-        ensures step { (image : images.Image) (main : ℕ) (s : CodeState ⊤) → StandsFor image main self.now s → result ≡ begins_with_step (coming (code_next (code_of self.now) s)) }
-        ensures out { (image : images.Image) (main : ℕ) (s : CodeState ⊤) → HasOut image main self.now s → result ≡ begins_with_step (coming (code_next (code_of self.now) s)) }
-    {
-        if self.gave_away() {
-            return has_step_at(&self.running, &self.code);
-        }
-        match self.running.next(&self.code) {
-            Next::Item => false,
-            Next::Reply(_) => false,
-            Next::Action(piece, _) => piece.has_step,
-            Next::Local(piece) => piece.has_step,
-            Next::Nothing => false,
-        }
     }
 
     /// Makes its local step, which is next.

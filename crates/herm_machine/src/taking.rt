@@ -1,5 +1,5 @@
 //! The message or the reply that a process gives away.
-ghost use Rattle.std.specs.Prelude.{◌≡◌, ◌<◌, Some, false, IfNone, IfOk, IfSome, ⊤};
+ghost use Rattle.std.specs.Prelude.{◌≡◌, ◌<◌, ◌||◌, nat_eq, Some, false, IfNone, IfOk, IfSome, ⊤};
 ghost use Rattle.herm_journal.specs.Messages.{CellReply, CellWant};
 ghost use Rattle.herm_journal.specs.Renaming.{forget_name};
 ghost use Rattle.herm_model.specs.Values as model;
@@ -26,6 +26,7 @@ use std::alloc::{AllocError, Global};
 pub fn is_full(process: &Running) -> bool
     ensures steps { result ≡ false → process.now.frame.steps < u64.MAX }
     ensures actions { result ≡ false → process.now.frame.actions < u64.MAX }
+    ensures exactly { result ≡ (nat_eq process.now.frame.steps u64.MAX || nat_eq process.now.frame.actions u64.MAX) }
 {
     process.frame.steps() == u64::MAX || process.frame.actions() == u64::MAX
 }

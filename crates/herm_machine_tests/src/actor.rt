@@ -61,7 +61,7 @@ impl<'i> Actor<'i> {
     }
 
     pub fn has_step(&self) -> bool {
-        self.machine.has_step()
+        self.machine.coming().has_step
     }
 
     pub fn steps(&self) -> u64 {

@@ -1,5 +1,6 @@
 //! Where the outcomes of instructions lead.
-ghost use Rattle.std.specs.Prelude.{◌≡◌, ◌<◌, length, suc};
+ghost use Rattle.std.specs.Prelude.{◌≡◌, ◌<◌, Some, length, suc};
+ghost use Rattle.herm_model.specs.Outcomes.{ok};
 ghost use Rattle.herm_code.specs.View.{instr_view};
 ghost use Rattle.herm_code_machine.specs.CodeStates as states;
 ghost use Rattle.herm_pieces.specs.View.{outcome_view, ready_view};
@@ -28,7 +29,7 @@ impl<'i> Code<'i> {
         ensures leads { result ≡ states.leads (ready_view self.now) index (instr_view instruction.now) (outcome_view outcome) }
     {
         match outcome {
-            Outcome::Ok => Some(jumped(instruction, self.behind(index))),
+            Outcome::Ok => Some(self.goes_to(index, instruction)),
             Outcome::True => Some(self.behind(index)),
             Outcome::False => index_of_false(instruction),
             Outcome::Turn => Some(self.behind(index)),
@@ -37,6 +38,14 @@ impl<'i> Code<'i> {
             Outcome::Arm(n) => index_of_arm(instruction, n),
             Outcome::Raised(e) => self.landing_of(index, e),
         }
+    }
+
+    /// The index at which the instruction at an index goes on without an exception: the one that it jumps to, or the one behind.
+    pub fn goes_to(&self, index: usize, instruction: &Instr) -> usize
+        requires within { index < length self.now.code.now.code.items }
+        ensures goes { Some result ≡ states.leads (ready_view self.now) index (instr_view instruction.now) ok }
+    {
+        jumped(instruction, self.behind(index))
     }
 
     /// The index behind one.

@@ -34,6 +34,7 @@ pub enum Next {
 const MOST_ACTIONS: u32 = 16384;
 
 /// What comes next under this limit of steps, where no order is out.
+#[inline(always)]
 pub fn next_of(machine: &Machine, limit: u32) -> Next
     ensures next { (image : Image) (main : ℕ) (s : CodeState ⊤) → StandsFor image main machine.now s → IsNext (nameless image main) limit s result }
 {

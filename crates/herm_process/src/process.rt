@@ -150,6 +150,7 @@ impl<'i> Process<'i> {
     }
 
     /// What comes next, also while its order is out: then the action of the order. A dead process has a local step next.
+    #[inline(always)]
     pub fn next(&self) -> Next
         ensures next { (image : images.Image) (main : ℕ) (x : CodeState ⊤) → IsProcess image main self.now x → IsNext (nameless image main) self.now.limit x result }
         ensures dead { self.now.is_dead ≡ true → result ≡ nexts.Local }

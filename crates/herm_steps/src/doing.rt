@@ -64,7 +64,10 @@ impl Running {
         ensures behind { (s : CodeState ⊤) (e : Effect ⊤) → Performs outcome self.old e → IsBehind result self.new s (behind_effect (ready_view code.now) s index (instr_view instruction.now) e) }
     {
         match outcome_of(outcome) {
-            Some(Led::Ok) => self.pass_on(code, index, instruction),
+            Some(Led::Ok) => {
+                self.pass_on(code, index, instruction);
+                true
+            }
             Some(led) => self.lead_on(code, index, instruction, led),
             None => false,
         }

@@ -1,5 +1,5 @@
 //! Where a process is behind an instruction.
-ghost use Rattle.std.specs.Prelude.{◌≡◌, ◌<◌, length, option_map, ⊤};
+ghost use Rattle.std.specs.Prelude.{◌≡◌, ◌<◌, length, option_map, true, ⊤};
 ghost use Rattle.herm_forms.specs.Frames as frames;
 ghost use Rattle.herm_forms.specs.Frames.{goes};
 ghost use Rattle.herm_model.specs.Outcomes.{ok};
@@ -37,16 +37,13 @@ impl Running {
         true
     }
 
-    /// Goes on behind the instruction at an index, or where it jumps. False where that is nowhere.
-    pub fn pass_on(&mut self, code: &Code, index: usize, instruction: &Instr) -> bool
+    /// Goes on behind the instruction at an index, or where it jumps.
+    #[inline(always)]
+    pub fn pass_on(&mut self, code: &Code, index: usize, instruction: &Instr)
         requires within { index < length code.now.code.now.code.items }
-        ensures behind { (s : CodeState ⊤) (b : frames.Frame ⊤) → Stands self.old.frame b → IsBehind result self.new s (state_behind (ready_view code.now) s index (instr_view instruction.now) (on_stack self.old.stack) (goes ok b)) }
+        ensures behind { (s : CodeState ⊤) (b : frames.Frame ⊤) → Stands self.old.frame b → IsBehind true self.new s (state_behind (ready_view code.now) s index (instr_view instruction.now) (on_stack self.old.stack) (goes ok b)) }
     {
-        let Some(target) = code.leads(index, instruction, Outcome::Ok) else {
-            return false;
-        };
-        self.position = Position::At(target);
-        true
+        self.position = Position::At(code.goes_to(index, instruction));
     }
 
     /// An exception leads on with an empty stack.

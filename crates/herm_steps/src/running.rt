@@ -3,7 +3,7 @@ ghost use Rattle.std.specs.Prelude.{◌≡◌, Some, None, option_map, ⊤};
 ghost use Rattle.herm_code_machine.specs.CodeSteps.{code_next};
 ghost use Rattle.herm_code_machine.specs.CodeStates.{CodeState};
 ghost use Rattle.herm_pieces.specs.View.{position_view, ready_view};
-ghost use Rattle.herm_steps.specs.Coming.{coming, end_at, ended_at, end_view, next_view};
+ghost use Rattle.herm_steps.specs.Coming.{coming, end_at, end_view, next_view};
 ghost use Rattle.herm_steps.specs.StandingAt.{StandsAt};
 
 use crate::next::{Next, piece_at, reply_at};
@@ -55,6 +55,7 @@ impl Running {
     }
 
     /// What comes next.
+    #[inline(always)]
     pub fn next<'i>(&self, code: &Code<'i>) -> Next<'i>
         ensures next { (s : CodeState ⊤) → StandsAt self.now s → next_view result ≡ coming (code_next (ready_view code.now) s) }
     {
@@ -64,16 +65,6 @@ impl Running {
         match self.frame.call() {
             Some(_) => reply_at(code, self.position),
             None => piece_at(code, self.position),
-        }
-    }
-
-    /// How it ended, if it has: where nothing comes next, at an end.
-    pub fn ended(&self, code: &Code) -> Option<End>
-        ensures ended { (s : CodeState ⊤) → StandsAt self.now s → option_map end_view result ≡ ended_at (coming (code_next (ready_view code.now) s)) s.position }
-    {
-        match self.next(code) {
-            Next::Nothing => self.end(),
-            _ => None,
         }
     }
 

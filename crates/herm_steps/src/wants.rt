@@ -1,5 +1,5 @@
 //! What a process wants of a place.
-ghost use Rattle.std.specs.Prelude.{◌≡◌, ℕ, List, Some, None, map, option_map, slice_get, true, ⊤};
+ghost use Rattle.std.specs.Prelude.{◌≡◌, ℕ, List, Some, map, option_map, slice_get, ⊤};
 ghost use Rattle.herm_journal.specs.Actions.{to_take};
 ghost use Rattle.herm_journal.specs.Messages.{CellWant};
 ghost use Rattle.herm_forms.specs.ClosesAndAnswers.{work_wants};
@@ -10,33 +10,17 @@ ghost use Rattle.herm_code_machine.specs.CodeStates.{CodeState};
 ghost use Rattle.herm_model.specs.Values as model;
 ghost use Rattle.herm_pieces.specs.View.{ready_view};
 ghost use Rattle.herm_exchanges.specs.Told.{told, want_view};
-ghost use Rattle.herm_steps.specs.Coming.{coming, wants_nothing};
+ghost use Rattle.herm_steps.specs.Coming.{coming};
 ghost use Rattle.herm_steps.specs.StandingAt.{StandsAt};
-ghost use Rattle.herm_steps.specs.ToldNext.{looked_next, told_front, told_next};
+ghost use Rattle.herm_steps.specs.ToldNext.{looked_next, told_front};
 
 use crate::next::Next;
 use crate::running::Running;
 use herm_base::PortNo;
-use herm_exchanges::{Want, port_at, want_of, work_want};
+use herm_exchanges::{Want, port_at, work_want};
 use herm_pieces::Code;
 
 impl Running {
-    /// What it wants of a place: what the machine of code wants, without what is carried. None while a local step or nothing
-    /// comes next, and at an action without its port or callmessage.
-    pub fn wants(&self, code: &Code) -> Option<Want>
-        ensures want { (s : CodeState ⊤) (w : CellWant ⊤) → StandsAt self.now s → code_wanted forget_name (ready_view code.now) s ≡ Some w → option_map want_view result ≡ told w }
-        ensures nothing { (s : CodeState ⊤) → StandsAt self.now s → wants_nothing (coming (code_next (ready_view code.now) s)) ≡ true → result ≡ None }
-        ensures exactly { (s : CodeState ⊤) → StandsAt self.now s → option_map want_view result ≡ told_next (coming (code_next (ready_view code.now) s)) s.frame }
-    {
-        match self.next(code) {
-            Next::Item => self.work_wanted(),
-            Next::Reply(_) => Some(Want::Hear),
-            Next::Action(_, met) => want_of(&self.frame, met.instruction),
-            Next::Local(_) => None,
-            Next::Nothing => None,
-        }
-    }
-
     /// The port at a place among those that it looks at, where it wants to take a message. None where it looks at none there.
     pub fn look(&self, code: &Code, place: usize) -> Option<PortNo>
         ensures port { (s : CodeState ⊤) (ports : List ℕ) → StandsAt self.now s → code_wanted forget_name (ready_view code.now) s ≡ Some (to_take ports) → option_map (λ p. p.number) result ≡ slice_get ports place }

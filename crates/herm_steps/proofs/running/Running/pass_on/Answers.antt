@@ -11,6 +11,6 @@ use Rattle.herm_steps.proofs.running.Running.pass_on.Goals as goal
 pub returns : goal.returns
 returns c = record {
   behind = λ s b h.
-      leads_on (ready_view c.args.code.now) s c.args.index c.in-Some.target (instr_view c.args.instruction.now) (on_stack c.args.self.now.stack) ok b (record { position = at_index c.in-Some.target; stack = c.self.inside.stack; frame = c.self.inside.frame })
-      c.in-Some.ensures.leads refl (ap (λ p. on_stack p.stack) c.self.view_is) (subst (λ p. Stands p.frame b) (sym c.self.view_is) h);
+      leads_on (ready_view c.args.code.now) s c.args.index c.goes_to.result (instr_view c.args.instruction.now) (on_stack c.args.self.now.stack) ok b (record { position = at_index c.goes_to.result; stack = c.self.inside.stack; frame = c.self.inside.frame })
+      c.goes_to.ensures.goes refl (ap (λ p. on_stack p.stack) c.self.view_is) (subst (λ p. Stands p.frame b) (sym c.self.view_is) h);
 }
