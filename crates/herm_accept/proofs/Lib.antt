@@ -3,3 +3,5 @@ pub mod Searching
 pub mod Readiness
 pub mod Arms
 pub mod Begins
+pub mod OnwardPaths
+pub mod OnwardReady

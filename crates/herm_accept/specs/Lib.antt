@@ -2,3 +2,4 @@
 pub mod Accepted
 pub mod Lacking
 pub mod Judged
+pub mod Onward

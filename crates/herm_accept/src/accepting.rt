@@ -128,7 +128,7 @@ fn add_accepted(
 }
 
 /// The flow of a process, ready for the check.
-pub fn flow(alloc: Global, types: &TypeTable, p: &TypedProcess) -> Result<Flow, AllocError>
+fn flow(alloc: Global, types: &TypeTable, p: &TypedProcess) -> Result<Flow, AllocError>
     requires { IsKnown types.now p.now }
     ensures { IfOk result (λ f. IsReady types.now.shapes (typed_process_view p.now) f) }
 {

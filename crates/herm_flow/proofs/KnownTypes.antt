@@ -3,7 +3,7 @@ use Rattle.std.proofs.Common.{◌≡◌, ℕ, List, [], ◌∷◌, ◌++◌, map
 use Rattle.herm_model.specs.Types.{TypeTable}
 use Rattle.herm_model.specs.Targets.{end}
 use Rattle.herm_model.specs.Nodes.{nodes_in}
-use Rattle.herm_model.specs.ControlPaths.{point, flow_of}
+use Rattle.herm_model.specs.ControlPaths.{flow_of}
 use Rattle.herm_typed.specs.declared.statements.TypedStmt.{TypedStmt}
 use Rattle.herm_typed.specs.declared.statements.TypedProcess.{TypedProcess}
 use Rattle.herm_typed.specs.declared.statements.TypedForm.{TypedForm}
@@ -14,7 +14,10 @@ use Rattle.herm_typed.specs.Beside.{HasTypes, KnowsTypes}
 use Rattle.herm_typed.specs.Outcomes.{KnowsOutcomes}
 use Rattle.herm_flow.specs.declared.flow.Point.{Point}
 use Rattle.herm_flow.specs.View.{point_view}
+use Rattle.herm_flow.specs.declared.kept.Kept.{Kept}
 use Rattle.herm_flow.specs.KnownOutcomes.{AllKnow}
+use Rattle.herm_flow.specs.Kept.{kept, point_kept}
+use Rattle.herm_flow.proofs.KeptEdges.{points_kept}
 
 abbrev first_type : List (Option ℕ) → Option ℕ
 first_type [] = None
@@ -32,8 +35,9 @@ all_known table variables list p e f k =
     (λ t h. outcomes_known table (map (λ v. v.of.0) p.vars.items) t.form (k t h)))
 
 -- the points of a process are those of its body
-pub points_seen : (table : TypeTable) (variables : List ℕ) (list : List TypedStmt) (p : TypedProcess) (old new : List Point) → variables ≡ map (λ v. v.of.0) p.vars.items → list ≡ p.body.items → old ≡ []
-    → map point_view new ≡ map point_view old ++ map (point table variables) (nodes_in (typed_stmts_view list) 1 0 (record { behind = end; catches = []; exit = end })) → map point_view new ≡ (flow_of table (typed_process_view p)).points
-points_seen table variables list p old new e f g h =
-    h ∙ (ap (λ (ps : List Point). map point_view ps ++ map (point table variables) (nodes_in (typed_stmts_view list) 1 0 (record { behind = end; catches = []; exit = end }))) g
-    ∙ ap₂ (λ ns ts. map (point table ns) (nodes_in (typed_stmts_view ts) 1 0 (record { behind = end; catches = []; exit = end }))) e f)
+pub points_seen : (k : Kept) (table : TypeTable) (variables : List ℕ) (list : List TypedStmt) (p : TypedProcess) (old new : List Point) → variables ≡ map (λ v. v.of.0) p.vars.items → list ≡ p.body.items → old ≡ []
+    → map point_view new ≡ map point_view old ++ map (point_kept k table variables) (nodes_in (typed_stmts_view list) 1 0 (record { behind = end; catches = []; exit = end })) → map point_view new ≡ map (kept k) (flow_of table (typed_process_view p)).points
+points_seen k table variables list p old new e f g h =
+    h ∙ (ap (λ (ps : List Point). map point_view ps ++ map (point_kept k table variables) (nodes_in (typed_stmts_view list) 1 0 (record { behind = end; catches = []; exit = end }))) g
+    ∙ (ap₂ (λ ns ts. map (point_kept k table ns) (nodes_in (typed_stmts_view ts) 1 0 (record { behind = end; catches = []; exit = end }))) e f
+    ∙ points_kept k table (map (λ v. v.of.0) p.vars.items) (nodes_in (typed_stmts_view p.body.items) 1 0 (record { behind = end; catches = []; exit = end }))))

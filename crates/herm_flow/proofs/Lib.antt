@@ -8,3 +8,6 @@ pub mod PointsSeen
 pub mod WalkedParts
 pub mod Ready
 pub mod KnownTypes
+pub mod Rising
+pub mod Marks
+pub mod KeptEdges

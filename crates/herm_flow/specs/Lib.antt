@@ -5,4 +5,6 @@ pub mod Starts
 pub mod Edges
 pub mod Around
 pub mod KnownOutcomes
+pub mod Onward
+pub mod Kept
 pub mod Ready

@@ -1,13 +1,15 @@
 //! The flow of a process: its statements as points, and where each outcome leads.
 #![tactic(auto)]
 
+mod calls;
 mod counts;
 mod edges;
 mod flow;
+mod kept;
 mod parts;
 mod process;
 mod starts;
 mod walk;
 
 pub use flow::{Edge, Flow, Point, Target};
-pub use process::flow_of;
+pub use process::{flow_of, onward_flow_of};

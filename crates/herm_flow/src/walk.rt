@@ -1,7 +1,6 @@
 //! The points of a process, in one walk over its text.
 ghost use Rattle.std.specs.Prelude.{◌≡◌, ◌+◌, ◌∷◌, [], ◌++◌, IfOk, map, flat_map};
 ghost use Rattle.herm_model.specs.Nodes.{nodes, nodes_in, nodes_of_choices, nodes_of_catches, starts, start_of_block};
-ghost use Rattle.herm_model.specs.ControlPaths.{point};
 ghost use Rattle.herm_model.specs.Statements.{trying};
 ghost use Rattle.herm_model.specs.Targets.{node};
 ghost use Rattle.herm_typed.specs.declared.statements.TypedStmt.{out-TypedStmt};
@@ -14,10 +13,12 @@ ghost use Rattle.herm_flow.specs.Parts.{blocks_of};
 ghost use Rattle.herm_flow.specs.Edges.{point_at};
 ghost use Rattle.herm_flow.specs.Around.{around_view, in_loop};
 ghost use Rattle.herm_flow.specs.KnownOutcomes.{AllKnow};
+ghost use Rattle.herm_flow.specs.Kept.{kept as kept_of, point_kept};
 
 use crate::counts::{Count, count_block, count_form, sum};
 use crate::edges::push_point;
 use crate::flow::{Point, Target};
+use crate::kept::Kept;
 use crate::parts::{Parts, parts_of};
 use crate::starts::{Catch, reach_of, start_from, starts_of};
 use herm_base::ExcNo;
@@ -26,12 +27,13 @@ use herm_typed::TypedStmt;
 use std::alloc::{AllocError, Global};
 
 /// What the text around a statement decides: where control goes behind the statement, and behind the nearest loop, and the
-/// handlers within reach, the nearest first.
+/// handlers within reach, the nearest first; and which edges are kept.
 #[derive(Clone, Copy)]
 pub struct Around<'a> {
     pub behind: Target,
     pub exit: Target,
     pub catches: &'a [Catch],
+    pub kept: Kept,
 }
 
 /// The number of a statement, and the place at which its points begin.
@@ -72,7 +74,7 @@ fn walk_blocks(
     points: &mut Vec<Point>,
 ) -> Result<(), AllocError>
     requires known { AllKnow (table_of frame.now) (variables_of frame.now) (flat_map all_statements (map (λ b. b.now) blocks.now)) }
-    ensures points { IfOk result (λ u. map point_view points.new.items ≡ map point_view points.old.items ++ map (point (table_of frame.now) (variables_of frame.now)) (nodes_of_choices (blocks_of (map (λ b. b.now) blocks.now)) first.number first.from (around_view around.now))) }
+    ensures points { IfOk result (λ u. map point_view points.new.items ≡ map point_view points.old.items ++ map (point_kept around.now.kept (table_of frame.now) (variables_of frame.now)) (nodes_of_choices (blocks_of (map (λ b. b.now) blocks.now)) first.number first.from (around_view around.now))) }
 {
     let mut at = first;
     'each: for block in blocks {
@@ -94,7 +96,7 @@ fn walk_handlers(
     points: &mut Vec<Point>,
 ) -> Result<(), AllocError>
     requires known { AllKnow (table_of frame.now) (variables_of frame.now) (flat_map (λ h. all_statements h.1.items) handled.now) }
-    ensures points { IfOk result (λ u. map point_view points.new.items ≡ map point_view points.old.items ++ map (point (table_of frame.now) (variables_of frame.now)) (nodes_of_catches (handlers_list handled.now) first.number first.from (around_view around.now))) }
+    ensures points { IfOk result (λ u. map point_view points.new.items ≡ map point_view points.old.items ++ map (point_kept around.now.kept (table_of frame.now) (variables_of frame.now)) (nodes_of_catches (handlers_list handled.now) first.number first.from (around_view around.now))) }
 {
     let mut at = first;
     'each: for (_, body) in handled {
@@ -117,7 +119,7 @@ fn walk_choosing(
     points: &mut Vec<Point>,
 ) -> Result<(), AllocError>
     requires known { AllKnow (table_of frame.now) (variables_of frame.now) (s.now ∷ flat_map all_statements (map (λ b. b.now) blocks.now)) }
-    ensures points { IfOk result (λ u. map point_view points.new.items ≡ map point_view points.old.items ++ (point_at (table_of frame.now) (variables_of frame.now) (out-TypedStmt s.now).form at.number (starts (blocks_of (map (λ b. b.now) blocks.now)) (at.from + 1) (target_view around.now.behind)) (map catch_view around.now.catches.now) ∷ map (point (table_of frame.now) (variables_of frame.now)) (nodes_of_choices (blocks_of (map (λ b. b.now) blocks.now)) (at.number + 1) (at.from + 1) (around_view around.now)))) }
+    ensures points { IfOk result (λ u. map point_view points.new.items ≡ map point_view points.old.items ++ (kept_of around.now.kept (point_at (table_of frame.now) (variables_of frame.now) (out-TypedStmt s.now).form at.number (starts (blocks_of (map (λ b. b.now) blocks.now)) (at.from + 1) (target_view around.now.behind)) (map catch_view around.now.catches.now)) ∷ map (point_kept around.now.kept (table_of frame.now) (variables_of frame.now)) (nodes_of_choices (blocks_of (map (λ b. b.now) blocks.now)) (at.number + 1) (at.from + 1) (around_view around.now)))) }
 {
     let within = next(at)?;
     let leads = starts_of(alloc, blocks, within.from, around.behind)?;
@@ -128,6 +130,7 @@ fn walk_choosing(
         at.number,
         leads.as_slice(),
         around.catches,
+        around.kept,
         points,
     )?;
     walk_blocks(alloc, frame, blocks, within, around, points)?;
@@ -146,17 +149,27 @@ fn walk_repeating(
     points: &mut Vec<Point>,
 ) -> Result<(), AllocError>
     requires known { AllKnow (table_of frame.now) (variables_of frame.now) (s.now ∷ all_statements body.now) }
-    ensures points { IfOk result (λ u. map point_view points.new.items ≡ map point_view points.old.items ++ (point_at (table_of frame.now) (variables_of frame.now) (out-TypedStmt s.now).form at.number (start_of_block (typed_stmts_view body.now) (at.from + 1) (node at.from) ∷ target_view around.now.behind ∷ []) (map catch_view around.now.catches.now) ∷ map (point (table_of frame.now) (variables_of frame.now)) (nodes_in (typed_stmts_view body.now) (at.number + 1) (at.from + 1) (in_loop at.from (around_view around.now))))) }
+    ensures points { IfOk result (λ u. map point_view points.new.items ≡ map point_view points.old.items ++ (kept_of around.now.kept (point_at (table_of frame.now) (variables_of frame.now) (out-TypedStmt s.now).form at.number (start_of_block (typed_stmts_view body.now) (at.from + 1) (node at.from) ∷ target_view around.now.behind ∷ []) (map catch_view around.now.catches.now)) ∷ map (point_kept around.now.kept (table_of frame.now) (variables_of frame.now)) (nodes_in (typed_stmts_view body.now) (at.number + 1) (at.from + 1) (in_loop at.from (around_view around.now))))) }
 {
     let within = next(at)?;
     let back = Target::Point(at.from);
     let first = start_from(alloc, body, 0, within.from, back)?;
     let leads = [first, around.behind];
-    push_point(alloc, frame, s, at.number, &leads, around.catches, points)?;
+    push_point(
+        alloc,
+        frame,
+        s,
+        at.number,
+        &leads,
+        around.catches,
+        around.kept,
+        points,
+    )?;
     let inner = Around {
         behind: back,
         exit: around.behind,
         catches: around.catches,
+        kept: around.kept,
     };
     walk_block(alloc, frame, body, within, &inner, points)?;
     Ok(())
@@ -174,7 +187,7 @@ fn walk_trying(
     points: &mut Vec<Point>,
 ) -> Result<(), AllocError>
     requires known { AllKnow (table_of frame.now) (variables_of frame.now) (all_statements body.now ++ flat_map (λ h. all_statements h.1.items) handled.now) }
-    ensures points { IfOk result (λ u. map point_view points.new.items ≡ map point_view points.old.items ++ map (point (table_of frame.now) (variables_of frame.now)) (nodes (trying (typed_stmts_view body.now) (handlers_list handled.now)) at.number at.from (around_view around.now))) }
+    ensures points { IfOk result (λ u. map point_view points.new.items ≡ map point_view points.old.items ++ map (point_kept around.now.kept (table_of frame.now) (variables_of frame.now)) (nodes (trying (typed_stmts_view body.now) (handlers_list handled.now)) at.number at.from (around_view around.now))) }
 {
     let number = sum(at.number, 1)?;
     let first = Place {
@@ -188,6 +201,7 @@ fn walk_trying(
         behind: around.behind,
         exit: around.exit,
         catches: catches.as_slice(),
+        kept: around.kept,
     };
     walk_block(alloc, frame, body, first, &inner, points)?;
     walk_handlers(alloc, frame, handled, second, around, points)?;
@@ -205,13 +219,22 @@ fn walk_form(
     points: &mut Vec<Point>,
 ) -> Result<(), AllocError>
     requires known { AllKnow (table_of frame.now) (variables_of frame.now) (s.now ∷ statements_within (out-TypedStmt s.now).form) }
-    ensures points { IfOk result (λ u. map point_view points.new.items ≡ map point_view points.old.items ++ map (point (table_of frame.now) (variables_of frame.now)) (nodes (typed_form_view (out-TypedStmt s.now).form) at.number at.from (around_view around.now))) }
+    ensures points { IfOk result (λ u. map point_view points.new.items ≡ map point_view points.old.items ++ map (point_kept around.now.kept (table_of frame.now) (variables_of frame.now)) (nodes (typed_form_view (out-TypedStmt s.now).form) at.number at.from (around_view around.now))) }
 {
     let parts = parts_of(alloc, &s.form)?;
     match parts {
         Parts::Simple => {
             let leads = [around.behind];
-            push_point(alloc, frame, s, at.number, &leads, around.catches, points)?;
+            push_point(
+                alloc,
+                frame,
+                s,
+                at.number,
+                &leads,
+                around.catches,
+                around.kept,
+                points,
+            )?;
             Ok(())
         }
         Parts::Choosing(blocks) => {
@@ -224,7 +247,16 @@ fn walk_form(
         }
         Parts::Leaving => {
             let leads = [around.exit];
-            push_point(alloc, frame, s, at.number, &leads, around.catches, points)?;
+            push_point(
+                alloc,
+                frame,
+                s,
+                at.number,
+                &leads,
+                around.catches,
+                around.kept,
+                points,
+            )?;
             Ok(())
         }
         Parts::Trying(body, handled) => {
@@ -245,7 +277,7 @@ pub fn walk_block(
     points: &mut Vec<Point>,
 ) -> Result<(), AllocError>
     requires known { AllKnow (table_of frame.now) (variables_of frame.now) (all_statements list.now) }
-    ensures points { IfOk result (λ u. map point_view points.new.items ≡ map point_view points.old.items ++ map (point (table_of frame.now) (variables_of frame.now)) (nodes_in (typed_stmts_view list.now) first.number first.from (around_view around.now))) }
+    ensures points { IfOk result (λ u. map point_view points.new.items ≡ map point_view points.old.items ++ map (point_kept around.now.kept (table_of frame.now) (variables_of frame.now)) (nodes_in (typed_stmts_view list.now) first.number first.from (around_view around.now))) }
 {
     let mut at = first;
     'statements: for i in 0..list.len() {
@@ -257,6 +289,7 @@ pub fn walk_block(
             behind: to,
             exit: around.exit,
             catches: around.catches,
+            kept: around.kept,
         };
         walk_form(alloc, frame, s, at, &inner, points)?;
         at = then;

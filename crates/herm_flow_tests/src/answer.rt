@@ -4,7 +4,7 @@ ghost use Rattle.herm_typed.specs.Beside.{KnowTypes};
 use crate::examples::{BEFORE, BEHIND, DEFINITIONS};
 use crate::text::line_of;
 use herm_defs::{DefsFault, define};
-use herm_flow::flow_of;
+use herm_flow::{flow_of, onward_flow_of};
 use herm_lexer::{LexFault, lex};
 use herm_parser::{ParseFault, parse};
 use herm_resolve::{ResolveFault, resolve};
@@ -27,11 +27,19 @@ fn modules_of(alloc: Global, source: &str) -> Result<Vec<Module>, AllocError> {
     }
 }
 
+/// Which flow is asked for: the whole, or the one without edges to ends.
+#[derive(Clone, Copy)]
+pub enum Asked {
+    Whole,
+    Onward,
+}
+
 /// The flow of the first process, as a line.
 fn first_line(
     alloc: Global,
     types: &TypeTable,
     processes: &[TypedProcess],
+    asked: Asked,
 ) -> Result<String, AllocError>
     requires known { KnowTypes types.now.shapes processes.now }
 {
@@ -39,13 +47,16 @@ fn first_line(
         return String::from_str(alloc, "no process");
     }
     let p = &processes[0];
-    let flow = flow_of(alloc, types, p)?;
+    let flow = match asked {
+        Asked::Whole => flow_of(alloc, types, p)?,
+        Asked::Onward => onward_flow_of(alloc, types, p)?,
+    };
     let line = line_of(alloc, &flow)?;
     Ok(line)
 }
 
 /// The flow of the first process of modules, as a line.
-fn answer(alloc: Global, modules: &[Module]) -> Result<String, AllocError> {
+fn answer(alloc: Global, modules: &[Module], asked: Asked) -> Result<String, AllocError> {
     let types = match define(alloc, modules) {
         Ok(types) => types,
         Err(DefsFault::Memory) => return Err(AllocError),
@@ -53,7 +64,7 @@ fn answer(alloc: Global, modules: &[Module]) -> Result<String, AllocError> {
     };
     match resolve(alloc, modules, &types) {
         Ok(program) => {
-            let line = first_line(alloc, &types, program.processes.as_slice())?;
+            let line = first_line(alloc, &types, program.processes.as_slice(), asked)?;
             Ok(line)
         }
         Err(ResolveFault::Refused(_)) => String::from_str(alloc, "no program"),
@@ -62,13 +73,13 @@ fn answer(alloc: Global, modules: &[Module]) -> Result<String, AllocError> {
 }
 
 /// The flow of a process with these statements, as a line.
-pub fn line_for(alloc: Global, statements: &str) -> Result<String, AllocError> {
+pub fn line_for(alloc: Global, statements: &str, asked: Asked) -> Result<String, AllocError> {
     let mut text = String::new(alloc);
     text.push_str(DEFINITIONS)?;
     text.push_str(BEFORE)?;
     text.push_str(statements)?;
     text.push_str(BEHIND)?;
     let modules = modules_of(alloc, text.as_str())?;
-    let line = answer(alloc, modules.as_slice())?;
+    let line = answer(alloc, modules.as_slice(), asked)?;
     Ok(line)
 }

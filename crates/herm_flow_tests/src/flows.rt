@@ -1,5 +1,5 @@
 //! Flows by hand, from the rules of the language reference ("Control", "Exceptions", "The statement table").
-use crate::answer::line_for;
+use crate::answer::{Asked, line_for};
 use std::test::Fail;
 
 /// Blocks and loops: statements, and their flow.
@@ -76,10 +76,27 @@ const EXCEPTIONS: [(&str, &str); 10] = [
     ),
 ];
 
+/// Without edges to ends: statements, and their flow.
+const ONWARD: [(&str, &str); 4] = [
+    ("i := i + 1;", "1/1"),
+    (
+        "try { call ao(s, t, i); } on e { i := 1; } j := 1;",
+        "2/3 o>2 :7>1; 3/0 o>2; 4/0",
+    ),
+    (
+        "try { call ao(s, t, i); } on e { i := 1; } on Disconnected { i := 2; } j := 1;",
+        "2/3 o>3 :6>2 :7>1; 3/0 o>3; 4/0 o>3; 5/0",
+    ),
+    (
+        "while b { try { try { call ao(s, t, i); } on e { i := 1; } } on e { i := 2; } on Disconnected { } }",
+        "1/1 t>1; 4/3 o>0 :6>0 :7>2; 5/0 o>0; 6/0 o>0",
+    ),
+];
+
 #[test]
 fn control_goes_through_blocks_and_loops(rt: HostRuntime) -> Result<(), Fail> {
     for (statements, flow) in BLOCKS {
-        let found = line_for(rt.alloc(), statements)?;
+        let found = line_for(rt.alloc(), statements, Asked::Whole)?;
         assert_eq!(rt; found.as_str(), flow, "{statements}");
     }
     Ok(())
@@ -88,7 +105,16 @@ fn control_goes_through_blocks_and_loops(rt: HostRuntime) -> Result<(), Fail> {
 #[test]
 fn exceptions_lead_to_the_nearest_handlers(rt: HostRuntime) -> Result<(), Fail> {
     for (statements, flow) in EXCEPTIONS {
-        let found = line_for(rt.alloc(), statements)?;
+        let found = line_for(rt.alloc(), statements, Asked::Whole)?;
+        assert_eq!(rt; found.as_str(), flow, "{statements}");
+    }
+    Ok(())
+}
+
+#[test]
+fn edges_to_ends_are_left_out(rt: HostRuntime) -> Result<(), Fail> {
+    for (statements, flow) in ONWARD {
+        let found = line_for(rt.alloc(), statements, Asked::Onward)?;
         assert_eq!(rt; found.as_str(), flow, "{statements}");
     }
     Ok(())

@@ -1,14 +1,15 @@
-use Rattle.std.proofs.Common.{map, ap, ◌∙◌}
+use Rattle.std.proofs.Common.{◌∙◌}
+use Rattle.herm_model.specs.ControlPaths.{flow_of}
 use Rattle.herm_typed.specs.View.{typed_process_view}
-use Rattle.herm_flow.proofs.KnownTypes.{all_known, points_seen}
+use Rattle.herm_flow.proofs.KeptEdges.{all_kept}
 use Rattle.herm_flow.proofs.Ready.{flow_is, flow_ready}
 use Rattle.herm_flow.proofs.process.flow_of.Goals as goal
 
-pub walk_block-requires : goal.walk_block-requires
-walk_block-requires c = record { known = all_known c.args.types.now.shapes (map (λ t. t.0) c.as_slice-2.result.now) c.as_slice-3.result.now c.args.p.now (ap (map (λ t. t.0)) c.as_slice-2.ensures.value ∙ (c.in_ok-of.ensures.types ∙ ap (map (λ x. x.of.0)) c.as_slice.ensures.value)) c.as_slice-3.ensures.value c.requires.known }
+pub returns-clause-points : goal.returns-clause-points
+returns-clause-points c = c.in_ok-points.ensures.points ∙ all_kept (flow_of c.args.types.now.shapes (typed_process_view c.args.p.now)).points
 
 pub returns-clause-flow : goal.returns-clause-flow
-returns-clause-flow c = flow_is c.args.types.now.shapes (typed_process_view c.args.p.now) (record { points = c.walk_block.new.points }) (points_seen c.args.types.now.shapes (map (λ t. t.0) c.as_slice-2.result.now) c.as_slice-3.result.now c.args.p.now c.new-points.result.items c.walk_block.new.points.items (ap (map (λ t. t.0)) c.as_slice-2.ensures.value ∙ (c.in_ok-of.ensures.types ∙ ap (map (λ x. x.of.0)) c.as_slice.ensures.value)) c.as_slice-3.ensures.value c.new-points.ensures.items c.in_ok-walk_block.ensures.points)
+returns-clause-flow c = flow_is c.args.types.now.shapes (typed_process_view c.args.p.now) (record { points = c.in_ok-points.points }) (c.in_ok-points.ensures.points ∙ all_kept (flow_of c.args.types.now.shapes (typed_process_view c.args.p.now)).points)
 
 pub returns-clause-ready : goal.returns-clause-ready
-returns-clause-ready c = flow_ready c.args.types.now.shapes (typed_process_view c.args.p.now) (record { points = c.walk_block.new.points }) (points_seen c.args.types.now.shapes (map (λ t. t.0) c.as_slice-2.result.now) c.as_slice-3.result.now c.args.p.now c.new-points.result.items c.walk_block.new.points.items (ap (map (λ t. t.0)) c.as_slice-2.ensures.value ∙ (c.in_ok-of.ensures.types ∙ ap (map (λ x. x.of.0)) c.as_slice.ensures.value)) c.as_slice-3.ensures.value c.new-points.ensures.items c.in_ok-walk_block.ensures.points)
+returns-clause-ready c = flow_ready c.args.types.now.shapes (typed_process_view c.args.p.now) (record { points = c.in_ok-points.points }) (c.in_ok-points.ensures.points ∙ all_kept (flow_of c.args.types.now.shapes (typed_process_view c.args.p.now)).points)

@@ -61,7 +61,7 @@ walk_form-walk_trying-requires t c =
     (omega (arith, size, c.decreases), rest_known (table_of c.args.frame.now) (variables_of c.args.frame.now) c.args.s.now _ (same_known (table_of c.args.frame.now) (variables_of c.args.frame.now) c.args.s.now _ _ (trying_within c.args.s.now.form c.in_ok-parts.parts c.in_ok-parts.ensures.within c.in-Trying.body c.in-Trying.handled c.in-Trying.is) c.requires.known))
 
 pub walk_form-returns-in_ok-push_point-in-Simple : goal.walk_form-returns-in_ok-push_point-in-Simple
-walk_form-returns-in_ok-push_point-in-Simple t c = record { points = c.in_ok-push_point-in-Simple.ensures.points ∙ ap (λ ps. map point_view c.args.points.now.items ++ ps) (simple_walked c.args.s.now.form (own_form c.args.s.now.form) c.in_ok-parts.parts c.in_ok-parts.ensures.seen (table_of c.args.frame.now) (variables_of c.args.frame.now) c.args.at.number c.args.at.from (around_view c.args.around.now) c.in_ok-parts.ensures.simple c.in-Simple.is) }
+walk_form-returns-in_ok-push_point-in-Simple t c = record { points = c.in_ok-push_point-in-Simple.ensures.points ∙ ap (λ ps. map point_view c.args.points.now.items ++ ps) (simple_walked c.args.s.now.form (own_form c.args.s.now.form) c.in_ok-parts.parts c.in_ok-parts.ensures.seen c.args.around.now.kept (table_of c.args.frame.now) (variables_of c.args.frame.now) c.args.at.number c.args.at.from (around_view c.args.around.now) c.in_ok-parts.ensures.simple c.in-Simple.is) }
 
 pub walk_form-returns-in_ok-walk_choosing-in-Choosing : goal.walk_form-returns-in_ok-walk_choosing-in-Choosing
-walk_form-returns-in_ok-walk_choosing-in-Choosing t c = record { points = c.in_ok-walk_choosing-in-Choosing.ensures.points ∙ ap (λ ps. map point_view c.args.points.now.items ++ ps) (choosing_walked c.args.s.now.form (own_form c.args.s.now.form) c.in_ok-parts.parts c.in_ok-parts.ensures.seen (table_of c.args.frame.now) (variables_of c.args.frame.now) c.args.at.number c.args.at.from (around_view c.args.around.now) c.in-Choosing.blocks c.as_slice.result.now c.in-Choosing.is c.as_slice.ensures.value) }
+walk_form-returns-in_ok-walk_choosing-in-Choosing t c = record { points = c.in_ok-walk_choosing-in-Choosing.ensures.points ∙ ap (λ ps. map point_view c.args.points.now.items ++ ps) (choosing_walked c.args.s.now.form (own_form c.args.s.now.form) c.in_ok-parts.parts c.in_ok-parts.ensures.seen c.args.around.now.kept (table_of c.args.frame.now) (variables_of c.args.frame.now) c.args.at.number c.args.at.from (around_view c.args.around.now) c.in-Choosing.blocks c.as_slice.result.now c.in-Choosing.is c.as_slice.ensures.value) }
