@@ -1,5 +1,5 @@
 //! The first phase: each file as tokens and trees, or its one fault.
-ghost use Rattle.std.specs.Prelude.{◌≡◌, ◌++◌, suc, [], map, length, replicate, IfOk, OnOk};
+ghost use Rattle.std.specs.Prelude.{◌≡◌, ◌≤◌, ◌++◌, suc, [], map, length, replicate, IfOk, MatchResult, OnOk};
 ghost use Rattle.herm_lexer.specs.Spelling.{HasTokens};
 ghost use Rattle.herm_compile.specs.View.{fault_view};
 ghost use Rattle.herm_compile.specs.FirstPhase.{HasFileFault, AreFirstFaults, HaveModules, file_fault, fault_code, fault_offset};
@@ -180,7 +180,7 @@ fn read_file(
 
 /// The number of the file behind this one. Where there is none, it counts as want of memory.
 fn number_behind(number: u32) -> Result<u32, AllocError>
-    ensures { IfOk result (λ n. n ≡ suc number) }
+    ensures { MatchResult result (λ n. n ≡ suc number) (λ e. 4294967296 ≤ suc number) }
 {
     match number.checked_add(1) {
         Some(n) => Ok(n),
