@@ -88,8 +88,8 @@ const ONWARD: [(&str, &str); 4] = [
         "2/3 o>3 :6>2 :7>1; 3/0 o>3; 4/0 o>3; 5/0",
     ),
     (
-        "while b { try { try { call ao(s, t, i); } on e { i := 1; } } on e { i := 2; } on Disconnected { } }",
-        "1/1 t>1; 4/3 o>0 :6>0 :7>2; 5/0 o>0; 6/0 o>0",
+        "while b { try { try { call ao(s, t, i); } on e { i := 1; } } on Disconnected { } }",
+        "1/1 t>1; 4/3 o>0 :6>0 :7>2; 5/0 o>0",
     ),
 ];
 
