@@ -182,6 +182,7 @@ impl Frame {
     }
 
     /// What is read at a path, which may pass through components.
+    #[inline(always)]
     #[tactic(auto, using(crate::proofs::Stood::standing))]
     pub fn read(&self, path: &Path) -> Option<&Value>
         ensures keyed { option_map (λ v. keyed_view v.now) result ≡ read_at (path_view path.now) (keyed_places self.now.variables) }
@@ -269,6 +270,7 @@ impl Frame {
 
     /// Puts a value at a path, and finalises what stood there. False where there is no such place: then the value is gone. Memory
     /// is wanted only where an inport or a callmessage stood there.
+    #[inline(always)]
     #[tactic(auto, using(crate::proofs::Stood::standing, crate::proofs::Stood::waiting))]
     pub fn put(&mut self, path: &Path, v: Value) -> Result<bool, AllocError>
         requires whole { IsWhole v }
@@ -289,6 +291,7 @@ impl Frame {
 
     /// Puts a value at a path that is a variable by itself, where nothing stands, or a scalar or an outport: that is finalised.
     /// Elsewhere the value comes back, and all is as it was.
+    #[inline(always)]
     #[tactic(auto, using(crate::proofs::PlainCells::replaced))]
     fn replace(&mut self, path: &Path, v: Value) -> Result<(), Value>
         requires whole { IsWhole v }
@@ -311,6 +314,7 @@ impl Frame {
     }
 
     /// The same, whatever stands there.
+    #[inline(never)]
     #[tactic(auto, using(crate::proofs::Stood::standing, crate::proofs::Stood::waiting))]
     fn put_over(&mut self, path: &Path, v: Value) -> Result<bool, AllocError>
         requires whole { IsWhole v }
@@ -331,6 +335,7 @@ impl Frame {
     }
 
     /// The end of an instruction with one target, which gets this value, where the instruction comes to this outcome.
+    #[inline(always)]
     #[tactic(auto, using(crate::proofs::Stood::standing))]
     pub fn put_at_end(
         &mut self,

@@ -97,6 +97,7 @@ impl Frame {
     }
 
     /// Places a value that stood on the stack.
+    #[inline(always)]
     pub fn store(&mut self, target: &Path, v: Value) -> Result<Outcome, AllocError>
         requires whole { IsWhole v }
         ensures effect { IfOk result (λ r. (c : ReadyCode) (rest : List model.Value) (s : ModelFrame ⊤) → Stands self.old s → Effects r self.new rest (effect forget_name c (instructions.Store (path_view target.now)) (value_view v ∷ rest) s)) }

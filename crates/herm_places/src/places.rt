@@ -30,6 +30,7 @@ pub fn exchange(places: &mut Vec<Option<Value>>, place: u32, held: Option<Value>
 }
 
 /// Puts a value at a place.
+#[inline(always)]
 pub fn set(places: &mut Vec<Option<Value>>, place: u32, v: Value)
     requires within { place < length places.old.items }
     ensures put { places.new.items ≡ slice_set places.old.items place (Some v) }

@@ -51,6 +51,7 @@ fn plain_at(places: &[Option<Value>], place: u32) -> Option<bool>
 
 /// Puts a value at a place where nothing stands, or a scalar or an outport. The answer is whether something stood there,
 /// or the value itself where something else does.
+#[inline(always)]
 #[tactic(auto, using(crate::proofs::Replaced::here))]
 fn replace_here(places: &mut Vec<Option<Value>>, place: u32, v: Value) -> Result<bool, Value>
     requires within { place < length places.old.items }
@@ -70,6 +71,7 @@ fn replace_here(places: &mut Vec<Option<Value>>, place: u32, v: Value) -> Result
 }
 
 /// The same at a place, where no steps follow it.
+#[inline(always)]
 #[tactic(auto, using(crate::proofs::Replaced::places))]
 pub fn replace_at(
     places: &mut Vec<Option<Value>>,

@@ -56,6 +56,7 @@ impl Variables {
     }
 
     /// What is read at a path, which may pass through components.
+    #[inline(always)]
     #[tactic(auto, using(crate::proofs::Forgotten::told))]
     pub fn read(&self, path: &Path) -> Option<&Value>
         ensures keyed { option_map (λ v. keyed_view v.now) result ≡ read_at (path_view path.now) (keyed_places self.now) }
@@ -105,6 +106,7 @@ impl Variables {
 
     /// Puts a value at a path that is a variable by itself, where nothing stands, or a scalar or an outport, which is gone. The
     /// answer is whether something stood there, or the value itself where there is no such place: then all is as it was.
+    #[inline(always)]
     #[tactic(auto, using(crate::proofs::Forgotten::told))]
     pub fn replace(&mut self, path: &Path, v: Value) -> Result<bool, Value>
         requires whole { IsWhole v }
@@ -135,6 +137,7 @@ impl Variables {
         self.exchange_keyed(path, v)
     }
 
+    #[inline(always)]
     fn replace_keyed(&mut self, path: &Path, v: Value) -> Result<bool, Value>
         requires whole { IsWhole v }
         ensures done { is_ok result ≡ has_replaceable (seen_places self.old) (path_view path.now) }
@@ -156,6 +159,7 @@ impl Variables {
         exchange_at(&mut self.places, path.var.0, path.parts.as_slice(), v)
     }
 
+    #[inline(always)]
     fn read_keyed(&self, path: &Path) -> Option<&Value>
         ensures keyed { option_map (λ v. keyed_view v.now) result ≡ read_at (path_view path.now) (keyed_places self.now) }
         ensures whole { IfSome result (λ v. IsWhole v.now) }

@@ -105,13 +105,13 @@ boolean_constant vs new k b at is = pushed_end vs new (values.Bool b) (literal_c
 pub integer_constant : (vs mid new : List Value) (k : Literals) (y z : ℤ) → k ≡ constants.Int z → y ≡ z → mid ≡ vs → new ≡ mid ++ values.Int y ∷ [] → IsPushed (literal_cell (const_view k)) (reverse vs) (reverse new)
 integer_constant vs mid new k y z at same kept is = pushed_end vs new (values.Int y) (literal_cell (const_view k)) (is ∙ ap (λ xs. xs ++ values.Int y ∷ []) kept) (ap (λ z. value_view (values.Int z)) same ∙ sym (ap (λ k. literal_cell (const_view k)) at))
 
-pub text_constant : (vs new : List Value) (k : Literals) (s t : List ℕ) → k ≡ constants.Text s → t ≡ s → new ≡ vs ++ values.Text t ∷ [] → IsPushed (literal_cell (const_view k)) (reverse vs) (reverse new)
-text_constant vs new k s t at same is = pushed_end vs new (values.Text t) (literal_cell (const_view k)) is (ap (λ s. value_view (values.Text s)) same ∙ sym (ap (λ k. literal_cell (const_view k)) at))
+pub text_pushed : (vs mid new : List Value) (k : Literals) (s : List ℕ) → k ≡ constants.Text s → mid ≡ vs → reverse new ≡ values.Text s ∷ reverse mid → IsPushed (literal_cell (const_view k)) (reverse vs) (reverse new)
+text_pushed vs mid new k s at kept is = (values.Text s, is ∙ ap (λ xs. values.Text s ∷ reverse xs) kept, sym (ap (λ k. literal_cell (const_view k)) at))
 
 pub tag_constant : (vs new : List Value) (k : Literals) (t : TypeNo) (place : ℕ) → k ≡ constants.Tag t place → new ≡ vs ++ values.Tag place ∷ [] → IsPushed (literal_cell (const_view k)) (reverse vs) (reverse new)
 tag_constant vs new k t place at is = pushed_end vs new (values.Tag place) (literal_cell (const_view k)) is (sym (ap (λ k. literal_cell (const_view k)) at))
 
-pub ruleset constants_pushed = (reversed, pushed_whole, popped_whole, left_whole, none_whole, boolean_constant, integer_constant, text_constant, tag_constant)
+pub ruleset constants_pushed = (reversed, pushed_whole, popped_whole, left_whole, none_whole, boolean_constant, integer_constant, text_pushed, tag_constant)
 
 pub copied_end : (vs new : List Value) (seen v : Value) → seen ≡ v → new ≡ vs ++ v ∷ [] → IsCopied seen (reverse vs) (reverse new)
 copied_end vs new seen v at is = (v, ap reverse is ∙ reversed vs v, ap value_view (sym at), ap keyed_view (sym at))

@@ -27,19 +27,19 @@ pub enum Unary {
 /// An operator between two operands that takes no memory.
 #[derive(Clone, Copy, Debug, PartialEq, Eq)]
 pub enum Binary {
-    Or,
+    Plus,
+    Minus,
+    Times,
+    Divided,
+    Modulo,
     And,
+    Or,
     Equal,
     Unequal,
     Less,
     AtMost,
     Greater,
     AtLeast,
-    Plus,
-    Minus,
-    Times,
-    Divided,
-    Modulo,
 }
 
 /// A truth value, and nothing without it.

@@ -19,16 +19,19 @@ ghost use Rattle.herm_code_machine.specs.Effects.{effect};
 ghost use Rattle.herm_values.specs.View.{value_view, key_view};
 ghost use Rattle.herm_values.specs.Keyed.{keyed_view};
 ghost use Rattle.herm_values.specs.Whole.{IsWhole};
+ghost use Rattle.herm_values.specs.declared.value.Value.TheVariants as held;
 ghost use Rattle.herm_stack.specs.Answers.{evaluated, written, binary_view, unary_view, effect_of, on_stack, popped, literal_cell, IsPushed, IsCopied, IsLetGo, AreLetGo, IsPushedAs};
 
 use crate::answers::{Completion, Evaluation, Written};
 use crate::operators::{Binary, Unary, applied_at_end, combined_at_end};
 use crate::scalars::{row_count, scalars_of};
 use crate::texts::{concatenation, text_of};
+use herm_base::Word;
 use herm_code::Const;
 use herm_values::{Scalar, Value, copy_of};
 use std::alloc::{AllocError, Global};
 use std::marker::Model;
+use std::mem;
 
 /// The values of one expression, the last pushed one on top. Contracts see them from the top on. Each is whole.
 #[derive(Drop)]
@@ -80,6 +83,21 @@ impl Stack {
         pop(&mut self.values)
     }
 
+    /// The top, if there is one.
+    pub fn top(&self) -> Option<&Value>
+        ensures top { option_map (λ v. v.now) result ≡ slice_get self.now 0 }
+    {
+        self.values.last()
+    }
+
+    /// Lets the top go, if there is one. False where there is none.
+    #[inline(always)]
+    pub fn let_go(&mut self) -> bool
+        ensures gone { IsLetGo result self.old self.new }
+    {
+        let_go(&mut self.values)
+    }
+
     /// Nothing is on the stack then.
     pub fn clear(&mut self)
         ensures empty { self.new ≡ [] }
@@ -88,6 +106,7 @@ impl Stack {
     }
 
     /// Pushes a constant.
+    #[inline(always)]
     #[tactic(auto, using(crate::proofs::Stacked::pushes))]
     pub fn constant(&mut self, constant: &Const) -> Result<(), AllocError>
         ensures effect { OnOk result ((c : ReadyCode) (k : ℕ) (b : Frame ⊤) → slice_get c.constants k ≡ Some (const_view constant.now) → effect forget_name c (instructions.Const k) (on_stack self.old) b ≡ leaving (on_stack self.new) (goes ok b)) }
@@ -96,6 +115,7 @@ impl Stack {
     }
 
     /// Pushes a copy of what was read at a path, and is stuck where nothing was.
+    #[inline(always)]
     #[tactic(auto, using(crate::proofs::Stacked::pushes))]
     pub fn load(&mut self, alloc: Global, read: Option<&Value>) -> Result<Completion, AllocError>
         requires whole { IfSome read (λ v. IsWhole v.now) }
@@ -137,6 +157,7 @@ impl Stack {
     }
 
     /// Replaces the top two by what an operator gives of them, the right operand on top. It takes no memory.
+    #[inline(always)]
     #[tactic(auto, using(crate::proofs::Stacked::operands_gone))]
     pub fn combine(&mut self, o: Binary) -> Completion
         ensures effect { (c : ReadyCode) (b : Frame ⊤) → effect forget_name c (Combine (binary_view o)) (on_stack self.old) b ≡ effect_of result (on_stack self.new) b }
@@ -223,6 +244,7 @@ fn push(values: &mut Vec<Value>, v: Value) -> Result<(), AllocError>
 }
 
 /// Pushes the value that a constant is.
+#[inline(always)]
 #[tactic(auto, using(crate::proofs::Stacked::constants_pushed))]
 fn push_constant(values: &mut Vec<Value>, constant: &Const) -> Result<(), AllocError>
     ensures pushed { OnOk result (IsPushed (literal_cell (const_view constant.now)) (reverse values.old.items) (reverse values.new.items)) }
@@ -232,16 +254,27 @@ fn push_constant(values: &mut Vec<Value>, constant: &Const) -> Result<(), AllocE
     match constant {
         Const::Bool(b) => values.push_reserved(Value::Bool(*b)),
         Const::Int(n) => values.push_reserved(Value::Int(*n)),
-        Const::Text(text) => {
-            let text = text.clone()?;
-            values.push_reserved(Value::Text(text));
-        }
+        Const::Text(text) => push_text(values, text)?,
         Const::Tag(_, place) => values.push_reserved(Value::Tag(*place)),
     }
     Ok(())
 }
 
+/// Pushes a string of these bytes.
+#[inline(never)]
+#[tactic(auto, using(crate::proofs::Stacked::constants_pushed))]
+fn push_text(values: &mut Vec<Value>, text: &Word) -> Result<(), AllocError>
+    ensures pushed { OnOk result (reverse values.new.items ≡ held.Text text.now ∷ reverse values.old.items) }
+    ensures whole { All IsWhole values.old.items → All IsWhole values.new.items }
+{
+    values.reserve(1)?;
+    let text = text.clone()?;
+    values.push_reserved(Value::Text(text));
+    Ok(())
+}
+
 /// Pushes an equal value, whose tables have the same fields as their keys. One that takes no memory is written where it goes.
+#[inline(always)]
 #[tactic(auto, using(crate::proofs::Stacked::copies_pushed))]
 fn push_copy(values: &mut Vec<Value>, alloc: Global, v: &Value) -> Result<(), AllocError>
     requires whole { IsWhole v.now }
@@ -255,11 +288,22 @@ fn push_copy(values: &mut Vec<Value>, alloc: Global, v: &Value) -> Result<(), Al
         Value::Tag(place) => values.push_reserved(Value::Tag(*place)),
         Value::Inport(port) => values.push_reserved(Value::Inport(*port)),
         Value::Outport(port) => values.push_reserved(Value::Outport(*port)),
-        _ => {
-            let copy = copy_of(alloc, v)?;
-            values.push_reserved(copy);
-        }
+        _ => push_whole_copy(values, alloc, v)?,
     }
+    Ok(())
+}
+
+/// The same, of any value.
+#[inline(never)]
+#[tactic(auto, using(crate::proofs::Stacked::copies_pushed))]
+fn push_whole_copy(values: &mut Vec<Value>, alloc: Global, v: &Value) -> Result<(), AllocError>
+    requires whole { IsWhole v.now }
+    ensures pushed { OnOk result (IsCopied v.now (reverse values.old.items) (reverse values.new.items)) }
+    ensures whole { All IsWhole values.old.items → All IsWhole values.new.items }
+{
+    values.reserve(1)?;
+    let copy = copy_of(alloc, v)?;
+    values.push_reserved(copy);
     Ok(())
 }
 
@@ -276,7 +320,50 @@ fn pop(values: &mut Vec<Value>) -> Option<Value>
 }
 
 /// Lets the last value go, if there is one. The place that it leaves is room for another.
+#[inline(always)]
 fn let_go(values: &mut Vec<Value>) -> bool
+    ensures gone { IsLetGo result (reverse values.old.items) (reverse values.new.items) }
+    ensures room { IsTrue result → vec_len values.new < vec_capacity values.new }
+    ensures left_whole { All IsWhole values.old.items → All IsWhole values.new.items }
+{
+    if ends_without_memory(values.as_slice()) {
+        return forget_last(values);
+    }
+    drop_last(values)
+}
+
+/// Whether the last value holds no memory, so that it need not be dropped.
+#[inline(always)]
+fn ends_without_memory(values: &[Value]) -> bool {
+    let [.., last] = values else {
+        return false;
+    };
+    match last {
+        Value::Bool(_) | Value::Int(_) | Value::Tag(_) => true,
+        Value::Inport(_) | Value::Outport(_) => true,
+        _ => false,
+    }
+}
+
+/// Forgets the last value, if there is one: it is not moved, and no memory that it holds is given back.
+#[inline(always)]
+fn forget_last(values: &mut Vec<Value>) -> bool
+    ensures gone { IsLetGo result (reverse values.old.items) (reverse values.new.items) }
+    ensures room { IsTrue result → vec_len values.new < vec_capacity values.new }
+    ensures left_whole { All IsWhole values.old.items → All IsWhole values.new.items }
+{
+    match pop(values) {
+        Some(v) => {
+            mem::forget(v);
+            true
+        }
+        None => false,
+    }
+}
+
+/// Drops the last value, if there is one.
+#[inline(never)]
+fn drop_last(values: &mut Vec<Value>) -> bool
     ensures gone { IsLetGo result (reverse values.old.items) (reverse values.new.items) }
     ensures room { IsTrue result → vec_len values.new < vec_capacity values.new }
     ensures left_whole { All IsWhole values.old.items → All IsWhole values.new.items }
@@ -288,6 +375,7 @@ fn let_go(values: &mut Vec<Value>) -> bool
 }
 
 /// Lets the last two values go, if there are two. The places that they leave are room for others.
+#[inline(always)]
 #[tactic(auto, using(crate::proofs::Stacked::letting_go))]
 fn let_two_go(values: &mut Vec<Value>) -> bool
     ensures gone { AreLetGo result (reverse values.old.items) (reverse values.new.items) }

@@ -1,5 +1,5 @@
 -- What an instruction comes to, and where the process is behind it.
-use Rattle.std.proofs.Common.{◌≡◌, ℕ, List, [], ◌∷◌, true, false, Bool, Option, Some, None, refl, sym, ap, subst}
+use Rattle.std.proofs.Common.{◌≡◌, ℕ, List, [], ◌∷◌, true, false, Bool, Option, Some, None, slice_get, refl, sym, ap, subst, ◌∙◌}
 use Rattle.std.specs.Prelude.{⊤}
 use Rattle.herm_journal.specs.Renaming.{forget_name}
 use Rattle.herm_model.specs.Outcomes.{Outcome}
@@ -18,15 +18,18 @@ use Rattle.herm_code.specs.declared.instr.Instr.{Instr}
 use Rattle.herm_frames.specs.HeldFrames.{HeldFrame}
 use Rattle.herm_frames.specs.declared.outcome.Outcome as code
 use Rattle.herm_frames.specs.Standing.{Stands}
-use Rattle.herm_stack.specs.Answers.{effect_of, on_stack}
+use Rattle.herm_stack.specs.Answers.{effect_of, on_stack, IsLetGo}
 use Rattle.herm_stack.specs.declared.answers.Completion.{Completion}
 use Rattle.herm_values.specs.View.{value_view}
 use Rattle.herm_values.specs.declared.value.Value as held
 use Rattle.herm_steps.specs.Behind.{IsBehind}
 use Rattle.herm_steps.specs.HeldStates.{HeldState}
-use Rattle.herm_steps.specs.Kinds.{is_ending}
+use Rattle.herm_steps.specs.Kinds.{is_ending, is_holding, is_looping, is_placing, is_sizing, is_tabular}
 use Rattle.herm_steps.specs.Coming.{end_position, end_view}
-use Rattle.herm_steps.specs.KindsOfCode.{IsEndOf}
+use Rattle.herm_steps.specs.KindsOfCode.{IsEndOf, IsRare}
+use Rattle.herm_steps.specs.StandingAt.{StandsAt}
+use Rattle.herm_steps.specs.declared.kinds.Rare.{Rare}
+use Rattle.herm_steps.specs.declared.kinds.Rare.TheVariants as rares
 use Rattle.herm_steps.specs.Performed.{Leaves, Performs, behind_effect}
 use Rattle.herm_steps.specs.declared.running.End.{End as Ended}
 use Rattle.herm_steps.specs.declared.running.End.TheVariants as ends
@@ -39,6 +42,35 @@ pub by_effect : (c : ReadyCode) (s : CodeState ⊤) (i : ℕ) (instruction : Ins
 by_effect c s i End no_end = absurd (differ no_end)
 by_effect c s i (EndBy e) no_end = absurd (differ no_end)
 by_effect c s i instruction no_end = refl
+
+-- only an end is one
+abbrev pub no_end : Instruction → Type 0
+no_end i = is_ending i ≡ false
+
+pub other_than_end : (of : Instruction → Bool) → of End ≡ false → ((e : ℕ) → of (EndBy e) ≡ false) → (i : Instruction) → of i ≡ true → no_end i
+other_than_end of at by End h = absurd (differ (sym h ∙ at))
+other_than_end of at by (EndBy e) h = absurd (differ (sym h ∙ by e))
+other_than_end of at by i h = refl
+
+pub rare_is_no_end : (r : Rare) (i : Instruction) → IsRare r i → no_end i
+rare_is_no_end rares.Sizing i h = other_than_end is_sizing refl (λ e. refl) i h
+rare_is_no_end (rares.Applying o) i h = ap is_ending h
+rare_is_no_end rares.Telling i h = ap is_ending h
+rare_is_no_end rares.Joining i h = ap is_ending h
+rare_is_no_end rares.Placing i h = other_than_end is_placing refl (λ e. refl) i h
+rare_is_no_end rares.Holding i h = other_than_end is_holding refl (λ e. refl) i h
+rare_is_no_end rares.Tabular i h = other_than_end is_tabular refl (λ e. refl) i h
+rare_is_no_end rares.Looping i h = other_than_end is_looping refl (λ e. refl) i h
+rare_is_no_end rares.Other i h = h.1
+
+-- an instruction that is no end is done by its effect
+pub done_by : (c : ReadyCode) (s : CodeState ⊤) (n : ℕ) (i : Instruction) (o : code.Outcome) (old mid new : HeldState) (r : Bool) → no_end i → StandsAt old s
+    → ((b : Frame ⊤) → Stands old.frame b → Performs o mid (effect forget_name c i (on_stack old.stack) b))
+    → ((e : Effect ⊤) → Performs o mid e → IsBehind r new s (behind_effect c s n i e))
+    → IsBehind r new s (done_instruction forget_name c s n i)
+done_by c s n i o old mid new r not_end h performed behind =
+    let e = effect forget_name c i s.stack s.frame in
+    subst (IsBehind r new s) (sym (by_effect c s n i not_end)) (behind e (subst (λ vs. Performs o mid (effect forget_name c i vs s.frame)) (sym h.stack) (performed s.frame h.frame)))
 
 -- what is said of an effect on the frame holds of the process
 leaves : (o : Option Outcome) (p : HeldState) (e : Effect ⊤) → e.stack ≡ on_stack p.stack → Completes o p.frame e.completion → Leaves o p e
@@ -98,9 +130,20 @@ pub stuck_by : (c : ReadyCode) (s : CodeState ⊤) (i : ℕ) (instruction : Inst
 stuck_by c s i instruction e d p is h = ap (state_behind c s i instruction e.stack) (subst (λ o. Leaves o p e) (sym is) h)
 
 -- an end
-pub ended : (c : ReadyCode) (s : CodeState ⊤) (i : ℕ) (instruction : Instruction) (end : Ended) (p : HeldState) → IsEndOf (Some end) instruction → p.position ≡ end_position (end_view end) → on_stack p.stack ≡ []
+pub ended : (c : ReadyCode) (s : CodeState ⊤) (i : ℕ) (instruction : Instruction) (end : Ended) (p : HeldState) → IsEndOf end instruction → p.position ≡ end_position (end_view end) → on_stack p.stack ≡ []
     → Stands p.frame (arrive c.scope Targets.end s.frame) → ((e : ℕ) → Stands p.frame (arrive c.scope (Targets.end_by e) s.frame)) → IsBehind true p s (done_instruction forget_name c s i instruction)
 ended c s i instruction ends.Normal p is at stack normal by =
     subst (λ x. IsBehind true p s (done_instruction forget_name c s i x)) (sym is) (ended_at c s at_end Targets.end, refl, refl, record { position = sym at; stack = sym stack; frame = normal })
 ended c s i instruction (ends.By e) p is at stack normal by =
     subst (λ x. IsBehind true p s (done_instruction forget_name c s i x)) (sym is) (ended_at c s (at_end_by e.0) (Targets.end_by e.0), refl, refl, record { position = sym at; stack = sym stack; frame = by e.0 })
+
+-- the top is what goes
+pub top_gone : (gone : Bool) (stack new : List held.Value) (v : held.Value) → Some v ≡ slice_get stack 0 → IsLetGo gone stack new → stack ≡ v ∷ new
+top_gone true stack new v top (w, is) = is ∙ ap (λ x. x ∷ new) (sym (first_same (top ∙ ap (λ s. slice_get s 0) is)))
+  where
+    first_same : Some v ≡ Some w → v ≡ w
+    first_same e = cc
+top_gone false stack new v top is = absurd (some_none (top ∙ ap (λ s. slice_get s 0) is))
+  where
+    some_none : Some v ≡ None → ⊥
+    some_none e = cc

@@ -3,29 +3,29 @@ use Rattle.std.specs.Prelude.{◌≡◌, Bool, true, false, List, ⊤}
 use Rattle.herm_journal.specs.Renaming.{forget_name}
 use Rattle.herm_model.specs.Values.{Value}
 use Rattle.herm_forms.specs.Frames.{Frame}
-use Rattle.herm_instructions.specs.Instructions.{Instruction, Const, Load, Size, Apply, Combine, Store, Jump, JumpFalse, Move, New, Discard, Unite, Dissolve, Reveal, CaseOf, Wrap, Unwrap, Insert, Remove, Get, LoopStart, LoopNext, LoopDrop, Connect, Raise, Drop, End, EndBy}
+use Rattle.herm_instructions.specs.Instructions.{Instruction, Const, Load, Size, Store, Jump, JumpFalse, Move, New, Discard, Unite, Dissolve, Reveal, CaseOf, Wrap, Unwrap, Insert, Remove, Get, LoopStart, LoopNext, LoopDrop, Connect, Raise, Drop, End, EndBy}
 use Rattle.herm_code_machine.specs.Effects.{effect}
 use Rattle.herm_code_machine.specs.ReadyCode.{ReadyCode}
 use Rattle.herm_code_machine.specs.Stacks.{no_effect}
 
--- it pushes a value; it applies an operator to the top; it combines the top two
+-- it pushes a constant or a copy
 abbrev pub is_pushing : Instruction → Bool
 is_pushing (Const k) = true
 is_pushing (Load p) = true
-is_pushing (Size p) = true
 is_pushing _ = false
 
-abbrev pub is_applying : Instruction → Bool
-is_applying (Apply o) = true
-is_applying _ = false
+-- it pushes a number of rows
+abbrev pub is_sizing : Instruction → Bool
+is_sizing (Size p) = true
+is_sizing _ = false
 
-abbrev pub is_combining : Instruction → Bool
-is_combining (Combine o) = true
-is_combining _ = false
+-- it places the top
+abbrev pub is_storing : Instruction → Bool
+is_storing (Store x) = true
+is_storing _ = false
 
 -- it makes, moves or lets go a value at a path
 abbrev pub is_placing : Instruction → Bool
-is_placing (Store x) = true
 is_placing (Move y x) = true
 is_placing (New x t) = true
 is_placing (Discard x) = true

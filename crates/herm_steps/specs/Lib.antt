@@ -4,7 +4,6 @@ pub mod HeldStates
 pub mod KeysThere
 pub mod Kinds
 pub mod KindsOfCode
-pub mod Operators
 pub mod Performed
 pub mod Sent
 pub mod SoundSteps

@@ -19,6 +19,7 @@ use herm_pieces::Code;
 
 impl Running {
     /// Jumps, tests the top of the stack, or raises an exception. No memory.
+    #[inline(always)]
     pub fn lead(&mut self, code: &Code, instruction: &Instr) -> Outcome
         requires kind { is_leading (instr_view instruction.now) ≡ true }
         ensures performed { (b : frames.Frame ⊤) → Stands self.old.frame b → Performs result self.new (effect forget_name (ready_view code.now) (instr_view instruction.now) (on_stack self.old.stack) b) }
@@ -32,12 +33,15 @@ impl Running {
     }
 
     /// Takes the top of the stack and tests it.
+    #[inline(always)]
     fn test(&mut self) -> Outcome
         ensures performed { (c : ReadyCode) (index : ℕ) (b : frames.Frame ⊤) → Stands self.old.frame b → Performs result self.new (effect forget_name c (instructions.JumpFalse index) (on_stack self.old.stack) b) }
     {
-        let Some(v) = self.stack.pop() else {
+        let Some(v) = self.stack.top() else {
             return Outcome::Stuck;
         };
-        tested(&v)
+        let outcome = tested(v);
+        let _gone = self.stack.let_go();
+        outcome
     }
 }

@@ -26,6 +26,7 @@ pub struct Coming {
 impl Running {
     /// What comes next: the end that it is at, where nothing comes next; whether a step begins it; and what it wants of a place, without
     /// what is carried: none while a local step or nothing comes next, and at an action without its port or callmessage.
+    #[inline(always)]
     pub fn coming(&self, code: &Code) -> Coming
         ensures end { (s : CodeState ⊤) → StandsAt self.now s → option_map end_view result.end ≡ ended_at (coming (code_next (ready_view code.now) s)) s.position }
         ensures step { (s : CodeState ⊤) → StandsAt self.now s → result.has_step ≡ begins_with_step (coming (code_next (ready_view code.now) s)) }

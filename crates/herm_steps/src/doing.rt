@@ -1,5 +1,5 @@
 //! Instructions that are neither steps nor actions.
-ghost use Rattle.std.specs.Prelude.{◌≡◌, ◌<◌, IfOk, IfNone, IfSome, OnOk, Some, true, length, ⊤};
+ghost use Rattle.std.specs.Prelude.{◌≡◌, ◌<◌, IfOk, IfNone, IfSome, OnOk, true, length, ⊤};
 ghost use Rattle.herm_journal.specs.Renaming.{forget_name};
 ghost use Rattle.herm_forms.specs.Frames as frames;
 ghost use Rattle.herm_code.specs.View.{instr_view};
@@ -13,11 +13,11 @@ ghost use Rattle.herm_stack.specs.Answers.{on_stack};
 ghost use Rattle.herm_steps.specs.Behind.{IsBehind};
 ghost use Rattle.herm_steps.specs.Coming.{end_position, end_view};
 ghost use Rattle.herm_steps.specs.KeysThere.{CanBeKeyed};
-ghost use Rattle.herm_steps.specs.KindsOfCode.{IsEndOf};
+ghost use Rattle.herm_steps.specs.KindsOfCode.{IsEndOf, IsRare};
 ghost use Rattle.herm_steps.specs.Performed.{Performs, behind_effect};
 ghost use Rattle.herm_steps.specs.StandingAt.{StandsAt};
 
-use crate::kinds::{Kind, end_of, kind_of};
+use crate::kinds::{Kind, Rare, kind_of};
 use crate::leading::outcome_of;
 use crate::running::{End, Running};
 use herm_code::Instr;
@@ -28,6 +28,7 @@ use std::alloc::{AllocError, Global};
 impl Running {
     /// Does the instruction at an index, which is neither a step nor an action. False where it is stuck. A table that is refused the
     /// key of its type is told as want of memory: no run of a sound process has one.
+    #[inline(always)]
     pub fn do_instruction(
         &mut self,
         alloc: Global,
@@ -38,19 +39,58 @@ impl Running {
         requires within { index < length code.now.code.now.code.items }
         ensures done { IfOk result (λ r. (s : CodeState ⊤) → StandsAt self.old s → IsBehind r self.new s (done_instruction forget_name (ready_view code.now) s index (instr_view instruction.now))) }
     {
-        if let Some(end) = end_of(instruction) {
-            self.end_at(alloc, code, end)?;
-            return Ok(true);
+        match kind_of(instruction) {
+            Kind::Pushing => {
+                let outcome = self.push(alloc, code, instruction)?;
+                Ok(self.go_on(code, index, instruction, outcome))
+            }
+            Kind::Combining(operator) => {
+                let outcome = self.combine(operator);
+                Ok(self.go_on(code, index, instruction, outcome))
+            }
+            Kind::Storing => {
+                let outcome = self.store_by(instruction)?;
+                Ok(self.go_on(code, index, instruction, outcome))
+            }
+            Kind::Leading => {
+                let outcome = self.lead(code, instruction);
+                Ok(self.go_on(code, index, instruction, outcome))
+            }
+            Kind::Ending(end) => {
+                self.end_at(alloc, code, end)?;
+                Ok(true)
+            }
+            Kind::Rare(rare) => {
+                let done = self.do_rare(alloc, code, index, instruction, rare)?;
+                Ok(done)
+            }
         }
-        let Some(outcome) = self.perform(alloc, code, instruction)? else {
+    }
+
+    /// The same of an instruction of a rarer kind.
+    #[inline(never)]
+    fn do_rare(
+        &mut self,
+        alloc: Global,
+        code: &Code,
+        index: usize,
+        instruction: &Instr,
+        rare: Rare,
+    ) -> Result<bool, AllocError>
+        requires within { index < length code.now.code.now.code.items }
+        requires kind { IsRare rare (instr_view instruction.now) }
+        ensures done { IfOk result (λ r. (s : CodeState ⊤) → StandsAt self.old s → IsBehind r self.new s (done_instruction forget_name (ready_view code.now) s index (instr_view instruction.now))) }
+    {
+        let Some(outcome) = self.perform(alloc, code, instruction, rare)? else {
             return Err(AllocError);
         };
         Ok(self.go_on(code, index, instruction, outcome))
     }
 
     /// Finalises everything, and ends.
+    #[inline(never)]
     fn end_at(&mut self, alloc: Global, code: &Code, end: End) -> Result<(), AllocError>
-        ensures done { OnOk result ((s : CodeState ⊤) (index : _) (i : Instruction) → IsEndOf (Some end) i → StandsAt self.old s → IsBehind true self.new s (done_instruction forget_name (ready_view code.now) s index i)) }
+        ensures done { OnOk result ((s : CodeState ⊤) (index : _) (i : Instruction) → IsEndOf end i → StandsAt self.old s → IsBehind true self.new s (done_instruction forget_name (ready_view code.now) s index i)) }
     {
         self.frame.end(alloc, code.code.vars.as_slice())?;
         self.stack.clear();
@@ -59,6 +99,7 @@ impl Running {
     }
 
     /// Goes on behind what an instruction came to. False where it was stuck, or its outcome leads nowhere.
+    #[inline(always)]
     fn go_on(&mut self, code: &Code, index: usize, instruction: &Instr, outcome: Outcome) -> bool
         requires within { index < length code.now.code.now.code.items }
         ensures behind { (s : CodeState ⊤) (e : Effect ⊤) → Performs outcome self.old e → IsBehind result self.new s (behind_effect (ready_view code.now) s index (instr_view instruction.now) e) }
@@ -73,47 +114,49 @@ impl Running {
         }
     }
 
-    /// Performs an instruction, by its kind. None only where a table cannot have the key of its type.
+    /// Performs an instruction of a rarer kind. None only where a table cannot have the key of its type.
     fn perform(
         &mut self,
         alloc: Global,
         code: &Code,
         instruction: &Instr,
+        rare: Rare,
     ) -> Result<Option<Outcome>, AllocError>
+        requires kind { IsRare rare (instr_view instruction.now) }
         ensures performed { IfOk result (λ o. IfSome o (λ o. (b : frames.Frame ⊤) → Stands self.old.frame b → Performs o self.new (effect forget_name (ready_view code.now) (instr_view instruction.now) (on_stack self.old.stack) b))) }
         ensures refused { IfOk result (λ o. IfNone o ((b : frames.Frame ⊤) → Stands self.old.frame b → CanBeKeyed (ready_view code.now) (instr_view instruction.now) b → ⊥)) }
     {
-        match kind_of(instruction) {
-            Kind::Pushing => {
-                let outcome = self.push(alloc, code, instruction)?;
+        match rare {
+            Rare::Sizing => {
+                let outcome = self.size(code, instruction)?;
                 Ok(Some(outcome))
             }
-            Kind::Applying => {
-                let outcome = self.apply(alloc, code, instruction)?;
+            Rare::Applying(operator) => Ok(Some(self.apply(operator))),
+            Rare::Telling => {
+                let outcome = self.tell(alloc)?;
                 Ok(Some(outcome))
             }
-            Kind::Combining => {
-                let outcome = self.combine(alloc, code, instruction)?;
+            Rare::Joining => {
+                let outcome = self.join(alloc)?;
                 Ok(Some(outcome))
             }
-            Kind::Placing => {
+            Rare::Placing => {
                 let outcome = self.place(alloc, code, instruction)?;
                 Ok(Some(outcome))
             }
-            Kind::Holding => {
+            Rare::Holding => {
                 let outcome = self.hold(alloc, code, instruction)?;
                 Ok(Some(outcome))
             }
-            Kind::Tabular => {
+            Rare::Tabular => {
                 let outcome = self.tabulate(alloc, code, instruction)?;
                 Ok(outcome)
             }
-            Kind::Looping => {
+            Rare::Looping => {
                 let outcome = self.visit(alloc, code, instruction)?;
                 Ok(Some(outcome))
             }
-            Kind::Leading => Ok(Some(self.lead(code, instruction))),
-            Kind::Other => Ok(Some(Outcome::Stuck)),
+            Rare::Other => Ok(Some(Outcome::Stuck)),
         }
     }
 }

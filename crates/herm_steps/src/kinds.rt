@@ -1,53 +1,78 @@
 //! The kinds of instructions that are neither steps nor actions.
 ghost use Rattle.herm_code.specs.View.{instr_view};
-ghost use Rattle.herm_steps.specs.KindsOfCode.{IsEndOf, IsKind};
+ghost use Rattle.herm_steps.specs.KindsOfCode.{IsKind};
 
 use crate::running::End;
 use herm_code::Instr;
+use herm_stack::{Binary, Unary};
 
-/// What an instruction works on: the stack alone, by pushing a value, applying an operator or combining two; values at paths;
-/// what variants and polymorphs hold; rows of tables; the rows of loops; or where it leads. The others have no effect.
+/// What an instruction does: it pushes a constant or a copy, combines the top two of the stack without memory, stores the top,
+/// leads elsewhere, or ends the process; or it is of one of the rarer kinds.
 #[derive(Clone, Copy)]
 pub enum Kind {
     Pushing,
-    Applying,
-    Combining,
+    Combining(Binary),
+    Storing,
+    Leading,
+    Ending(End),
+    Rare(Rare),
+}
+
+/// What a rarer instruction works on: the stack alone, by pushing a number of rows, by an operator on the top without memory, by the
+/// decimal text of the top, or by the one string on top behind the other; values at paths; what variants and polymorphs hold; rows of
+/// tables; or the rows of loops. The others have no effect.
+#[derive(Clone, Copy)]
+pub enum Rare {
+    Sizing,
+    Applying(Unary),
+    Telling,
+    Joining,
     Placing,
     Holding,
     Tabular,
     Looping,
-    Leading,
     Other,
 }
 
 /// The kind of an instruction.
+#[inline(always)]
 pub fn kind_of(instruction: &Instr) -> Kind
     ensures kind { IsKind result (instr_view instruction.now) }
 {
     match instruction {
-        Instr::Const(_) | Instr::Load(_) | Instr::Size(_) => Kind::Pushing,
-        Instr::Neg | Instr::Not | Instr::Text | Instr::Length => Kind::Applying,
-        Instr::Add | Instr::Sub | Instr::Mul | Instr::Div | Instr::Mod => Kind::Combining,
-        Instr::Eq | Instr::Ne | Instr::Lt | Instr::Le | Instr::Gt | Instr::Ge => Kind::Combining,
-        Instr::Cat | Instr::And | Instr::Or => Kind::Combining,
-        Instr::Store(_) | Instr::Move(_, _) | Instr::New(_, _) => Kind::Placing,
-        Instr::Discard(_) | Instr::Connect(_, _) | Instr::Drop(_) => Kind::Placing,
-        Instr::Unite(_, _, _) | Instr::Dissolve(_, _, _) | Instr::Reveal(_, _) => Kind::Holding,
-        Instr::CaseOf(_, _) | Instr::Wrap(_, _, _) | Instr::Unwrap(_, _, _) => Kind::Holding,
-        Instr::Insert(_, _) | Instr::Remove(_, _, _) | Instr::Get(_, _, _) => Kind::Tabular,
-        Instr::LoopStart(_, _) | Instr::LoopNext(_, _, _) | Instr::LoopDrop(_) => Kind::Looping,
+        Instr::Const(_) | Instr::Load(_) => Kind::Pushing,
+        Instr::Size(_) => Kind::Rare(Rare::Sizing),
+        Instr::Neg => Kind::Rare(Rare::Applying(Unary::Negative)),
+        Instr::Not => Kind::Rare(Rare::Applying(Unary::Complement)),
+        Instr::Length => Kind::Rare(Rare::Applying(Unary::TextLength)),
+        Instr::Text => Kind::Rare(Rare::Telling),
+        Instr::Add => Kind::Combining(Binary::Plus),
+        Instr::Sub => Kind::Combining(Binary::Minus),
+        Instr::Mul => Kind::Combining(Binary::Times),
+        Instr::Div => Kind::Combining(Binary::Divided),
+        Instr::Mod => Kind::Combining(Binary::Modulo),
+        Instr::Cat => Kind::Rare(Rare::Joining),
+        Instr::And => Kind::Combining(Binary::And),
+        Instr::Or => Kind::Combining(Binary::Or),
+        Instr::Eq => Kind::Combining(Binary::Equal),
+        Instr::Ne => Kind::Combining(Binary::Unequal),
+        Instr::Lt => Kind::Combining(Binary::Less),
+        Instr::Le => Kind::Combining(Binary::AtMost),
+        Instr::Gt => Kind::Combining(Binary::Greater),
+        Instr::Ge => Kind::Combining(Binary::AtLeast),
+        Instr::Store(_) => Kind::Storing,
         Instr::Jump(_) | Instr::JumpFalse(_) | Instr::Raise(_) => Kind::Leading,
-        _ => Kind::Other,
-    }
-}
-
-/// The end that an instruction makes, if it makes one.
-pub fn end_of(instruction: &Instr) -> Option<End>
-    ensures end { IsEndOf result (instr_view instruction.now) }
-{
-    match instruction {
-        Instr::End => Some(End::Normal),
-        Instr::EndBy(e) => Some(End::By(*e)),
-        _ => None,
+        Instr::End => Kind::Ending(End::Normal),
+        Instr::EndBy(e) => Kind::Ending(End::By(*e)),
+        Instr::Move(_, _) | Instr::New(_, _) => Kind::Rare(Rare::Placing),
+        Instr::Discard(_) | Instr::Connect(_, _) | Instr::Drop(_) => Kind::Rare(Rare::Placing),
+        Instr::Unite(_, _, _) | Instr::Dissolve(_, _, _) => Kind::Rare(Rare::Holding),
+        Instr::Reveal(_, _) | Instr::CaseOf(_, _) => Kind::Rare(Rare::Holding),
+        Instr::Wrap(_, _, _) | Instr::Unwrap(_, _, _) => Kind::Rare(Rare::Holding),
+        Instr::Insert(_, _) | Instr::Remove(_, _, _) => Kind::Rare(Rare::Tabular),
+        Instr::Get(_, _, _) => Kind::Rare(Rare::Tabular),
+        Instr::LoopStart(_, _) | Instr::LoopNext(_, _, _) => Kind::Rare(Rare::Looping),
+        Instr::LoopDrop(_) => Kind::Rare(Rare::Looping),
+        _ => Kind::Rare(Rare::Other),
     }
 }

@@ -19,6 +19,7 @@ use herm_pieces::{Code, Outcome, Position};
 impl Running {
     /// Goes on behind the instruction at an index, by its outcome: an exception leads on with an empty stack. False where the
     /// outcome leads nowhere.
+    #[inline(always)]
     pub fn lead_on(
         &mut self,
         code: &Code,

@@ -22,7 +22,7 @@ mod visiting;
 mod wants;
 
 pub use coming::Coming;
-pub use expressions::{apply_operator, combine_operands, push_value};
+pub use expressions::{push_size, push_value};
 pub use leading::outcome_of;
 pub use messages::{count_piece, take_sent};
 pub use next::Next;

@@ -10,7 +10,7 @@ ghost use Rattle.herm_stack.specs.Answers.{on_stack};
 ghost use Rattle.herm_code_machine.specs.ReadyCode.{ReadyCode};
 ghost use Rattle.herm_instructions.specs.Instructions as instructions;
 ghost use Rattle.herm_types.specs.View.{path_view};
-ghost use Rattle.herm_steps.specs.Kinds.{is_placing};
+ghost use Rattle.herm_steps.specs.Kinds.{is_placing, is_storing};
 ghost use Rattle.herm_steps.specs.Performed.{Performs};
 
 use crate::running::Running;
@@ -32,10 +32,6 @@ impl Running {
         ensures performed { IfOk result (λ o. (b : frames.Frame ⊤) → Stands self.old.frame b → Performs o self.new (effect forget_name (ready_view code.now) (instr_view instruction.now) (on_stack self.old.stack) b)) }
     {
         match instruction {
-            Instr::Store(target) => {
-                let outcome = self.store(target)?;
-                Ok(outcome)
-            }
             Instr::Move(source, target) => {
                 let outcome = self.frame.move_value(
                     alloc,
@@ -66,7 +62,23 @@ impl Running {
         }
     }
 
+    /// Places the top of the stack, as an instruction says.
+    #[inline(always)]
+    pub fn store_by(&mut self, instruction: &Instr) -> Result<Outcome, AllocError>
+        requires kind { is_storing (instr_view instruction.now) ≡ true }
+        ensures performed { IfOk result (λ o. (c : ReadyCode) (b : frames.Frame ⊤) → Stands self.old.frame b → Performs o self.new (effect forget_name c (instr_view instruction.now) (on_stack self.old.stack) b)) }
+    {
+        match instruction {
+            Instr::Store(target) => {
+                let outcome = self.store(target)?;
+                Ok(outcome)
+            }
+            _ => Ok(Outcome::Stuck),
+        }
+    }
+
     /// Places the top of the stack.
+    #[inline(always)]
     fn store(&mut self, target: &Path) -> Result<Outcome, AllocError>
         ensures performed { IfOk result (λ o. (c : ReadyCode) (b : frames.Frame ⊤) → Stands self.old.frame b → Performs o self.new (effect forget_name c (instructions.Store (path_view target.now)) (on_stack self.old.stack) b)) }
     {

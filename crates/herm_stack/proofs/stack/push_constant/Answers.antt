@@ -2,7 +2,7 @@ use Rattle.std.proofs.lemmas.Int.{to_z-of_z}
 use Rattle.std.specs.Int.{w64}
 use Rattle.std.proofs.Common.{rules, ap, [], ◌∷◌, ◌++◌, ◌∙◌}
 use Rattle.herm_values.specs.declared.value.Value as values
-use Rattle.herm_stack.proofs.Stacked.{boolean_constant, integer_constant, tag_constant, text_constant}
+use Rattle.herm_stack.proofs.Stacked.{boolean_constant, integer_constant, tag_constant, text_pushed}
 use Rattle.herm_stack.proofs.stack.push_constant.Goals as goal
 
 pub returns-in-Bool-clause-pushed : goal.returns-in-Bool-clause-pushed
@@ -13,9 +13,9 @@ pub returns-in-Int-clause-pushed : goal.returns-in-Int-clause-pushed
 returns-in-Int-clause-pushed c =
     integer_constant c.args.values.now.items c.reserve.new.self.items c.push_reserved-in-Int.new.self.items c.args.constant.now _ c.in-Int.n c.in-Int.is (to_z-of_z w64 c.in-Int.n (search rules)) c.in_ok-reserve.ensures.items c.push_reserved-in-Int.ensures.items
 
-pub returns-in_ok-text-in-Text-clause-pushed : goal.returns-in_ok-text-in-Text-clause-pushed
-returns-in_ok-text-in-Text-clause-pushed c =
-    text_constant c.args.values.now.items c.push_reserved-in-Text.new.self.items c.args.constant.now c.in-Text.text c.in_ok-text-in-Text.text c.in-Text.is (c.in_ok-text-in-Text.ensures.cases) (c.push_reserved-in-Text.ensures.items ∙ ap (λ vs. vs ++ values.Text c.in_ok-text-in-Text.text ∷ []) c.in_ok-reserve.ensures.items)
+pub returns-in_ok-push_text-in-Text-clause-pushed : goal.returns-in_ok-push_text-in-Text-clause-pushed
+returns-in_ok-push_text-in-Text-clause-pushed c =
+    text_pushed c.args.values.now.items c.reserve.new.self.items c.push_text.new.values.items c.args.constant.now c.in-Text.text c.in-Text.is c.in_ok-reserve.ensures.items c.in_ok-push_text-in-Text.ensures.pushed
 
 pub returns-in-Tag-clause-pushed : goal.returns-in-Tag-clause-pushed
 returns-in-Tag-clause-pushed c =

@@ -11,8 +11,3 @@ pub returns-in_ok-done-in-Load-clause-effect : goal.returns-in_ok-done-in-Load-c
 returns-in_ok-done-in-Load-clause-effect c = λ s h.
     subst (λ i. effect forget_name (ready_view c.args.code.now) (instr_view i) (on_stack c.args.stack.now) s ≡ effect_of c.in_ok-done-in-Load.done (on_stack c.load.new.self) s) (sym c.in-Load.is)
     (c.in_ok-done-in-Load.ensures.effect (ready_view c.args.code.now) (path_view c.in-Load.path) s (sym (c.read.ensures.stands s h)))
-
-pub returns-in_ok-done-in-Size-clause-effect : goal.returns-in_ok-done-in-Size-clause-effect
-returns-in_ok-done-in-Size-clause-effect c = λ s h.
-    subst (λ i. effect forget_name (ready_view c.args.code.now) (instr_view i) (on_stack c.args.stack.now) s ≡ effect_of c.in_ok-done-in-Size.done (on_stack c.size.new.self) s) (sym c.in-Size.is)
-    (c.in_ok-done-in-Size.ensures.effect (ready_view c.args.code.now) (path_view c.in-Size.path) s (sym (c.read-in-Size.ensures.stands s h)))

@@ -1,27 +1,43 @@
-use Rattle.std.proofs.Common.{sym, subst}
-use Rattle.std.specs.Prelude.{⊤}
+use Rattle.std.proofs.Common.{ap, refl, subst, sym}
 use Rattle.herm_journal.specs.Renaming.{forget_name}
-use Rattle.herm_forms.specs.Frames.{Frame}
 use Rattle.herm_code.specs.View.{instr_view}
 use Rattle.herm_code_machine.specs.Effects.{effect}
 use Rattle.herm_pieces.specs.View.{ready_view}
-use Rattle.herm_frames.specs.Standing.{Stands}
-use Rattle.herm_frames.specs.declared.outcome.Outcome.{Outcome}
 use Rattle.herm_stack.specs.Answers.{on_stack}
-use Rattle.herm_steps.specs.Behind.{IsBehind}
+use Rattle.herm_steps.specs.Kinds.{is_ending, is_leading, is_pushing, is_storing}
 use Rattle.herm_steps.specs.Performed.{Performs}
-use Rattle.herm_steps.proofs.Done.{by_effect}
-use Rattle.herm_steps.proofs.KeyTaken.{some_of}
+use Rattle.herm_steps.proofs.Done.{done_by, other_than_end}
 use Rattle.herm_steps.proofs.running.Running.do_instruction.Goals as goal
 
-pub returns : goal.returns
-returns c = record {
+pub returns-in_ok-outcome-in-Pushing : goal.returns-in_ok-outcome-in-Pushing
+returns-in_ok-outcome-in-Pushing c = record {
   done = λ s h.
-      let code = ready_view c.args.code.now in
-      let i = instr_view c.args.instruction.now in
-      let e = effect forget_name code i s.stack s.frame in
-      let performed = subst (λ vs. Performs c.in-Some-2.outcome c.perform.new.self (effect forget_name code i vs s.frame)) (sym h.stack) (some_of
-      (λ (o : Outcome). (b : Frame ⊤) → Stands c.args.self.now.frame b → Performs o c.perform.new.self (effect forget_name code i (on_stack c.args.self.now.stack) b))
-      c.in_ok-outcome.field-0 c.in-Some-2.outcome c.in-Some-2.is c.in_ok-outcome.ensures.performed s.frame h.frame) in
-      subst (IsBehind c.go_on.result c.go_on.new.self s) (sym (by_effect code s c.args.index i c.in_default.ensures.end)) (c.go_on.ensures.behind s e performed);
+      done_by (ready_view c.args.code.now) s c.args.index (instr_view c.args.instruction.now) c.in_ok-outcome-in-Pushing.outcome c.args.self.now c.push.new.self c.go_on.new.self c.go_on.result
+      (other_than_end is_pushing refl (λ e. refl) (instr_view c.args.instruction.now) c.in-Pushing.ensures.kind) h
+      (c.in_ok-outcome-in-Pushing.ensures.performed) (c.go_on.ensures.behind s);
+}
+
+pub returns-in-Combining : goal.returns-in-Combining
+returns-in-Combining c = record {
+  done = λ s h.
+      done_by (ready_view c.args.code.now) s c.args.index (instr_view c.args.instruction.now) c.combine-outcome.result c.args.self.now c.combine-outcome.new.self c.go_on-in-Combining.new.self c.go_on-in-Combining.result
+      (ap is_ending c.in-Combining.ensures.kind) h
+      (λ b stands. subst (λ i. Performs c.combine-outcome.result c.combine-outcome.new.self (effect forget_name (ready_view c.args.code.now) i (on_stack c.args.self.now.stack) b)) (sym c.in-Combining.ensures.kind)
+      (c.combine-outcome.ensures.performed (ready_view c.args.code.now) b stands)) (c.go_on-in-Combining.ensures.behind s);
+}
+
+pub returns-in_ok-outcome-in-Storing : goal.returns-in_ok-outcome-in-Storing
+returns-in_ok-outcome-in-Storing c = record {
+  done = λ s h.
+      done_by (ready_view c.args.code.now) s c.args.index (instr_view c.args.instruction.now) c.in_ok-outcome-in-Storing.outcome c.args.self.now c.store_by.new.self c.go_on-in-Storing.new.self c.go_on-in-Storing.result
+      (other_than_end is_storing refl (λ e. refl) (instr_view c.args.instruction.now) c.in-Storing.ensures.kind) h
+      (c.in_ok-outcome-in-Storing.ensures.performed (ready_view c.args.code.now)) (c.go_on-in-Storing.ensures.behind s);
+}
+
+pub returns-in-Leading : goal.returns-in-Leading
+returns-in-Leading c = record {
+  done = λ s h.
+      done_by (ready_view c.args.code.now) s c.args.index (instr_view c.args.instruction.now) c.lead-outcome.result c.args.self.now c.lead-outcome.new.self c.go_on-in-Leading.new.self c.go_on-in-Leading.result
+      (other_than_end is_leading refl (λ e. refl) (instr_view c.args.instruction.now) c.in-Leading.ensures.kind) h
+      (c.lead-outcome.ensures.performed) (c.go_on-in-Leading.ensures.behind s);
 }

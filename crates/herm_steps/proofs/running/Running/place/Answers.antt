@@ -9,13 +9,6 @@ use Rattle.herm_steps.proofs.Done.{by_frame}
 use Rattle.herm_steps.specs.Performed.{Performs}
 use Rattle.herm_steps.proofs.running.Running.place.Goals as goal
 
-pub returns-in_ok-outcome-in-Store : goal.returns-in_ok-outcome-in-Store
-returns-in_ok-outcome-in-Store c = record {
-  performed = λ b h.
-      subst (λ i. Performs c.in_ok-outcome-in-Store.outcome c.store.new.self (effect forget_name (ready_view c.args.code.now) (instr_view i) (on_stack c.args.self.now.stack) b)) (sym c.in-Store.is)
-      (c.in_ok-outcome-in-Store.ensures.performed (ready_view c.args.code.now) b h);
-}
-
 pub returns-in_ok-outcome-in-Move : goal.returns-in_ok-outcome-in-Move
 returns-in_ok-outcome-in-Move c = record {
   performed = λ b h.
@@ -26,27 +19,27 @@ returns-in_ok-outcome-in-Move c = record {
 pub returns-in_ok-outcome-in-New : goal.returns-in_ok-outcome-in-New
 returns-in_ok-outcome-in-New c = record {
   performed = λ b h.
-      by_frame (ready_view c.args.code.now) _ _ b _ _ c.new_value.new.self c.in_ok-outcome-in-New.outcome c.in-New.is c.self-in-New.view_is h
-      (c.in_ok-outcome-in-New.ensures.effect (ready_view c.args.code.now) (on_stack c.self-in-New.inside.stack) b refl);
+      by_frame (ready_view c.args.code.now) _ _ b _ _ c.new_value.new.self c.in_ok-outcome-in-New.outcome c.in-New.is c.self.view_is h
+      (c.in_ok-outcome-in-New.ensures.effect (ready_view c.args.code.now) (on_stack c.self.inside.stack) b refl);
 }
 
 pub returns-in_ok-outcome-in-Discard : goal.returns-in_ok-outcome-in-Discard
 returns-in_ok-outcome-in-Discard c = record {
   performed = λ b h.
-      by_frame (ready_view c.args.code.now) _ _ b _ _ c.discard.new.self c.in_ok-outcome-in-Discard.outcome c.in-Discard.is c.self-in-Discard.view_is h
-      (c.in_ok-outcome-in-Discard.ensures.effect (ready_view c.args.code.now) (on_stack c.self-in-Discard.inside.stack) b);
+      by_frame (ready_view c.args.code.now) _ _ b _ _ c.discard.new.self c.in_ok-outcome-in-Discard.outcome c.in-Discard.is c.self.view_is h
+      (c.in_ok-outcome-in-Discard.ensures.effect (ready_view c.args.code.now) (on_stack c.self.inside.stack) b);
 }
 
 pub returns-in_ok-outcome-in-Connect : goal.returns-in_ok-outcome-in-Connect
 returns-in_ok-outcome-in-Connect c = record {
   performed = λ b h.
-      by_frame (ready_view c.args.code.now) _ _ b _ _ c.connect.new.self c.in_ok-outcome-in-Connect.outcome c.in-Connect.is c.self-in-Connect.view_is h
-      (c.in_ok-outcome-in-Connect.ensures.effect (ready_view c.args.code.now) (on_stack c.self-in-Connect.inside.stack) b);
+      by_frame (ready_view c.args.code.now) _ _ b _ _ c.connect.new.self c.in_ok-outcome-in-Connect.outcome c.in-Connect.is c.self.view_is h
+      (c.in_ok-outcome-in-Connect.ensures.effect (ready_view c.args.code.now) (on_stack c.self.inside.stack) b);
 }
 
 pub returns-in_ok-outcome-in-Drop : goal.returns-in_ok-outcome-in-Drop
 returns-in_ok-outcome-in-Drop c = record {
   performed = λ b h.
-      by_frame (ready_view c.args.code.now) _ _ b _ _ c.drop_path.new.self c.in_ok-outcome-in-Drop.outcome c.in-Drop.is c.self-in-Drop.view_is h
-      (c.in_ok-outcome-in-Drop.ensures.effect (ready_view c.args.code.now) (on_stack c.self-in-Drop.inside.stack) b);
+      by_frame (ready_view c.args.code.now) _ _ b _ _ c.drop_path.new.self c.in_ok-outcome-in-Drop.outcome c.in-Drop.is c.self.view_is h
+      (c.in_ok-outcome-in-Drop.ensures.effect (ready_view c.args.code.now) (on_stack c.self.inside.stack) b);
 }
