@@ -2,6 +2,8 @@
 ghost use Rattle.std.specs.Prelude.{◌≡◌, ◌<◌, ◌↔◌, ℕ, Some, true, false, IfOk, OnOk, ⊤};
 ghost use Rattle.herm_journal.specs.Actions.{new_process, to_close, to_put};
 ghost use Rattle.herm_journal.specs.Messages.{CellAction, CellWant};
+ghost use Rattle.herm_events.specs.declared.entry.Action.TheVariants as actions;
+ghost use Rattle.herm_events.specs.declared.entry.Place.TheVariants as places;
 ghost use Rattle.herm_model.specs.Values as model;
 ghost use Rattle.herm_instructions.specs.Images.{Image};
 ghost use Rattle.herm_code_machine.specs.CodeStates.{CodeState};
@@ -14,8 +16,8 @@ ghost use Rattle.herm_system.specs.Suiting.{Answers, Suits};
 
 use crate::ordered::Ordered;
 use herm_base::{PortNo, ProcNo};
-use herm_events::{Action, Place, Traces};
-use herm_letters::Parcels;
+use herm_events::{Action, Place, ReplyTrace, Trace, Traces};
+use herm_letters::{Parcel, Parcels};
 use herm_machine::{Got, Machine};
 use std::alloc::AllocError;
 
@@ -46,36 +48,16 @@ fn told_entry(number: ProcNo, ordered: &Ordered, got: &Got) -> Result<(Place, Ac
             ))
         }
         Got::Placed { number, trace } => {
-            let place = Place::Port(port_of(ordered));
-            let trace = trace.again()?;
-            Ok((
-                place,
-                Action::Put {
-                    number: Some(*number),
-                    trace,
-                },
-            ))
+            let entry = placed(port_of(ordered), Some(*number), trace)?;
+            Ok(entry)
         }
         Got::Back { value: _, trace } => {
-            let place = Place::Port(port_of(ordered));
-            let trace = trace.again()?;
-            Ok((
-                place,
-                Action::Put {
-                    number: None,
-                    trace,
-                },
-            ))
+            let entry = placed(port_of(ordered), None, trace)?;
+            Ok(entry)
         }
         Got::Message { port, parcel } => {
-            let trace = parcel.trace.again()?;
-            Ok((
-                Place::Port(*port),
-                Action::Take {
-                    number: parcel.number,
-                    trace,
-                },
-            ))
+            let entry = taken(*port, parcel)?;
+            Ok(entry)
         }
         Got::Left(left) => {
             let entry = closed(port_of(ordered), left)?;
@@ -90,10 +72,40 @@ fn told_entry(number: ProcNo, ordered: &Ordered, got: &Got) -> Result<(Place, Ac
             reply: _,
             trace,
         } => {
-            let reply = trace.again()?;
-            Ok((Place::Reply(number), Action::Hear { call: *call, reply }))
+            let entry = heard(number, *call, trace)?;
+            Ok(entry)
         }
     }
+}
+
+/// A message with this text was put on a port: it was placed under this number, or came back.
+fn placed(port: PortNo, number: Option<u64>, trace: &Trace) -> Result<(Place, Action), AllocError>
+    ensures entry { IfOk result (λ r. r ≡ (places.Port port, actions.Put number trace.now)) }
+{
+    let trace = trace.again()?;
+    Ok((Place::Port(port), Action::Put { number, trace }))
+}
+
+/// A message of this port was taken.
+fn taken(port: PortNo, parcel: &Parcel) -> Result<(Place, Action), AllocError>
+    ensures entry { IfOk result (λ r. r ≡ (places.Port port, actions.Take parcel.now.number parcel.now.trace)) }
+{
+    let trace = parcel.trace.again()?;
+    Ok((
+        Place::Port(port),
+        Action::Take {
+            number: parcel.number,
+            trace,
+        },
+    ))
+}
+
+/// A reply to the call of this number, with this text, was heard by this process.
+fn heard(number: ProcNo, call: u64, trace: &ReplyTrace) -> Result<(Place, Action), AllocError>
+    ensures entry { IfOk result (λ r. r ≡ (places.Reply number, actions.Hear call trace.now)) }
+{
+    let reply = trace.again()?;
+    Ok((Place::Reply(number), Action::Hear { call, reply }))
 }
 
 /// A port was closed, in which these messages were left.
