@@ -161,8 +161,8 @@ fn exit_of<'a>(edge: &'a Edge) -> Exit<'a>
 {
     Exit {
         outcome: edge.outcome,
-        makes: edge.makes.as_slice(),
-        kills: edge.kills.as_slice(),
+        makes: edge.makes(),
+        kills: edge.kills(),
         to: edge.to,
     }
 }

@@ -87,8 +87,8 @@ fn behind_edge(alloc: Global, edge: &Edge, facts: &[Fact]) -> Result<Vec<Fact>, 
     ensures { IfOk result (λ v. map fact_view v.items ≡ behind_edge (edge_view edge.now) (map fact_view facts.now)) }
 {
     let mut out = Vec::with_capacity(alloc, facts.len())?;
-    push_facts(alloc, edge.makes.as_slice(), &mut out)?;
-    push_left(alloc, facts, edge.kills.as_slice(), &mut out)?;
+    push_facts(alloc, edge.makes(), &mut out)?;
+    push_left(alloc, facts, edge.kills(), &mut out)?;
     Ok(out)
 }
 

@@ -1,5 +1,5 @@
 -- A point is left along one edge more.
-use Rattle.std.proofs.Common.{◌≡◌, ◌≢◌, ◌⊎◌, inl, inr, ℕ, ◌≤◌, List, [], ◌∷◌, ◌++◌, flat_map, Bool, true, false, cond, ◌&&◌, ◌||◌, Some, slice_get, slice_set, refl, sym, ◌∙◌, ap, subst, arith, true≢false, length-set}
+use Rattle.std.proofs.Common.{◌≡◌, ◌≢◌, ◌⊎◌, inl, inr, ℕ, ◌≤◌, List, [], ◌∷◌, ◌++◌, flat_map, Bool, true, false, cond, ◌&&◌, ◌||◌, Some, slice_get, slice_set, refl, sym, ◌∙◌, ap, ap₂, subst, arith, true≢false, length-set}
 use Rattle.herm_model.specs.Lists.{IsIn, any_pass}
 use Rattle.herm_model.specs.Paths.{Fact, same_fact, path_of, is_at_or_below}
 use Rattle.herm_model.specs.Targets.{node}
@@ -10,9 +10,9 @@ use Rattle.herm_model.proofs.FactTests.{got-IsIn}
 use Rattle.herm_model.proofs.Equality.{same_fact-is}
 use Rattle.herm_typestate.specs.Facts.{has_fact}
 use Rattle.herm_check.specs.declared.label.Label.{Label}
-use Rattle.herm_check.specs.Labelled.{is_reached, is_pending, holds_at, all_facts, Carries, IsSettled, AreTrue, AreLabels, IsLeft}
+use Rattle.herm_check.specs.Labelled.{is_reached, is_pending, holds_at, all_facts, Goes, Carries, IsSettled, AreTrue, AreLabels, IsLeft}
 use Rattle.herm_check.proofs.Paths.{edge-reached, edge-lacks}
-use Rattle.herm_check.specs.Followed.{IsJoined, IsFollowed, ends, joins}
+use Rattle.herm_check.specs.Followed.{IsJoined, IsFollowed, ends, joins, IsLike, IsPassed, follows, like}
 use Rattle.herm_check.specs.Weights.{weight}
 use Rattle.herm_check.proofs.Joined.{set-weight, same_or_not, reached-here, pending-here, holds-here, reached-before, pending-before, holds-before, reached-elsewhere, pending-elsewhere, holds-elsewhere, joined-after, goes-kept, goes-new}
 
@@ -146,6 +146,20 @@ left-end flow i e ls done none h = record { are_true = h.are_true; reached = h.r
     by d (inr (inl same)) n = λ k to within. absurd (none k (subst (λ (x : Edge). x.target ≡ node k) same to))
     by d (inr (inr m)) n = absurd m
 
+-- what is carried along an edge is carried along one like it
+like-carried : (ls : List Label) (d e : Edge) (before : Fact → Bool) → d.target ≡ e.target → d.makes ≡ e.makes → d.kills ≡ e.kills → Carries ls d before → Carries ls e before
+like-carried ls d e before to made gone h =
+    subst (λ t. Goes ls t (λ f. held_after_edge e f (before f))) to
+    (λ i is within. let both = h i is within in (both.0, λ f held. sym (ap₂ (λ ms ks. cond (any_pass (same_fact f) ms) true (cond (any_pass (λ p. is_at_or_below p (path_of f)) ks) false (before f))) made gone) ∙ both.1 f held))
+
+left-like : (flow : Flow) (i : ℕ) (e : Edge) (ls : List Label) (done : List Edge) → IsLike e done → IsLeft flow i done ls → IsLeft flow i (done ++ e ∷ []) ls
+left-like flow i e ls done alike h = record { are_true = h.are_true; reached = h.reached; settled = h.settled; carried = λ d m. by d (in-append_cases d done (e ∷ []) m) }
+  where
+    by : (d : Edge) → IsIn d done ⊎ IsIn d (e ∷ []) → is_pending ls i ≡ false → Carries ls d (holds_at ls i)
+    by d (inl m) n = h.carried d m n
+    by d (inr (inl same)) n = subst (λ d. Carries ls d (holds_at ls i)) (sym same) (like-carried ls alike.other e (holds_at ls i) alike.target alike.makes alike.kills (h.carried alike.other alike.member n))
+    by d (inr (inr m)) n = absurd m
+
 -- when all edges of a point were followed, its label is settled
 pub all-left : (flow : Flow) (i : ℕ) (p : Point) (ls : List Label) → slice_get flow.points i ≡ Some p → IsLeft flow i p.edges ls → AreLabels flow ls
 all-left flow i p ls is h = record { are_true = h.are_true; settled = λ j. by j (same_or_not i j) }
@@ -166,7 +180,17 @@ left-followed flow differ i p e is member ls _ (ends _ none) done h = left-end f
 left-followed flow differ i p e is member ls _ (joins _ t l new after to behind joined) done h =
     left-more flow differ i p e is member (holds_at ls i) (h.are_true.reached i h.reached) (λ f. h.are_true.lacking i f h.reached) (h.are_true.known i) ls t l new after to behind joined (λ f. refl) done h
 
+-- one edge more, that was followed or is like one that was
+pub left-passed : (flow : Flow) (differ : EdgesDiffer flow) (i : ℕ) (p : Point) (e : Edge) → slice_get flow.points i ≡ Some p → IsIn e p.edges
+    → (ls after : List Label) (done : List Edge) → IsPassed e done (holds_at ls i) ls after → IsLeft flow i done ls → IsLeft flow i (done ++ e ∷ []) after
+left-passed flow differ i p e is member ls after done (follows _ _ followed) h = left-followed flow differ i p e is member ls after followed done h
+left-passed flow differ i p e is member ls _ done (like _ other) h = left-like flow i e ls done other h
+
 pub followed-weight : (all : List Fact) (e : Edge) (before : Fact → Bool) (ls after : List Label) → IsFollowed e before ls after → ((i : ℕ) (f : Fact) → holds_at ls i f ≡ true → IsIn f all) → weight all after ≤ weight all ls
 followed-weight all e before ls _ (ends _ none) known = omega arith
 followed-weight all e before ls _ (joins _ t l new after to behind joined) known =
     set-weight all ls t l new joined.old (joined.less all (λ f h. known t f (holds-before ls t l new after joined f ∙ h)))
+
+pub passed-weight : (all : List Fact) (e : Edge) (done : List Edge) (before : Fact → Bool) (ls after : List Label) → IsPassed e done before ls after → ((i : ℕ) (f : Fact) → holds_at ls i f ≡ true → IsIn f all) → weight all after ≤ weight all ls
+passed-weight all e done before ls after (follows _ _ followed) known = followed-weight all e before ls after followed known
+passed-weight all e done before ls _ (like _ other) known = omega arith

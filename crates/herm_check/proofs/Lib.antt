@@ -12,3 +12,4 @@ pub mod Begun
 pub mod Searched
 pub mod Following
 pub mod Deciding
+pub mod SameEdges

@@ -22,3 +22,16 @@ pub record IsJoined (before : List Label) (t : ℕ) (l new : Label) (after : Fac
 pub data IsFollowed (e : Edge) (before : Fact → Bool) : List Label → List Label → Type 0 where
   ends : (ls : List Label) → ((k : ℕ) → e.target ≡ node k → ⊥) → IsFollowed e before ls ls
   joins : (ls : List Label) (t : ℕ) (l new : Label) (after : Fact → Bool) → e.target ≡ node t → ((f : Fact) → after f ≡ held_after_edge e f (before f)) → IsJoined ls t l new after → IsFollowed e before ls (slice_set ls t new)
+
+-- One of these edges leads where this one leads, and makes and takes away the same.
+pub record IsLike (e : Edge) (es : List Edge) : Type 0 where
+  pub other : Edge
+  pub member : IsIn other es
+  pub target : other.target ≡ e.target
+  pub makes : other.makes ≡ e.makes
+  pub kills : other.kills ≡ e.kills
+
+-- an edge was followed, or it is like one of these and the labels are as before
+pub data IsPassed (e : Edge) (done : List Edge) (before : Fact → Bool) : List Label → List Label → Type 0 where
+  follows : (ls after : List Label) → IsFollowed e before ls after → IsPassed e done before ls after
+  like : (ls : List Label) → IsLike e done → IsPassed e done before ls ls

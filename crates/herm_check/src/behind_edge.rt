@@ -37,7 +37,7 @@ pub fn behind(alloc: Global, state: &State, edge: &Edge) -> Result<State, AllocE
     ensures { IfOk result (λ after. (f : model.Fact) → has_fact after f ≡ held_after_edge (edge_view edge.now) f (has_fact state.now f)) }
 {
     let mut after = state.copy(alloc)?;
-    kill_all(&mut after, edge.kills.as_slice());
-    make_all(alloc, &mut after, edge.makes.as_slice())?;
+    kill_all(&mut after, edge.kills());
+    make_all(alloc, &mut after, edge.makes())?;
     Ok(after)
 }

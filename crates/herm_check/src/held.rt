@@ -21,7 +21,7 @@ fn begins(first: &[u32], all: &[u32]) -> bool
     first == &all[..count]
 }
 
-fn is_same_path(a: &Path, b: &Path) -> bool
+pub fn is_same_path(a: &Path, b: &Path) -> bool
     ensures { result ≡ model.same_path (path_view a.now) (path_view b.now) }
 {
     a.var == b.var && a.parts.as_slice() == b.parts.as_slice()
@@ -89,10 +89,10 @@ fn is_value_made(makes: &[Fact], path: &Path) -> bool
 pub fn is_value_held_behind(edge: &Edge, path: &Path, held: bool) -> bool
     ensures { result ≡ held_after_edge (edge_view edge.now) (model.init (path_view path.now)) held }
 {
-    if is_value_made(edge.makes.as_slice(), path) {
+    if is_value_made(edge.makes(), path) {
         return true;
     }
-    let killed = is_killed(edge.kills.as_slice(), path);
+    let killed = is_killed(edge.kills(), path);
     if killed {
         return false;
     }
@@ -103,10 +103,10 @@ pub fn is_value_held_behind(edge: &Edge, path: &Path, held: bool) -> bool
 pub fn is_held_behind(edge: &Edge, fact: &Fact, held: bool) -> bool
     ensures { result ≡ held_after_edge (edge_view edge.now) (fact_view fact.now) held }
 {
-    if is_made(edge.makes.as_slice(), fact) {
+    if is_made(edge.makes(), fact) {
         return true;
     }
-    let killed = is_killed(edge.kills.as_slice(), path_of(fact));
+    let killed = is_killed(edge.kills(), path_of(fact));
     if killed {
         return false;
     }

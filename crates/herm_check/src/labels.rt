@@ -11,9 +11,10 @@ ghost use Rattle.herm_flow.specs.View.{edge_view, flow_view};
 ghost use Rattle.herm_check.specs.View.{labels_view};
 ghost use Rattle.herm_check.specs.Weights.{weight};
 ghost use Rattle.herm_check.specs.Labelled.{is_reached, is_pending, holds_at, all_facts, AreLabels, AreDone, IsLeft, LeadThere};
-ghost use Rattle.herm_check.specs.Followed.{IsFollowed};
+ghost use Rattle.herm_check.specs.Followed.{IsFollowed, IsPassed};
 ghost use Rattle.herm_typestate.specs.Facts.{has_fact};
 
+use crate::alike::is_like_one;
 use crate::behind_edge::behind;
 use crate::label::{Label, join};
 use herm_base::VarNo;
@@ -91,7 +92,26 @@ fn follow(alloc: Global, edge: &Edge, i: usize, labels: &mut Vec<Label>) -> Resu
     }
 }
 
-/// Follows each edge of a point.
+/// Follows an edge from the point at a place, unless it is found to be like one of those before it, which were followed.
+fn pass(
+    alloc: Global,
+    edge: &Edge,
+    before: &[Edge],
+    i: usize,
+    labels: &mut Vec<Label>,
+) -> Result<(), AllocError>
+    requires within { i < length labels.old.items }
+    requires there { IsThere (length labels.old.items) (edge_view edge.now).target }
+    ensures { OnOk result (IsPassed (edge_view edge.now) (map edge_view before.now) (holds_at labels.old.items i) labels.old.items labels.new.items) }
+{
+    if is_like_one(edge, before) {
+        return Ok(());
+    }
+    follow(alloc, edge, i, labels)?;
+    Ok(())
+}
+
+/// Carries what is held at a point along each of its edges. Edges that are alike carry the same.
 fn follow_all(
     alloc: Global,
     flow: &Flow,
@@ -106,8 +126,9 @@ fn follow_all(
     ensures less { OnOk result (weight (all_facts (flow_view flow.now)) labels.new.items ≤ weight (all_facts (flow_view flow.now)) labels.old.items) }
 {
     let point = &flow.points[i];
-    for edge in &point.edges {
-        follow(alloc, edge, i, labels)?;
+    let edges = point.edges.as_slice();
+    for k in 0..edges.len() {
+        pass(alloc, &edges[k], &edges[..k], i, labels)?;
     }
     Ok(())
 }

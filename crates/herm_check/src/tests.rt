@@ -4,10 +4,11 @@
 use super::ready::missing_in;
 use super::*;
 use herm_base::{ExcNo, StmtNo, VarNo};
-use herm_flow::{Edge, Flow, Point, Target};
+use herm_flow::{Change, Edge, Flow, Point, Target};
 use herm_typed::Outcome;
 use herm_types::{Fact, Path};
 use std::alloc::{AllocError, Global};
+use std::rc::Rc;
 use std::test::Fail;
 
 fn digit(byte: u8) -> u32 {
@@ -60,42 +61,52 @@ fn target_of(letter: u8) -> Target {
     }
 }
 
-fn push_change(alloc: Global, edge: &mut Edge, sign: u8, word: &[u8]) -> Result<(), AllocError> {
+fn push_change(
+    alloc: Global,
+    change: &mut Change,
+    sign: u8,
+    word: &[u8],
+) -> Result<(), AllocError> {
     if sign == b'+' {
         let fact = fact_of(alloc, word)?;
-        edge.makes.push(fact)?;
+        change.makes.push(fact)?;
     }
     if sign == b'-' {
         let path = path_of(alloc, word)?;
-        edge.kills.push(path)?;
+        change.kills.push(path)?;
     }
     Ok(())
 }
 
 fn edge_of(alloc: Global, text: &[u8]) -> Result<Edge, AllocError> {
-    let mut edge = Edge {
-        outcome: Outcome::Ok,
+    let mut outcome = Outcome::Ok;
+    let mut to = Target::End;
+    let mut change = Change {
         makes: Vec::new(alloc),
         kills: Vec::new(alloc),
-        to: Target::End,
     };
     let mut sign = b'?';
     let mut word: Vec<u8> = Vec::new(alloc);
     for byte in text {
         if sign == b'?' {
-            edge.outcome = outcome_of(*byte);
+            outcome = outcome_of(*byte);
             sign = b' ';
         } else if sign == b'>' {
-            edge.to = target_of(*byte);
+            to = target_of(*byte);
         } else if *byte == b'+' || *byte == b'-' || *byte == b'>' {
-            push_change(alloc, &mut edge, sign, word.as_slice())?;
+            push_change(alloc, &mut change, sign, word.as_slice())?;
             sign = *byte;
             word.clear();
         } else {
             word.push(*byte)?;
         }
     }
-    Ok(edge)
+    let change = Rc::new(alloc, change)?;
+    Ok(Edge {
+        outcome,
+        change,
+        to,
+    })
 }
 
 fn point_of(alloc: Global, number: u32, text: &str) -> Result<Point, AllocError> {

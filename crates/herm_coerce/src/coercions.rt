@@ -101,7 +101,7 @@ fn are_made_at_point(labels: &Labels, edge: &Edge, at: u32) -> bool
     let Some(low) = labels.at.as_slice().get(at as usize) else {
         return false;
     };
-    are_made_in(low, edge.makes.as_slice())
+    are_made_in(low, edge.makes())
 }
 
 /// Whether each of the facts, and each that the edge makes, is in the low set. Then all that is held behind the edge is in it. Where
@@ -109,7 +109,7 @@ fn are_made_at_point(labels: &Labels, edge: &Edge, at: u32) -> bool
 fn has_all_behind(low: &State, state: &State, edge: &Edge) -> bool
     ensures { IsTrue result → (f : model.Fact) → held_after_edge (edge_view edge.now) f (has_fact state.now f) ≡ true → has_fact low.now f ≡ true }
 {
-    if !are_made_in(low, edge.makes.as_slice()) {
+    if !are_made_in(low, edge.makes()) {
         return false;
     }
     state.is_below(low)
@@ -139,7 +139,7 @@ fn is_carried(state: &State, labels: &Labels, edge: &Edge) -> bool
 fn are_made_at(labels: &Labels, edge: &Edge) -> bool
     ensures { IsTrue result → (f : model.Fact) → any_pass (model.same_fact f) (edge_view edge.now).makes ≡ true → label_at (labels_view labels.now) (target_view edge.now.to) f ≡ true }
 {
-    if edge.makes.is_empty() {
+    if edge.makes().is_empty() {
         return true;
     }
     let Target::Point(at) = edge.to else {
@@ -206,7 +206,7 @@ fn left_behind(
     ensures { IfOk result (λ paths. IsDropped (labels_view labels.now) (has_fact state.now) (edge_view edge.now) (map path_view paths.items)) }
 {
     let before = beyond(alloc, state, labels, edge.to)?;
-    if are_made_in(state, edge.makes.as_slice()) && are_held(edge, before.as_slice()) {
+    if are_made_in(state, edge.makes()) && are_held(edge, before.as_slice()) {
         return Ok(before);
     }
     if are_made_at(labels, edge) {
@@ -222,7 +222,7 @@ const FEW: usize = 8;
 
 /// Whether the edge makes and takes away so little that each path may be compared with all of it.
 fn changes_little(edge: &Edge) -> bool {
-    edge.makes.len() <= FEW && edge.kills.len() <= FEW
+    edge.makes().len() <= FEW && edge.kills().len() <= FEW
 }
 
 /// What an edge finalises, where these facts are held before it. Where it is found to finalise nothing, no fact is looked for.

@@ -11,3 +11,4 @@ pub mod KnownTypes
 pub mod Rising
 pub mod Marks
 pub mod KeptEdges
+pub mod Alike

@@ -1,6 +1,6 @@
 -- The edges of a statement, from its outcomes in order.
-use Rattle.std.specs.Prelude.{ℕ, List, [], ◌∷◌, ◌++◌, map, Option, Some, None}
-use Rattle.herm_model.specs.Lists.{list_of}
+use Rattle.std.specs.Prelude.{◌≡◌, ℕ, List, [], ◌∷◌, ◌++◌, map, Option, Some, None}
+use Rattle.herm_model.specs.Lists.{list_of, IsIn}
 use Rattle.herm_model.specs.Types.{TypeTable}
 use Rattle.herm_model.specs.Outcomes.{Outcome, raised}
 use Rattle.herm_model.specs.Targets.{Target}
@@ -52,3 +52,7 @@ point_at table variables form number leads catches = record {
   needs = list_of (needs table variables) (form_of_statement (typed_form_view form));
   edges = map (edge_at table variables form) (exits_from (outcomes_of table variables form) leads catches);
 }
+
+-- Each of these edges is that of its outcome.
+abbrev pub AreEdgesOf : TypeTable → List ℕ → TypedForm → List Edge → Type 0
+AreEdgesOf table variables form es = (e : Edge) → IsIn e es → e ≡ edge_at table variables form (an_exit e.outcome e.target)

@@ -22,7 +22,7 @@ abbrev pub catch_view : Catch → handlers.Catch
 catch_view c = record { exception = c.exception.0; target = target_view c.target }
 
 abbrev pub edge_view : Edge → paths.Edge
-edge_view e = record { outcome = outcome_view e.outcome; makes = map fact_view e.makes.items; kills = map path_view e.kills.items; target = target_view e.to }
+edge_view e = record { outcome = outcome_view e.outcome; makes = map fact_view e.change.value.makes.items; kills = map path_view e.change.value.kills.items; target = target_view e.to }
 
 abbrev pub point_view : Point → paths.Point
 point_view p = record { number = p.stmt.0; needs = map fact_view p.needs.items; edges = map edge_view p.edges.items }

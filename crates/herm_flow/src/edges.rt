@@ -6,16 +6,17 @@ ghost use Rattle.herm_typed.specs.View.{outcome_view};
 ghost use Rattle.herm_typed.specs.Outcomes.{KnowsOutcomes, outcomes_of};
 ghost use Rattle.herm_judge.specs.View.{table_of, variables_of};
 ghost use Rattle.herm_flow.specs.View.{target_view, catch_view, edge_view, point_view};
-ghost use Rattle.herm_flow.specs.Edges.{raised_in, exit_of, left_of, exits_from, an_exit, edge_at, point_at};
+ghost use Rattle.herm_flow.specs.Edges.{raised_in, exit_of, left_of, exits_from, an_exit, edge_at, point_at, AreEdgesOf};
 ghost use Rattle.herm_flow.specs.Kept.{is_kept as is_edge_kept, is_exit_kept, kept as kept_of};
 ghost use Rattle.herm_model.specs.Targets.{Target as TargetOf};
 
 use crate::calls::call_outcomes;
+use crate::changes::change_of;
 use crate::flow::{Edge, Point, Target};
 use crate::kept::{Kept, is_kept};
 use crate::starts::Catch;
 use herm_base::{ExcNo, StmtNo};
-use herm_effects::{kills_of, makes_of, needs_of};
+use herm_effects::needs_of;
 use herm_judge::Frame;
 use herm_typed::{Outcome, TypedForm, TypedStmt, outcomes};
 use std::alloc::{AllocError, Global};
@@ -58,18 +59,17 @@ fn push_edge(
     kept: Kept,
     edges: &mut Vec<Edge>,
 ) -> Result<(), AllocError>
+    requires edges { AreEdgesOf (table_of frame.now) (variables_of frame.now) form.now (map edge_view edges.old.items) }
     ensures edges { IfOk result (λ u. map edge_view edges.new.items ≡ map edge_view edges.old.items ++ filter (is_edge_kept kept) (edge_at (table_of frame.now) (variables_of frame.now) form.now (an_exit (outcome_view outcome) (target_view to)) ∷ [])) }
 {
     let is_wanted = is_kept(kept, to);
     if !is_wanted {
         return Ok(());
     }
-    let makes = makes_of(alloc, frame, form, outcome)?;
-    let kills = kills_of(alloc, frame, form, outcome)?;
+    let change = change_of(alloc, frame, form, outcome, edges.as_slice())?;
     edges.push(Edge {
         outcome,
-        makes,
-        kills,
+        change,
         to,
     })?;
     Ok(())
@@ -88,6 +88,7 @@ fn follow(
     kept: Kept,
     edges: &mut Vec<Edge>,
 ) -> Result<usize, AllocError>
+    requires edges { AreEdgesOf (table_of frame.now) (variables_of frame.now) form.now (map edge_view edges.old.items) }
     ensures edges { IfOk result (λ n. map edge_view edges.new.items ≡ map edge_view edges.old.items ++ filter (is_edge_kept kept) (map (edge_at (table_of frame.now) (variables_of frame.now) form.now) (exit_of (outcome_view outcome) (raised_in (outcome_view outcome)) (map target_view (drop taken leads.now)) (map catch_view catches.now)))) }
     ensures left { IfOk result (λ n. map target_view (drop n leads.now) ≡ left_of (raised_in (outcome_view outcome)) (map target_view (drop taken leads.now))) }
 {

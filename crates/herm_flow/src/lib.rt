@@ -2,6 +2,7 @@
 #![tactic(auto)]
 
 mod calls;
+mod changes;
 mod counts;
 mod edges;
 mod flow;
@@ -11,5 +12,5 @@ mod process;
 mod starts;
 mod walk;
 
-pub use flow::{Edge, Flow, Point, Target};
+pub use flow::{Change, Edge, Flow, Point, Target};
 pub use process::{flow_of, onward_flow_of};

@@ -4,8 +4,8 @@ use Rattle.herm_check.specs.Weights.{weight}
 use Rattle.herm_check.specs.Labelled.{all_facts, IsLeft}
 use Rattle.herm_check.proofs.labels.follow_all.Given as goal
 
-abbrev pub invariant-loop-edge : goal.invariant-loop-edge
-invariant-loop-edge l = record {
-  left : IsLeft (flow_view l.flow) l.i (map edge_view (take l.edge-index l.edge-items)) l.labels.items;
+abbrev pub invariant-loop-k : goal.invariant-loop-k
+invariant-loop-k l = record {
+  left : IsLeft (flow_view l.flow) l.i (map edge_view (take l.k l.edges)) l.labels.items;
   less : weight (all_facts (flow_view l.flow)) l.labels.items ≤ weight (all_facts (flow_view l.flow)) l.initial.labels.items;
 }

@@ -10,4 +10,4 @@ use Rattle.herm_coerce.proofs.coercions.has_all_behind.Goals as goal
 pub returns : goal.returns
 returns c = λ t.
     all-behind (edge_view c.args.edge.now) (has_fact c.args.low.now) (has_fact c.args.state.now)
-    (λ f h. c.are_made_in.ensures c.if-not-are_made_in.false f (ap (λ xs. any_pass (same_fact f) (map fact_view xs)) c.as_slice.ensures.value ∙ h)) (c.is_below.ensures.below t)
+    (λ f h. c.are_made_in.ensures c.if-not-are_made_in.false f (ap (λ xs. any_pass (same_fact f) (map fact_view xs)) c.makes.ensures.makes ∙ h)) (c.is_below.ensures.below t)

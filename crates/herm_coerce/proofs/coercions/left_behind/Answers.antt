@@ -17,8 +17,8 @@ returns-then-are_held c =
     let before = has_fact c.args.state.now in
     let low = label_at (labels_view c.args.labels.now) (target_view c.args.edge.now.to) in
     let xs = map path_view c.in_ok-before.before.items in
-    let held : (x : Path) → IsIn x xs → kept e x ≡ true = λ x m. c.are_held.ensures c.if-are_held.true x (subst (λ ys. IsIn x (map path_view ys)) (sym c.as_slice-then-are_made_in.ensures.value) m) in
-    let made : (f : Fact) → any_pass (same_fact f) e.makes ≡ true → before f ≡ true = λ f h. c.are_made_in.ensures c.if-are_made_in.true f (ap (λ ys. any_pass (same_fact f) (map fact_view ys)) c.as_slice.ensures.value ∙ h) in
+    let held : (x : Path) → IsIn x xs → kept e x ≡ true = λ x m. c.are_held.ensures c.if-are_held.true x (subst (λ ys. IsIn x (map path_view ys)) (sym c.as_slice.ensures.value) m) in
+    let made : (f : Fact) → any_pass (same_fact f) e.makes ≡ true → before f ≡ true = λ f h. c.are_made_in.ensures c.if-are_made_in.true f (ap (λ ys. any_pass (same_fact f) (map fact_view ys)) c.makes.ensures.makes ∙ h) in
     subst (IsExcess (behind_edge before e) low) (filter-all (kept e) xs held)
     (left-behind e low before xs c.in_ok-before.ensures (λ f m l. made f m) (λ z m k. absurd (true≢false (sym (held z m) ∙ k))))
 

@@ -1,0 +1,24 @@
+-- Lists that are the same one by one, and edges that are alike.
+use Rattle.std.proofs.Common.{◌≡◌, ℕ, ◌+◌, ◌<◌, List, [], ◌∷◌, ◌++◌, map, take, length, get_or, refl, sym, ap, ap₂, ◌∙◌}
+use Rattle.std.proofs.lemmas.List.{map_more}
+use Rattle.std.proofs.lemmas.Option.{slice_get_read}
+use Rattle.herm_model.proofs.Lists.{in-map}
+use Rattle.herm_model.proofs.FactTests.{got-IsIn}
+use Rattle.herm_flow.specs.declared.flow.Edge.{Edge}
+use Rattle.herm_flow.specs.View.{edge_view}
+use Rattle.herm_check.specs.Followed.{IsLike}
+
+pub same-more : {X Y : Type 0} (view : X → Y) (xs ys : List X) (i : ℕ) (a b : X) → i < length xs → i < length ys → a ≡ get_or xs i a → b ≡ get_or ys i b → map view (take i xs) ≡ map view (take i ys) → view a ≡ view b → map view (take (i + 1) xs) ≡ map view (take (i + 1) ys)
+same-more view xs ys i a b in-xs in-ys at-a at-b so_far same =
+    map_more view xs i a in-xs
+    ∙ (ap₂ (λ vs v. vs ++ v ∷ []) so_far (ap view (sym at-a) ∙ (same ∙ ap view at-b))
+    ∙ sym (map_more view ys i b in-ys))
+
+pub like-one : (edge other : Edge) (others : List Edge) (i : ℕ) → i < length others → other ≡ get_or others i other → (edge_view other).target ≡ (edge_view edge).target → (edge_view other).makes ≡ (edge_view edge).makes → (edge_view other).kills ≡ (edge_view edge).kills → IsLike (edge_view edge) (map edge_view others)
+like-one edge other others i within is to made gone = record {
+  other = edge_view other;
+  member = in-map edge_view other others (got-IsIn others i other (slice_get_read others (length others) i other refl within is));
+  target = to;
+  makes = made;
+  kills = gone;
+}
