@@ -10,3 +10,4 @@ pub mod Ranged
 pub mod Trimmed
 pub mod HeldHere
 pub mod SelectSeen
+pub mod Edges

@@ -20,6 +20,10 @@ number_of (raised e) = e
 abbrev pub LeadFrom : (all left : Exits) → (number : ℕ) → Type 0
 LeadFrom all left number = (o : Outcome) → number ≤ number_of o → exits_view left o ≡ exits_view all o
 
+-- outcomes from this number on lead to indices that do not fit into 32 bits
+abbrev pub LeadTooFar : (all : Exits) → (number : ℕ) → Type 0
+LeadTooFar all number = (o : Outcome) → number ≤ number_of o → 4294967296 ≤ exits_view all o
+
 abbrev pub IsAlong : Exits → Walk → Type 0
 IsAlong all walk = LeadFrom all walk.left walk.number
 

@@ -1,5 +1,5 @@
 //! Edges of control: what each drops, and where it arrives.
-ghost use Rattle.std.specs.Prelude.{◌≡◌, ◌++◌, ◌∷◌, [], ℕ, map, IfOk, OnOk};
+ghost use Rattle.std.specs.Prelude.{◌≡◌, ◌≤◌, ◌++◌, ◌∷◌, [], ℕ, map, MatchResult, OnOk};
 ghost use Rattle.herm_model.specs.Outcomes.{same_outcome};
 ghost use Rattle.herm_types.specs.View.{path_view};
 ghost use Rattle.herm_typed.specs.View.{outcome_view};
@@ -7,6 +7,7 @@ ghost use Rattle.herm_instructions.specs.Instructions as model;
 ghost use Rattle.herm_code.specs.View.{instr_view};
 ghost use Rattle.herm_translated.specs.Departures.{arrive_by, edge_code, edge_length};
 ghost use Rattle.herm_fronts.specs.Blocks.{arrival_view, departure_view, exits_view, starts_view};
+ghost use Rattle.herm_fronts.specs.Lengths.{index_in};
 
 use crate::numbers::{small, sum};
 use crate::paths::copy_path;
@@ -54,9 +55,9 @@ pub struct Starts {
 /// How far behind its first step the second step of a `for` stands.
 pub const SECOND_STEP: u32 = 3;
 
-/// How many instructions an edge has.
+/// How many instructions an edge has; refused only where the number does not fit.
 pub fn edge_length(d: &Departure<'_>) -> Result<u32, AllocError>
-    ensures { IfOk result (λ n. n ≡ edge_length (departure_view d.now)) }
+    ensures { MatchResult result (λ n. n ≡ edge_length (departure_view d.now)) (λ e. 4294967296 ≤ edge_length (departure_view d.now)) }
 {
     let drops = small(d.drops.len())?;
     let slots = small(d.slots.len())?;
@@ -82,17 +83,20 @@ fn is_same(a: Outcome, b: Outcome) -> bool
     }
 }
 
-/// The index at which the edge of an outcome begins.
+/// The index at which the edge of an outcome begins; refused only where it does not fit.
+#[tactic(auto, using(crate::proofs::Edges::edge_at_least))]
 pub fn exit_at(exits: &Exits<'_>, o: Outcome) -> Result<u32, AllocError>
-    ensures { IfOk result (λ n. n ≡ exits_view exits.now (outcome_view o)) }
+    ensures { MatchResult result (λ n. n ≡ exits_view exits.now (outcome_view o)) (λ e. 4294967296 ≤ exits_view exits.now (outcome_view o)) }
 {
     let mut at = exits.first;
-    'edges: for d in exits.edges {
+    let mut edges = exits.edges;
+    'edges: while let [d, more @ ..] = edges {
         if is_same(d.outcome, o) {
             return Ok(at);
         }
         let length = edge_length(d)?;
         at = sum(at, length)?;
+        edges = more;
     }
     Ok(at)
 }
@@ -107,9 +111,9 @@ fn start_of(starts: &Starts, node: u32) -> u32
     }
 }
 
-/// The last instruction of an edge.
+/// The last instruction of an edge; refused only where the index that it goes to does not fit.
 fn arrive(starts: &Starts, arrival: Arrival) -> Result<Instr, AllocError>
-    ensures { IfOk result (λ i. instr_view i ≡ arrive_by (starts_view starts.now) (arrival_view arrival)) }
+    ensures { MatchResult result (λ i. instr_view i ≡ arrive_by (starts_view starts.now) (arrival_view arrival)) (λ e. 4294967296 ≤ index_in (arrive_by (starts_view starts.now) (arrival_view arrival))) }
 {
     match arrival {
         Arrival::Block(node) => Ok(Instr::Jump(start_of(starts, node))),

@@ -1,10 +1,10 @@
 //! Where the edges of several outcomes begin, found in one pass over the edges.
-ghost use Rattle.std.specs.Prelude.{◌≡◌, ◌<◌, ℕ, None, map, length, get_or, IfOk, OnOk};
+ghost use Rattle.std.specs.Prelude.{◌≡◌, ◌<◌, ◌≤◌, ℕ, None, map, length, get_or, IfOk, MatchResult, OnOk};
 ghost use Rattle.herm_model.specs.Lists.{map_or, range};
 ghost use Rattle.herm_model.specs.Outcomes.{component, same_outcome};
 ghost use Rattle.herm_typed.specs.View.{outcome_view};
 ghost use Rattle.herm_fronts.specs.Blocks.{exits_view, landings_view, landing_to};
-ghost use Rattle.herm_fronts.specs.Exits.{number_of, LeadFrom, IsAlong, noted};
+ghost use Rattle.herm_fronts.specs.Exits.{number_of, LeadFrom, LeadTooFar, IsAlong, noted};
 
 use crate::departures::{Exits, edge_length, exit_at};
 use crate::numbers::sum;
@@ -35,9 +35,11 @@ fn number_of(o: Outcome) -> u32
     }
 }
 
-/// Edges without the first ones, as long as their numbers are below this one.
+/// Edges without the first ones, as long as their numbers are below this one; refused only where those that are left begin at an index that
+/// does not fit.
+#[tactic(auto, using(crate::proofs::Edges::edge_at_least))]
 fn from_number<'a>(exits: &Exits<'a>, number: u32) -> Result<Exits<'a>, AllocError>
-    ensures { IfOk result (λ e. LeadFrom exits.now e number) }
+    ensures { MatchResult result (λ e. LeadFrom exits.now e number) (λ e. LeadTooFar exits.now number) }
 {
     let mut first = exits.first;
     let mut edges = exits.edges;
@@ -65,7 +67,7 @@ pub fn walk_along<'a>(exits: &Exits<'a>) -> Walk<'a>
 /// The walk that goes on to the edges of an outcome, or begins again where it is past them.
 fn walk_to<'a>(exits: &Exits<'a>, walk: &Walk<'a>, o: Outcome) -> Result<Walk<'a>, AllocError>
     requires along { IsAlong exits.now walk.now }
-    ensures along { IfOk result (λ w. IsAlong exits.now w) }
+    ensures along { MatchResult result (λ w. IsAlong exits.now w) (λ e. LeadTooFar exits.now (number_of (outcome_view o))) }
     ensures number { IfOk result (λ w. w.number ≡ number_of (outcome_view o)) }
 {
     let number = number_of(o);
@@ -77,10 +79,11 @@ fn walk_to<'a>(exits: &Exits<'a>, walk: &Walk<'a>, o: Outcome) -> Result<Walk<'a
     Ok(Walk { left, number })
 }
 
-/// The index at which the edge of an outcome begins. Where outcomes come by rising numbers, a walk passes no edge twice.
+/// The index at which the edge of an outcome begins; refused only where it does not fit. Where outcomes come by rising numbers, a walk passes
+/// no edge twice.
 pub fn next_exit<'a>(exits: &Exits<'a>, walk: &mut Walk<'a>, o: Outcome) -> Result<u32, AllocError>
     requires along { IsAlong exits.now walk.old }
-    ensures index { IfOk result (λ n. n ≡ exits_view exits.now (outcome_view o)) }
+    ensures index { MatchResult result (λ n. n ≡ exits_view exits.now (outcome_view o)) (λ e. 4294967296 ≤ exits_view exits.now (outcome_view o)) }
     ensures along { OnOk result (IsAlong exits.now walk.new) }
 {
     *walk = walk_to(exits, walk, o)?;

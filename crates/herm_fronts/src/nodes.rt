@@ -1,5 +1,5 @@
 //! The nodes of a process: its statements other than `try`, in the order of the text, and its loops.
-ghost use Rattle.std.specs.Prelude.{◌≡◌, ◌++◌, ◌∷◌, [], OnOk, IfOk, map};
+ghost use Rattle.std.specs.Prelude.{◌≡◌, ◌+◌, ◌≤◌, ◌++◌, ◌∷◌, [], OnOk, OnErr, IfOk, map};
 ghost use Rattle.herm_typed.specs.View.{typed_form_view, typed_stmts_view};
 ghost use Rattle.herm_typed.specs.declared.statements.TypedStmt.{out-TypedStmt};
 ghost use Rattle.herm_typed.specs.Blocks.{case_blocks, select_blocks, else_block, handlers_list};
@@ -26,9 +26,10 @@ pub struct Found<'a> {
     pub next: u32,
 }
 
-/// A statement takes a number.
+/// A statement takes a number; refused only where there is no further one.
 fn count(found: &mut Found<'_>) -> Result<(), AllocError>
-    ensures { OnOk result (found_view found.new ≡ counted (found_view found.old)) }
+    ensures counted { OnOk result (found_view found.new ≡ counted (found_view found.old)) }
+    ensures refused { OnErr result (4294967296 ≤ found.old.next + 1) }
 {
     found.next = sum(found.next, 1)?;
     Ok(())

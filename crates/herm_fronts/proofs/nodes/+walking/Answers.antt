@@ -78,4 +78,4 @@ walk_form-walk_handled-requires t c =
 pub walk_form-returns-in_ok-walk_handled-in-Try : goal.walk_form-returns-in_ok-walk_handled-in-Try
 walk_form-returns-in_ok-walk_handled-in-Try t c =
     tried c.args.form.now (Try c.in-Try.body c.in-Try.handled) _ _ _ _ _ _ c.in-Try.is (try_view c.in-Try.body c.in-Try.handled ∙ ap₂ (λ xs ys. trying (typed_stmts_view xs) (handlers_list ys)) (sym c.as_slice-in-Try.ensures.value) (sym c.as_slice-in-Try-2.ensures.value))
-    c.in_ok-count-in-Try.ensures c.in_ok-walk_all-in-Try.ensures c.in_ok-walk_handled-in-Try.ensures
+    c.in_ok-count-in-Try.ensures.counted c.in_ok-walk_all-in-Try.ensures c.in_ok-walk_handled-in-Try.ensures
