@@ -1,5 +1,5 @@
 -- What is held of the variables by a test for facts: which facts, in order, and what of it is left over.
-use Rattle.std.specs.Prelude.{ℕ, zero, suc, List, [], ◌∷◌, ◌++◌, flat_map, Bool, true, false, not, ◌&&◌, ◌||◌, cond, slice_get}
+use Rattle.std.specs.Prelude.{◌≡◌, Option, ℕ, zero, suc, List, [], ◌∷◌, ◌++◌, flat_map, Bool, true, false, not, ◌&&◌, ◌||◌, cond, slice_get}
 use Rattle.herm_base.specs.declared.numbers.TypeNo.{TypeNo}
 use Rattle.herm_model.specs.Lists.{list_of, numbered}
 use Rattle.herm_model.specs.Paths.{Path, Fact, init, case}
@@ -12,6 +12,11 @@ part_view p = (p.0, p.1.0)
 abbrev pub component_parts : Shape → List (ℕ × ℕ)
 component_parts (cases ts) = numbered 0 ts
 component_parts s = []
+
+-- a type with neither parts nor components
+pub record IsPlain (shape : Option Shape) : Type 0 where
+  pub parts : list_of held_parts shape ≡ []
+  pub components : list_of component_parts shape ≡ []
 
 -- there is a value at the path that does not stay
 abbrev pub is_value_left : (here kept : Fact → Bool) → Path → Bool

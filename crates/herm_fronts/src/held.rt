@@ -8,7 +8,7 @@ ghost use Rattle.herm_fronts.specs.Held.{part_view, held_from, held_inside, held
 
 use crate::frame::Frame;
 use crate::numbers::small;
-use crate::parts::{GREATEST_DEPTH, component_parts, held_parts};
+use crate::parts::{GREATEST_DEPTH, component_parts, held_parts, is_plain};
 use crate::paths::{copy_path, part_path};
 use herm_base::{TypeNo, VarNo};
 use herm_types::{Fact, Path, TypeTable};
@@ -16,9 +16,9 @@ use herm_typestate::State;
 use std::alloc::{AllocError, Global};
 
 /// A path of a type, and whether it passes through a component.
-#[derive(Clone, Copy)]
-pub struct Place<'a> {
-    pub path: &'a Path,
+#[derive(Drop)]
+pub struct Place {
+    pub path: Path,
     pub of: TypeNo,
     pub within: bool,
 }
@@ -39,6 +39,18 @@ fn case_of(alloc: Global, p: &Path, component: u32) -> Result<Fact, AllocError>
     Ok(Fact::Case(path, component))
 }
 
+/// Appends that there is a value at a path, where it is held.
+fn push_value(state: &State, path: Path, out: &mut Vec<Fact>) -> Result<(), AllocError>
+    ensures { OnOk result (map fact_view out.new.items ≡ map fact_view out.old.items ++ cond (has_fact state.now (paths.init (path_view path))) (paths.init (path_view path) ∷ []) []) }
+{
+    let fact = Fact::Init(path);
+    if !state.holds(&fact) {
+        return Ok(());
+    }
+    out.push(fact)?;
+    Ok(())
+}
+
 /// Appends what is held at a path of a type and below it.
 #[cycle(holding)]
 fn push_held(
@@ -46,24 +58,28 @@ fn push_held(
     types: &TypeTable,
     state: &State,
     depth: u32,
-    at: &Place<'_>,
+    at: Place,
     out: &mut Vec<Fact>,
 ) -> Result<(), AllocError>
-    ensures { OnOk result (map fact_view out.new.items ≡ map fact_view out.old.items ++ held_from types.now.shapes (has_fact state.now) depth at.now.within at.now.of.0 (path_view at.now.path.now)) }
+    ensures { OnOk result (map fact_view out.new.items ≡ map fact_view out.old.items ++ held_from types.now.shapes (has_fact state.now) depth at.within at.of.0 (path_view at.path)) }
 {
     if depth == 0 {
         return Ok(());
     }
     if at.within {
-        push_inside(alloc, types, state, depth - 1, at, out)?;
+        push_inside(alloc, types, state, depth - 1, &at, out)?;
         return Ok(());
     }
-    let fact = init_of(alloc, at.path)?;
+    if is_plain(types, at.of) {
+        push_value(state, at.path, out)?;
+        return Ok(());
+    }
+    let fact = init_of(alloc, &at.path)?;
     if !state.holds(&fact) {
         return Ok(());
     }
     out.push(fact)?;
-    push_inside(alloc, types, state, depth - 1, at, out)?;
+    push_inside(alloc, types, state, depth - 1, &at, out)?;
     Ok(())
 }
 
@@ -74,10 +90,10 @@ fn push_inside(
     types: &TypeTable,
     state: &State,
     depth: u32,
-    at: &Place<'_>,
+    at: &Place,
     out: &mut Vec<Fact>,
 ) -> Result<(), AllocError>
-    ensures { OnOk result (map fact_view out.new.items ≡ map fact_view out.old.items ++ held_inside types.now.shapes (has_fact state.now) depth at.now.within at.now.of.0 (path_view at.now.path.now)) }
+    ensures { OnOk result (map fact_view out.new.items ≡ map fact_view out.old.items ++ held_inside types.now.shapes (has_fact state.now) depth at.now.within at.now.of.0 (path_view at.now.path)) }
 {
     let parts = held_parts(alloc, types, at.of)?;
     push_parts(alloc, types, state, depth, at, parts.as_slice(), out)?;
@@ -93,20 +109,19 @@ fn push_parts(
     types: &TypeTable,
     state: &State,
     depth: u32,
-    at: &Place<'_>,
+    at: &Place,
     parts: &[(u32, TypeNo)],
     out: &mut Vec<Fact>,
 ) -> Result<(), AllocError>
-    ensures { OnOk result (map fact_view out.new.items ≡ map fact_view out.old.items ++ flat_map (λ part. held_from types.now.shapes (has_fact state.now) depth at.now.within part.1 (path_view at.now.path.now ++ part.0 ∷ [])) (map part_view parts.now)) }
+    ensures { OnOk result (map fact_view out.new.items ≡ map fact_view out.old.items ++ flat_map (λ part. held_from types.now.shapes (has_fact state.now) depth at.now.within part.1 (path_view at.now.path ++ part.0 ∷ [])) (map part_view parts.now)) }
 {
     'parts: for (place, t) in parts {
-        let path = part_path(alloc, at.path, *place)?;
         let part = Place {
-            path: &path,
+            path: part_path(alloc, &at.path, *place)?,
             of: *t,
             within: at.within,
         };
-        push_held(alloc, types, state, depth, &part, out)?;
+        push_held(alloc, types, state, depth, part, out)?;
     }
     Ok(())
 }
@@ -118,11 +133,11 @@ fn push_components(
     types: &TypeTable,
     state: &State,
     depth: u32,
-    at: &Place<'_>,
+    at: &Place,
     parts: &[(u32, TypeNo)],
     out: &mut Vec<Fact>,
 ) -> Result<(), AllocError>
-    ensures { OnOk result (map fact_view out.new.items ≡ map fact_view out.old.items ++ flat_map (λ part. cond (has_fact state.now (paths.case (path_view at.now.path.now) part.0)) (paths.case (path_view at.now.path.now) part.0 ∷ held_from types.now.shapes (has_fact state.now) depth true part.1 (path_view at.now.path.now ++ part.0 ∷ [])) []) (map part_view parts.now)) }
+    ensures { OnOk result (map fact_view out.new.items ≡ map fact_view out.old.items ++ flat_map (λ part. cond (has_fact state.now (paths.case (path_view at.now.path) part.0)) (paths.case (path_view at.now.path) part.0 ∷ held_from types.now.shapes (has_fact state.now) depth true part.1 (path_view at.now.path ++ part.0 ∷ [])) []) (map part_view parts.now)) }
 {
     'components: for (place, t) in parts {
         push_component(alloc, types, state, depth, at, *place, *t, out)?;
@@ -137,25 +152,24 @@ fn push_component(
     types: &TypeTable,
     state: &State,
     depth: u32,
-    at: &Place<'_>,
+    at: &Place,
     place: u32,
     t: TypeNo,
     out: &mut Vec<Fact>,
 ) -> Result<(), AllocError>
-    ensures { OnOk result (map fact_view out.new.items ≡ map fact_view out.old.items ++ cond (has_fact state.now (paths.case (path_view at.now.path.now) place)) (paths.case (path_view at.now.path.now) place ∷ held_from types.now.shapes (has_fact state.now) depth true t.0 (path_view at.now.path.now ++ place ∷ [])) []) }
+    ensures { OnOk result (map fact_view out.new.items ≡ map fact_view out.old.items ++ cond (has_fact state.now (paths.case (path_view at.now.path) place)) (paths.case (path_view at.now.path) place ∷ held_from types.now.shapes (has_fact state.now) depth true t.0 (path_view at.now.path ++ place ∷ [])) []) }
 {
-    let fact = case_of(alloc, at.path, place)?;
+    let fact = case_of(alloc, &at.path, place)?;
     if !state.holds(&fact) {
         return Ok(());
     }
     out.push(fact)?;
-    let path = part_path(alloc, at.path, place)?;
     let part = Place {
-        path: &path,
+        path: part_path(alloc, &at.path, place)?,
         of: t,
         within: true,
     };
-    push_held(alloc, types, state, depth, &part, out)?;
+    push_held(alloc, types, state, depth, part, out)?;
     Ok(())
 }
 
@@ -171,17 +185,17 @@ fn held_through(
     let mut out = Vec::with_capacity(alloc, 8)?;
     'variables: for (number, t) in frame.of.iter().enumerate() {
         let number = small(number)?;
-        let path = Path {
-            var: VarNo(number),
-            parts: Vec::new(alloc),
-        };
         let at = Place {
-            path: &path,
+            path: Path {
+                var: VarNo(number),
+                parts: Vec::new(alloc),
+            },
             of: *t,
             within: false,
         };
-        push_held(alloc, frame.types, state, depth, &at, &mut out)?;
+        push_held(alloc, frame.types, state, depth, at, &mut out)?;
     }
+    out.shrink_to_fit();
     Ok(out)
 }
 

@@ -1,9 +1,9 @@
 //! The parts of types.
-ghost use Rattle.std.specs.Prelude.{◌≡◌, ◌++◌, map, slice_get, IfOk};
+ghost use Rattle.std.specs.Prelude.{◌≡◌, ◌++◌, map, slice_get, IfOk, IsTrue};
 ghost use Rattle.herm_model.specs.Lists.{list_of, numbered};
 ghost use Rattle.herm_model.specs.Types.{held_parts};
 ghost use Rattle.herm_types.specs.View.{param_view};
-ghost use Rattle.herm_fronts.specs.Held.{part_view, component_parts};
+ghost use Rattle.herm_fronts.specs.Held.{part_view, component_parts, IsPlain};
 
 use crate::numbers::small;
 use crate::shapes::shape_of;
@@ -50,6 +50,21 @@ pub fn held_parts(
             Shape::Fields(parts) => numbered_parts(alloc, parts.as_slice()),
             Shape::CallMessage { params, raises: _ } => numbered_params(alloc, params.as_slice()),
             _ => Ok(Vec::new(alloc)),
+        },
+    }
+}
+
+/// Whether a type has neither parts nor components.
+pub fn is_plain(types: &TypeTable, t: TypeNo) -> bool
+    ensures { IsTrue result → IsPlain (slice_get types.now.shapes t.0) }
+{
+    match shape_of(types, t) {
+        None => true,
+        Some(shape) => match shape {
+            Shape::Fields(_) => false,
+            Shape::CallMessage { .. } => false,
+            Shape::Cases(_) => false,
+            _ => true,
         },
     }
 }

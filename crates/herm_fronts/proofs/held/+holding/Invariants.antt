@@ -8,13 +8,13 @@ use Rattle.herm_fronts.proofs.held.+holding.Given as goal
 -- Each invariant: what was pushed so far, joined with what is left, is the whole.
 abbrev pub invariant-push_parts-parts : goal.invariant-push_parts-parts
 invariant-push_parts-parts l =
-    map fact_view l.out.items ++ flat_map (λ part. held_from l.types.shapes (has_fact l.state) l.depth l.at.within part.1 (path_view l.at.path.now ++ part.0 ∷ [])) (map part_view (drop l.place-index l.parts))
-    ≡ map fact_view l.fn.out.items ++ flat_map (λ part. held_from l.types.shapes (has_fact l.state) l.depth l.at.within part.1 (path_view l.at.path.now ++ part.0 ∷ [])) (map part_view l.parts)
+    map fact_view l.out.items ++ flat_map (λ part. held_from l.types.shapes (has_fact l.state) l.depth l.at.within part.1 (path_view l.at.path ++ part.0 ∷ [])) (map part_view (drop l.place-index l.parts))
+    ≡ map fact_view l.fn.out.items ++ flat_map (λ part. held_from l.types.shapes (has_fact l.state) l.depth l.at.within part.1 (path_view l.at.path ++ part.0 ∷ [])) (map part_view l.parts)
 
 abbrev pub invariant-push_components-components : goal.invariant-push_components-components
 invariant-push_components-components l =
-    map fact_view l.out.items ++ flat_map (λ part. cond (has_fact l.state (paths.case (path_view l.at.path.now) part.0)) (paths.case (path_view l.at.path.now) part.0 ∷ held_from l.types.shapes (has_fact l.state) l.depth true part.1 (path_view l.at.path.now ++ part.0 ∷ [])) []) (map part_view (drop l.place-index l.parts))
-    ≡ map fact_view l.fn.out.items ++ flat_map (λ part. cond (has_fact l.state (paths.case (path_view l.at.path.now) part.0)) (paths.case (path_view l.at.path.now) part.0 ∷ held_from l.types.shapes (has_fact l.state) l.depth true part.1 (path_view l.at.path.now ++ part.0 ∷ [])) []) (map part_view l.parts)
+    map fact_view l.out.items ++ flat_map (λ part. cond (has_fact l.state (paths.case (path_view l.at.path) part.0)) (paths.case (path_view l.at.path) part.0 ∷ held_from l.types.shapes (has_fact l.state) l.depth true part.1 (path_view l.at.path ++ part.0 ∷ [])) []) (map part_view (drop l.place-index l.parts))
+    ≡ map fact_view l.fn.out.items ++ flat_map (λ part. cond (has_fact l.state (paths.case (path_view l.at.path) part.0)) (paths.case (path_view l.at.path) part.0 ∷ held_from l.types.shapes (has_fact l.state) l.depth true part.1 (path_view l.at.path ++ part.0 ∷ [])) []) (map part_view l.parts)
 
 -- The measures: how many types may still stand on the way.
 abbrev pub decreases-push_held : goal.decreases-push_held
