@@ -1,5 +1,5 @@
 //! The labels of blocks.
-ghost use Rattle.std.specs.Prelude.{◌≡◌, ◌+◌, ◌++◌, ◌∷◌, [], map, filter, IfOk, OnOk};
+ghost use Rattle.std.specs.Prelude.{◌≡◌, ◌+◌, ◌≤◌, ◌++◌, ◌∷◌, [], map, filter, IfOk, MatchResult, OnOk};
 ghost use Rattle.herm_model.specs.Lists.{any_pass};
 ghost use Rattle.herm_model.specs.Paths.{is_at_or_below, path_of};
 ghost use Rattle.herm_types.specs.View.{path_view, fact_view};
@@ -305,9 +305,9 @@ fn push_first_label(
     Ok(())
 }
 
-/// Where the edges of a block begin that begins at an index and has a front of this length.
+/// Where the edges of a block begin that begins at an index and has a front of this length; refused only where it does not fit.
 fn edges_at(at: u32, front: u32) -> Result<u32, AllocError>
-    ensures { IfOk result (λ n. n ≡ at + (1 + front)) }
+    ensures { MatchResult result (λ n. n ≡ at + (1 + front)) (λ e. 4294967296 ≤ at + (1 + front)) }
 {
     let behind = sum(1, front)?;
     let first = sum(at, behind)?;

@@ -1,5 +1,5 @@
 //! Where blocks begin.
-ghost use Rattle.std.specs.Prelude.{◌≡◌, ◌+◌, map, IfOk};
+ghost use Rattle.std.specs.Prelude.{◌≡◌, ◌+◌, ◌≤◌, map, IfOk, MatchResult};
 ghost use Rattle.herm_model.specs.Lists.{total};
 ghost use Rattle.herm_translated.specs.Departures.{edge_length};
 ghost use Rattle.herm_fronts.specs.Frames.{table_of, variables_of};
@@ -39,9 +39,9 @@ pub fn fronts_of(alloc: Global, frame: &Frame, blocks: &[Block<'_>]) -> Result<V
     Ok(fronts)
 }
 
-/// How many instructions edges have.
+/// How many instructions edges have; refused only where the number does not fit.
 fn edges_length(edges: &[Departure<'_>]) -> Result<u32, AllocError>
-    ensures { IfOk result (λ n. n ≡ total edge_length (map departure_view edges.now)) }
+    ensures { MatchResult result (λ n. n ≡ total edge_length (map departure_view edges.now)) (λ e. 4294967296 ≤ total edge_length (map departure_view edges.now)) }
 {
     let mut length = 0;
     'edges: for edge in edges {
@@ -51,10 +51,10 @@ fn edges_length(edges: &[Departure<'_>]) -> Result<u32, AllocError>
     Ok(length)
 }
 
-/// The index behind a block that begins at an index and has a front of this length.
+/// The index behind a block that begins at an index and has a front of this length; refused only where it does not fit.
 pub fn end_of(frame: &Frame, at: u32, front: u32, block: &Block<'_>) -> Result<u32, AllocError>
     requires front { front ≡ count_front (table_of frame.now) (variables_of frame.now) (form_seen block.now.form.now) }
-    ensures end { IfOk result (λ n. n ≡ at + count_block (table_of frame.now) (variables_of frame.now) (block_view block.now)) }
+    ensures end { MatchResult result (λ n. n ≡ at + count_block (table_of frame.now) (variables_of frame.now) (block_view block.now)) (λ e. 4294967296 ≤ at + count_block (table_of frame.now) (variables_of frame.now) (block_view block.now)) }
 {
     let edges = edges_length(block.departures.as_slice())?;
     let behind = sum(front, edges)?;

@@ -1,5 +1,5 @@
 //! The instructions of blocks, each with its landings.
-ghost use Rattle.std.specs.Prelude.{◌≡◌, ◌+◌, ◌++◌, ◌∷◌, [], map, flat_map, length, IfOk, OnOk};
+ghost use Rattle.std.specs.Prelude.{◌≡◌, ◌+◌, ◌≤◌, ◌++◌, ◌∷◌, [], map, flat_map, length, IfOk, MatchResult, OnOk};
 ghost use Rattle.herm_types.specs.View.{fact_view};
 ghost use Rattle.herm_fronts.specs.Frames.{table_of, variables_of};
 ghost use Rattle.herm_translated.specs.Departures as model;
@@ -121,7 +121,8 @@ fn push_edges(
     Ok(())
 }
 
-/// The edges of a block that begins at an index and has a front of this length.
+/// The edges of a block that begins at an index and has a front of this length; refused only where the first begins at an index that does not
+/// fit.
 fn exits_of<'a>(
     frame: &Frame,
     at: u32,
@@ -129,7 +130,7 @@ fn exits_of<'a>(
     block: &'a Block<'a>,
 ) -> Result<Exits<'a>, AllocError>
     requires front { front ≡ count_front (table_of frame.now) (variables_of frame.now) (form_seen block.now.form.now) }
-    ensures { IfOk result (λ e. exits_view e ≡ keyed_exit (table_of frame.now) (variables_of frame.now) at (block_view block.now)) }
+    ensures { MatchResult result (λ e. exits_view e ≡ keyed_exit (table_of frame.now) (variables_of frame.now) at (block_view block.now)) (λ e. 4294967296 ≤ at + (1 + front)) }
 {
     let length = sum(1, front)?;
     let first = sum(at, length)?;
