@@ -292,16 +292,15 @@ fn push_first_label(
     alloc: Global,
     at: u32,
     first: bool,
-    block: &Block<'_>,
+    block: Block<'_>,
     out: &mut Vec<(u32, Label)>,
 ) -> Result<(), AllocError>
-    ensures { OnOk result (map listed_view out.new.items ≡ map listed_view out.old.items ++ first_label at first (map fact_view block.now.facts.items) (slots_view block.now.slots.items)) }
+    ensures { OnOk result (map listed_view out.new.items ≡ map listed_view out.old.items ++ first_label at first (map fact_view block.entry.facts.items) (slots_view block.entry.slots.items)) }
 {
     if !first {
         return Ok(());
     }
-    let facts = copy_facts(alloc, block.facts.as_slice())?;
-    push_label(alloc, at, facts, block.slots.as_slice(), out)?;
+    push_label(alloc, at, block.facts, block.slots.as_slice(), out)?;
     Ok(())
 }
 
@@ -348,17 +347,19 @@ fn push_block_labels(
     front: u32,
     first: bool,
     again: bool,
-    block: &Block<'_>,
+    block: Block<'_>,
     out: &mut Vec<(u32, Label)>,
 ) -> Result<u32, AllocError>
-    requires front { front ≡ count_front (table_of frame.now) (variables_of frame.now) (form_seen block.now.form.now) }
-    ensures labels { OnOk result (map listed_view out.new.items ≡ map listed_view out.old.items ++ keyed_labels (table_of frame.now) (variables_of frame.now) at first again block.now) }
-    ensures end { IfOk result (λ n. n ≡ at + count_block (table_of frame.now) (variables_of frame.now) (block_view block.now)) }
+    requires front { front ≡ count_front (table_of frame.now) (variables_of frame.now) (form_seen block.form.now) }
+    ensures labels { OnOk result (map listed_view out.new.items ≡ map listed_view out.old.items ++ keyed_labels (table_of frame.now) (variables_of frame.now) at first again block.entry) }
+    ensures end { IfOk result (λ n. n ≡ at + count_block (table_of frame.now) (variables_of frame.now) (block_view block.entry)) }
 {
-    push_first_label(alloc, at, first, block, out)?;
+    let end = end_of(frame, at, front, &block)?;
     let edges = edges_at(at, front)?;
-    push_further_labels(alloc, frame, at, again, edges, block, out)?;
-    let end = end_of(frame, at, front, block)?;
+    let mut further = Vec::new(alloc);
+    push_further_labels(alloc, frame, at, again, edges, &block, &mut further)?;
+    push_first_label(alloc, at, first, block, out)?;
+    out.append(&mut further)?;
     Ok(end)
 }
 
@@ -370,12 +371,12 @@ fn push_labels_at(
     place: usize,
     at: u32,
     front: u32,
-    block: &Block<'_>,
+    block: Block<'_>,
     out: &mut Vec<(u32, Label)>,
 ) -> Result<u32, AllocError>
-    requires front { front ≡ count_front (table_of frame.now) (variables_of frame.now) (form_seen block.now.form.now) }
-    ensures labels { OnOk result (map listed_view out.new.items ≡ map listed_view out.old.items ++ keyed_labels (table_of frame.now) (variables_of frame.now) at (is_marked_at arrivals.now.first.items place) (is_marked_at arrivals.now.again.items place) block.now) }
-    ensures end { IfOk result (λ n. n ≡ at + count_block (table_of frame.now) (variables_of frame.now) (block_view block.now)) }
+    requires front { front ≡ count_front (table_of frame.now) (variables_of frame.now) (form_seen block.form.now) }
+    ensures labels { OnOk result (map listed_view out.new.items ≡ map listed_view out.old.items ++ keyed_labels (table_of frame.now) (variables_of frame.now) at (is_marked_at arrivals.now.first.items place) (is_marked_at arrivals.now.again.items place) block.entry) }
+    ensures end { IfOk result (λ n. n ≡ at + count_block (table_of frame.now) (variables_of frame.now) (block_view block.entry)) }
 {
     let first = arrivals.is_first(place);
     let again = arrivals.is_again(place);
@@ -389,23 +390,23 @@ pub fn labels_of(
     frame: &Frame,
     arrivals: &Arrivals,
     first: u32,
-    blocks: &[Block<'_>],
+    blocks: Vec<Block<'_>>,
     fronts: &[u32],
 ) -> Result<Vec<(u32, Label)>, AllocError>
-    requires fronts { fronts.now ≡ fronts_in (table_of frame.now) (variables_of frame.now) (map block_view blocks.now) }
-    ensures labels { IfOk result (λ v. map listed_view v.items ≡ keyed_labels_from (table_of frame.now) (variables_of frame.now) (is_marked_at arrivals.now.first.items) (is_marked_at arrivals.now.again.items) 0 first blocks.now) }
+    requires fronts { fronts.now ≡ fronts_in (table_of frame.now) (variables_of frame.now) (map block_view blocks.items) }
+    ensures labels { IfOk result (λ v. map listed_view v.items ≡ keyed_labels_from (table_of frame.now) (variables_of frame.now) (is_marked_at arrivals.now.first.items) (is_marked_at arrivals.now.again.items) 0 first blocks.entry.items) }
 {
     let mut out = Vec::with_capacity(alloc, blocks.len())?;
     let mut at = first;
-    let mut left = fronts;
-    'each: for (place, block) in blocks.iter().enumerate() {
-        match left {
-            [] => return Ok(out),
-            [front, more @ ..] => {
+    let mut left = blocks.into_iter();
+    'each: for (place, front) in fronts.iter().enumerate() {
+        match left.next() {
+            None => return Ok(out),
+            Some(block) => {
                 at = push_labels_at(alloc, frame, arrivals, place, at, *front, block, &mut out)?;
-                left = more;
             }
         }
     }
+    out.shrink_to_fit();
     Ok(out)
 }

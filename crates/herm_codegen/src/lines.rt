@@ -1,9 +1,9 @@
 //! The instructions of blocks, each with its landings.
-ghost use Rattle.std.specs.Prelude.{◌≡◌, ◌+◌, ◌≤◌, ◌++◌, ◌∷◌, [], map, flat_map, length, IfOk, MatchResult, OnOk};
+ghost use Rattle.std.specs.Prelude.{◌≡◌, ◌+◌, ◌≤◌, ◌++◌, ◌∷◌, [], map, flat_map, drop, length, IfOk, MatchResult, OnOk};
 ghost use Rattle.herm_types.specs.View.{fact_view};
 ghost use Rattle.herm_fronts.specs.Frames.{table_of, variables_of};
 ghost use Rattle.herm_translated.specs.Departures as model;
-ghost use Rattle.herm_translated.specs.Layout.{landings_by, line_by};
+ghost use Rattle.herm_translated.specs.Layout.{landings_by};
 ghost use Rattle.herm_code.specs.View.{instr_view};
 ghost use Rattle.herm_fronts.specs.Operands.{instruction_of};
 ghost use Rattle.herm_fronts.specs.Forms.{form_seen};
@@ -50,22 +50,31 @@ fn landings_of(
     Ok(found)
 }
 
-/// Appends instructions, which raise to these edges.
-pub fn push_lines(
+/// Appends the landings of instructions, which raise to these edges.
+pub fn push_landings(
     alloc: Global,
     frame: &Frame,
     exits: &Exits<'_>,
-    code: Vec<Instr>,
-    lines: &mut Lines,
+    code: &[Instr],
+    landings: &mut Vec<Vec<(ExcNo, u32)>>,
 ) -> Result<(), AllocError>
-    ensures { OnOk result (AreAppended (map (line_by (table_of frame.now) (variables_of frame.now) (exits_view exits.now)) (map instr_view code.items)) lines.old lines.new) }
+    ensures { OnOk result (map (λ ls. landings_view ls.items) landings.new.items ≡ map (λ ls. landings_view ls.items) landings.old.items ++ map (landings_by (table_of frame.now) (variables_of frame.now) (exits_view exits.now)) (map instr_view code.now)) }
 {
     'code: for instr in code {
-        let landings = landings_of(alloc, frame, exits, &instr)?;
-        lines.landings.push(landings)?;
-        lines.code.push(instr)?;
+        let found = landings_of(alloc, frame, exits, instr)?;
+        landings.push(found)?;
     }
     Ok(())
+}
+
+/// The instructions from an index on.
+fn code_from(code: &[Instr], first: usize) -> &[Instr]
+    ensures { result.now ≡ drop first code.now }
+{
+    if code.len() < first {
+        return &[];
+    }
+    &code[first..]
 }
 
 /// The instruction of an operand, with the number of its constant.
@@ -97,12 +106,10 @@ fn push_operands(
 }
 
 /// Appends instructions.
-fn push_all(code: Vec<Instr>, out: &mut Vec<Instr>) -> Result<(), AllocError>
+fn push_all(mut code: Vec<Instr>, out: &mut Vec<Instr>) -> Result<(), AllocError>
     ensures { OnOk result (map instr_view out.new.items ≡ map instr_view out.old.items ++ map instr_view code.items) }
 {
-    'code: for instr in code {
-        out.push(instr)?;
-    }
+    out.append(&mut code)?;
     Ok(())
 }
 
@@ -140,21 +147,21 @@ fn exits_of<'a>(
     })
 }
 
-/// The step of a block and its front.
-fn front_code(
+/// Appends the step of a block and its front.
+fn push_front(
     alloc: Global,
     frame: &Frame,
     keys: &IndexSet<Key>,
     at: u32,
     block: &Block<'_>,
     exits: &Exits<'_>,
-) -> Result<Vec<Instr>, AllocError>
-    ensures { IfOk result (λ v. map instr_view v.items ≡ keyed_front (table_of frame.now) (variables_of frame.now) (map key_view keys.now.keys) at (exits_view exits.now) (block_view block.now)) }
+    out: &mut Vec<Instr>,
+) -> Result<(), AllocError>
+    ensures { OnOk result (map instr_view out.new.items ≡ map instr_view out.old.items ++ keyed_front (table_of frame.now) (variables_of frame.now) (map key_view keys.now.keys) at (exits_view exits.now) (block_view block.now)) }
 {
-    let mut out = Vec::with_capacity(alloc, 8)?;
     out.push(Instr::Step)?;
     let operands = operands_of(alloc, frame, block.form)?;
-    push_operands(keys, operands, &mut out)?;
+    push_operands(keys, operands, out)?;
     let here = sum(at, 1)?;
     let site = Site {
         facts: block.facts.as_slice(),
@@ -163,12 +170,12 @@ fn front_code(
         exits: *exits,
     };
     let behind = behind_operands(alloc, frame, &site, block.form)?;
-    push_all(behind, &mut out)?;
-    Ok(out)
+    push_all(behind, out)?;
+    Ok(())
 }
 
-/// The instructions of a block: its step, its front and its edges.
-fn block_code(
+/// Appends the instructions of a block: its step, its front and its edges.
+fn push_code(
     alloc: Global,
     frame: &Frame,
     keys: &IndexSet<Key>,
@@ -176,12 +183,13 @@ fn block_code(
     at: u32,
     block: &Block<'_>,
     exits: &Exits<'_>,
-) -> Result<Vec<Instr>, AllocError>
-    ensures { IfOk result (λ v. map instr_view v.items ≡ keyed_code (table_of frame.now) (variables_of frame.now) (map key_view keys.now.keys) (starts_view starts.now) at (exits_view exits.now) (block_view block.now)) }
+    out: &mut Vec<Instr>,
+) -> Result<(), AllocError>
+    ensures { OnOk result (map instr_view out.new.items ≡ map instr_view out.old.items ++ keyed_code (table_of frame.now) (variables_of frame.now) (map key_view keys.now.keys) (starts_view starts.now) at (exits_view exits.now) (block_view block.now)) }
 {
-    let mut out = front_code(alloc, frame, keys, at, block, exits)?;
-    push_edges(alloc, starts, block.departures.as_slice(), &mut out)?;
-    Ok(out)
+    push_front(alloc, frame, keys, at, block, exits, out)?;
+    push_edges(alloc, starts, block.departures.as_slice(), out)?;
+    Ok(())
 }
 
 /// Appends the block that begins at an index and has a front of this length. Gives the index behind it.
@@ -200,8 +208,19 @@ fn push_block(
     ensures end { IfOk result (λ n. n ≡ at + count_block (table_of frame.now) (variables_of frame.now) (block_view block.now)) }
 {
     let exits = exits_of(frame, at, front, block)?;
-    let code = block_code(alloc, frame, keys, starts, at, block, &exits)?;
-    push_lines(alloc, frame, &exits, code, lines)?;
+    let first = lines.code.len();
+    push_code(
+        alloc,
+        frame,
+        keys,
+        starts,
+        at,
+        block,
+        &exits,
+        &mut lines.code,
+    )?;
+    let code = code_from(lines.code.as_slice(), first);
+    push_landings(alloc, frame, &exits, code, &mut lines.landings)?;
     let end = end_of(frame, at, front, block)?;
     Ok(end)
 }

@@ -12,7 +12,7 @@ ghost use Rattle.herm_codegen.specs.Modules.{entry_lines, all_lines, all_labels,
 use crate::arrivals::arrivals_of;
 use crate::labels::labels_of;
 use crate::layout::{fronts_of, starts_of};
-use crate::lines::{Lines, push_blocks, push_lines};
+use crate::lines::{Lines, push_blocks, push_landings};
 use herm_base::Word;
 use herm_blocks::Block;
 use herm_code::{CodeModule, Label};
@@ -32,19 +32,16 @@ fn entry_lines(
     ensures code { IfOk result (λ l. map instr_view l.code.items ≡ map (λ x. x.instruction) (entry_lines (table_of frame.now) (variables_of frame.now) (starts_view starts.now) (departure_view entry.now))) }
     ensures landings { IfOk result (λ l. map (λ ls. landings_view ls.items) l.landings.items ≡ map (λ x. x.landings) (entry_lines (table_of frame.now) (variables_of frame.now) (starts_view starts.now) (departure_view entry.now))) }
 {
-    let mut code = Vec::new(alloc);
-    push_edge(alloc, starts, entry, &mut code)?;
     let exits = Exits {
         first: 0,
         edges: &[],
     };
     let count = starts.end as usize;
-    let mut lines = Lines {
-        code: Vec::with_capacity(alloc, count)?,
-        landings: Vec::with_capacity(alloc, count)?,
-    };
-    push_lines(alloc, frame, &exits, code, &mut lines)?;
-    Ok(lines)
+    let mut code = Vec::with_capacity(alloc, count)?;
+    push_edge(alloc, starts, entry, &mut code)?;
+    let mut landings = Vec::with_capacity(alloc, count)?;
+    push_landings(alloc, frame, &exits, code.as_slice(), &mut landings)?;
+    Ok(Lines { code, landings })
 }
 
 /// The lines of a module: the edge to where its process begins, and then blocks with fronts of these lengths.
@@ -74,14 +71,14 @@ fn labels_behind(
     alloc: Global,
     frame: &Frame,
     entry: &Departure<'_>,
-    blocks: &[Block<'_>],
+    blocks: Vec<Block<'_>>,
     fronts: &[u32],
 ) -> Result<Vec<(u32, Label)>, AllocError>
-    requires fronts { fronts.now ≡ fronts_in (table_of frame.now) (variables_of frame.now) (map block_view blocks.now) }
-    ensures labels { IfOk result (λ v. map listed_view v.items ≡ all_labels (table_of frame.now) (variables_of frame.now) (departure_view entry.now) blocks.now) }
+    requires fronts { fronts.now ≡ fronts_in (table_of frame.now) (variables_of frame.now) (map block_view blocks.items) }
+    ensures labels { IfOk result (λ v. map listed_view v.items ≡ all_labels (table_of frame.now) (variables_of frame.now) (departure_view entry.now) blocks.entry.items) }
 {
     let first = edge_length(entry)?;
-    let arrivals = arrivals_of(alloc, entry, blocks)?;
+    let arrivals = arrivals_of(alloc, entry, blocks.as_slice())?;
     let labels = labels_of(alloc, frame, &arrivals, first, blocks, fronts)?;
     Ok(labels)
 }
@@ -93,14 +90,14 @@ pub fn module_of(
     keys: &IndexSet<Key>,
     name: Word,
     entry: &Departure<'_>,
-    blocks: &[Block<'_>],
+    blocks: Vec<Block<'_>>,
 ) -> Result<CodeModule, AllocError>
-    ensures code { IfOk result (λ m. module_view m ≡ keyed_module (table_of frame.now) (variables_of frame.now) (map key_view keys.now.keys) (departure_view entry.now) blocks.now) }
+    ensures code { IfOk result (λ m. module_view m ≡ keyed_module (table_of frame.now) (variables_of frame.now) (map key_view keys.now.keys) (departure_view entry.now) blocks.entry.items) }
     ensures name { IfOk result (λ m. m.name ≡ name) }
 {
-    let fronts = fronts_of(alloc, frame, blocks)?;
+    let fronts = fronts_of(alloc, frame, blocks.as_slice())?;
     let fronts = fronts.as_slice();
-    let lines = lines_of(alloc, frame, keys, entry, blocks, fronts)?;
+    let lines = lines_of(alloc, frame, keys, entry, blocks.as_slice(), fronts)?;
     let labels = labels_behind(alloc, frame, entry, blocks, fronts)?;
     let vars = Vec::from_slice(alloc, frame.of)?;
     Ok(CodeModule {

@@ -46,13 +46,7 @@ pub fn code_of(
     };
     let found = blocks_of(alloc, types, checked)?;
     let name = checked.process.name.text.clone()?;
-    let code = module_of(
-        alloc,
-        &frame,
-        keys,
-        name,
-        &found.entry,
-        found.blocks.as_slice(),
-    )?;
+    let blocks = found.blocks;
+    let code = module_of(alloc, &frame, keys, name, &found.entry, blocks)?;
     Ok(code)
 }

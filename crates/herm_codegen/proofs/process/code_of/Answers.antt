@@ -1,8 +1,6 @@
-use Rattle.std.proofs.Common.{map, refl, ap, ◌∙◌, subst}
-use Rattle.herm_model.specs.Lists.{IsIn}
+use Rattle.std.proofs.Common.{map, refl, ap, ◌∙◌}
 use Rattle.herm_fronts.specs.Frames.{kinds}
 use Rattle.herm_fronts.specs.View.{key_view}
-use Rattle.herm_blocks.specs.Views.{block_view}
 use Rattle.herm_codegen.proofs.ProcessCode.{process_code}
 use Rattle.herm_codegen.proofs.process.code_of.Goals as goal
 
@@ -12,5 +10,4 @@ returns-clause-code c =
     ∙ process_code c.args.types.now.shapes c.args.checked.now (map key_view c.args.keys.now.keys) _ _ _ _ refl
     (ap kinds c.as_slice-2.ensures.value ∙ (c.in_ok-of.ensures ∙ ap (map (λ x. x.of.0)) c.as_slice.ensures.value))
     c.in_ok-found.ensures.entry
-    (ap (map block_view) c.as_slice-3.ensures.value ∙ c.in_ok-found.ensures.blocks)
-    (λ b i. c.in_ok-found.ensures.marked b (subst (IsIn b) c.as_slice-3.ensures.value i))
+    c.in_ok-found.ensures.blocks c.in_ok-found.ensures.marked
