@@ -1,5 +1,6 @@
 //! How many cells are finalised at once, and values that are let go.
 ghost use Rattle.std.specs.Prelude.{◌≡◌, ◌≤◌, ◌<◌, ◌+◌, ◌^◌, ◌++◌, min, length, IfOk, OnOk, IsErr};
+ghost use Rattle.herm_model.specs.CellNames.{count};
 ghost use Rattle.herm_model.specs.Finalising.{finalised, finalised_in, pending};
 ghost use Rattle.herm_values.specs.Parts.{parts_from};
 ghost use Rattle.herm_values.specs.View.{value_view, table_parts, views_of};
@@ -7,7 +8,7 @@ ghost use Rattle.herm_values.specs.Works.{waiting, spare};
 ghost use Rattle.herm_frames.specs.Counts.{cut};
 
 use herm_places::is_plain;
-use herm_values::{Table, Value, Work, finalise, pending};
+use herm_values::{Table, Value, Work, cells, finalise, pending};
 use std::alloc::AllocError;
 
 /// As many cells as are counted.
@@ -18,6 +19,27 @@ pub fn sum(a: u64, b: u64) -> u64
     ensures sum { result ≡ cut (a + b) }
 {
     a.saturating_add(b).min(MOST_CELLS)
+}
+
+/// How many cells a value has.
+#[inline(always)]
+#[tactic(auto, using(herm_values::proofs::Seen::layers))]
+pub fn count_of(v: &Value) -> u64
+    ensures { result ≡ cut (count (value_view v.now)) }
+{
+    match v {
+        Value::Bool(_) => 1,
+        Value::Int(_) => 1,
+        Value::Text(_) => 1,
+        Value::Tag(_) => 1,
+        Value::Fields(_) => cells(v),
+        Value::Case(_, _) => cells(v),
+        Value::Table(_) => cells(v),
+        Value::Poly(_) => cells(v),
+        Value::Call(_) => cells(v),
+        Value::Inport(_) => 1,
+        Value::Outport(_) => 1,
+    }
 }
 
 /// How many cells are finalised at once where the value is.

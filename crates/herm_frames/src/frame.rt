@@ -17,13 +17,13 @@ ghost use Rattle.herm_frames.specs.KeyedBehind.{LeavesKeyed};
 ghost use Rattle.herm_frames.specs.Standing.{Stands};
 ghost use Rattle.herm_frames.specs.Waiting.{Waits};
 
-use crate::counts::{let_go, sum};
+use crate::counts::{count_of, let_go, sum};
 use crate::loops::Loop;
 use crate::outcome::Outcome;
 use herm_base::ProcNo;
 use herm_places::Variables;
 use herm_types::Path;
-use herm_values::{Value, Work, WorkItem, cells};
+use herm_values::{Value, Work, WorkItem};
 use std::alloc::{AllocError, Global};
 use std::marker::Model;
 
@@ -265,7 +265,7 @@ impl Frame {
         ensures frame { self.new ≡ record self.old { made = self.new.made } }
         ensures stands { (s : frames.Frame ⊤) → Stands self.old s → Stands self.new (record s { serial = s.serial + count (value_view v.now) }) }
     {
-        self.made = sum(self.made, cells(v));
+        self.made = sum(self.made, count_of(v));
     }
 
     /// Puts a value at a path, and finalises what stood there. False where there is no such place: then the value is gone. Memory
@@ -289,7 +289,8 @@ impl Frame {
         }
     }
 
-    /// Puts a value at a path that is a variable by itself, where nothing stands, or a scalar or an outport: that is finalised.
+    /// Puts a value at a path that is a variable by itself, or a field of a record in one, where nothing stands, or a scalar or an outport: that
+    /// is finalised.
     /// Elsewhere the value comes back, and all is as it was.
     #[inline(always)]
     #[tactic(auto, using(crate::proofs::PlainCells::replaced))]

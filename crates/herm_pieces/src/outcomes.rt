@@ -24,6 +24,7 @@ pub enum Outcome {
 
 impl<'i> Code<'i> {
     /// The index that an outcome of the instruction at an index leads to.
+    #[inline(always)]
     pub fn leads(&self, index: usize, instruction: &Instr, outcome: Outcome) -> Option<usize>
         requires within { index < length self.now.code.now.code.items }
         ensures leads { result ≡ states.leads (ready_view self.now) index (instr_view instruction.now) (outcome_view outcome) }

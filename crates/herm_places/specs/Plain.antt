@@ -2,7 +2,7 @@
 use Rattle.std.specs.Prelude.{◌≡◌, [], ◌∷◌, Bool, true, false, ◌&&◌, nat_lt, Option, Some, None}
 use Rattle.herm_model.specs.Finalising.{pending, finalised}
 use Rattle.herm_model.specs.Paths.{Path}
-use Rattle.herm_model.specs.Values.{Kind, a_scalar, an_outport, Cell, cell, Parts, name_of, part_at, size}
+use Rattle.herm_model.specs.Values.{Kind, a_scalar, a_record, an_outport, Cell, cell, Parts, no_parts, name_of, part_at, size}
 
 -- scalars and outports
 abbrev pub is_plain_kind : Kind → Bool
@@ -20,8 +20,15 @@ abbrev pub is_replaceable : {N : Type 0} → Option (Cell N) → Bool
 is_replaceable None = true
 is_replaceable (Some (cell n k ps)) = is_plain_kind k
 
--- the path is a variable by itself, and such a place
+-- the parts of a record, and none of another cell
+abbrev pub fields_in : {N : Type 0} → Option (Cell N) → Parts N
+fields_in None = no_parts
+fields_in (Some (cell n a_record ps)) = ps
+fields_in (Some (cell n k ps)) = no_parts
+
+-- the path is a variable by itself or a field of a record in one, and such a place
 abbrev pub has_replaceable : {N : Type 0} → Parts N → Path → Bool
 has_replaceable ps [] = false
 has_replaceable ps (i ∷ []) = nat_lt i (size ps) && is_replaceable (part_at i ps)
-has_replaceable ps (i ∷ j ∷ p) = false
+has_replaceable ps (i ∷ j ∷ []) = has_replaceable (fields_in (part_at i ps)) (j ∷ [])
+has_replaceable ps (i ∷ j ∷ k ∷ p) = false

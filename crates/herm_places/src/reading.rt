@@ -98,14 +98,28 @@ pub fn value_at<'a>(places: &'a [Option<Value>], place: u32, rest: &[u32]) -> Op
     }
 }
 
-/// The same, reached through components too.
+/// What a value has at these parts, reached through components too: itself where there are none.
+#[inline(always)]
+#[tactic(auto, using(crate::proofs::Read::steps))]
+fn read_from<'a>(v: &'a Value, parts: &[u32]) -> Option<&'a Value>
+    ensures keyed { option_map (λ v. keyed_view v.now) result ≡ read_in parts.now (keyed_view v.now) }
+    ensures whole { IsWhole v.now → IfSome result (λ v. IsWhole v.now) }
+{
+    if parts.is_empty() {
+        return Some(v);
+    }
+    read_in(v, parts)
+}
+
+/// What stands at a place, or at these steps behind it, reached through components too.
+#[inline(always)]
 #[tactic(auto, using(crate::proofs::Read::starts))]
 pub fn read_at<'a>(places: &'a [Option<Value>], place: u32, rest: &[u32]) -> Option<&'a Value>
     ensures keyed { option_map (λ v. keyed_view v.now) result ≡ read_at (place ∷ rest.now) (keyed_places places.now) }
     ensures whole { AllWhole places.now → IfSome result (λ v. IsWhole v.now) }
 {
     match held_at(places, place) {
-        Some(v) => read_in(v, rest),
+        Some(v) => read_from(v, rest),
         None => None,
     }
 }

@@ -1,13 +1,13 @@
 //! A value is put where nothing stands, or a value of one cell that is finalised at once.
 ghost use Rattle.std.specs.Prelude.{◌≡◌, ◌<◌, ◌∷◌, [], length, Some, None, IfSome, IfOk, IfErr, OnOk, OnErr, IsTrue, is_ok, is_some, option_map};
-ghost use Rattle.herm_model.specs.Values.{cell_at, has_value, kind_of, part_at, put_at};
+ghost use Rattle.herm_model.specs.Values.{cell_at, change_inside, has_value, inside, kind_of, part_at, put_at, set_at};
 ghost use Rattle.herm_values.specs.Keyed.{keyed_view};
 ghost use Rattle.herm_values.specs.View.{value_view};
 ghost use Rattle.herm_values.specs.Whole.{IsWhole, AllWhole};
 ghost use Rattle.herm_places.specs.Held.{keyed_places, seen_places};
-ghost use Rattle.herm_places.specs.Plain.{IsPlain, has_replaceable, is_plain_kind, is_replaceable};
+ghost use Rattle.herm_places.specs.Plain.{IsPlain, fields_in, has_replaceable, is_plain_kind, is_replaceable};
 
-use crate::places::{held_at, set};
+use crate::places::{exchange, held_at, set};
 use herm_values::Value;
 
 /// Whether the value is a scalar or an outport: one cell, which is finalised at once.
@@ -70,7 +70,81 @@ fn replace_here(places: &mut Vec<Option<Value>>, place: u32, v: Value) -> Result
     Ok(is_there)
 }
 
-/// The same at a place, where no steps follow it.
+/// The same of a field of a record that stands at a place.
+#[tactic(auto, using(crate::proofs::Replaced::places))]
+fn replace_field(
+    places: &mut Vec<Option<Value>>,
+    place: u32,
+    field: u32,
+    v: Value,
+) -> Result<bool, Value>
+    requires within { place < length places.old.items }
+    ensures done { is_ok result ≡ has_replaceable (seen_places places.old.items) (place ∷ field ∷ []) }
+    ensures held { IfOk result (λ b. b ≡ has_value (seen_places places.old.items) (place ∷ field ∷ [])) }
+    ensures plain { OnOk result (IfSome (cell_at (place ∷ field ∷ []) (seen_places places.old.items)) IsPlain) }
+    ensures put { OnOk result (keyed_places places.new.items ≡ put_at (place ∷ field ∷ []) (keyed_view v) (keyed_places places.old.items)) }
+    ensures kept { OnErr result (keyed_places places.new.items ≡ keyed_places places.old.items) }
+    ensures handed_back { IfErr result (λ w. w ≡ v) }
+    ensures whole { IsWhole v → AllWhole places.old.items → AllWhole places.new.items }
+{
+    let Some(outer) = exchange(places, place, None) else {
+        return Err(v);
+    };
+    let (outer, answer) = replace_inside(outer, field, v);
+    set(places, place, outer);
+    answer
+}
+
+/// The same of a field of a value, which is no place of it where the value is no record.
+#[inline(always)]
+#[tactic(auto, using(crate::proofs::Replaced::within_record))]
+fn replace_inside(held: Value, field: u32, v: Value) -> (Value, Result<bool, Value>)
+    ensures done { is_ok result.1 ≡ has_replaceable (fields_in (Some (value_view held))) (field ∷ []) }
+    ensures held { IfOk result.1 (λ b. b ≡ has_value (inside (Some (value_view held))) (field ∷ [])) }
+    ensures plain { OnOk result.1 (IfSome (cell_at (field ∷ []) (inside (Some (value_view held)))) IsPlain) }
+    ensures put { OnOk result.1 (keyed_view result.0 ≡ change_inside (set_at (field ∷ []) (Some (keyed_view v))) (keyed_view held)) }
+    ensures kept { OnErr result.1 (keyed_view result.0 ≡ keyed_view held) }
+    ensures handed_back { IfErr result.1 (λ w. w ≡ v) }
+    ensures whole { IsWhole v → IsWhole held → IsWhole result.0 }
+{
+    match held {
+        Value::Bool(b) => (Value::Bool(b), Err(v)),
+        Value::Int(n) => (Value::Int(n), Err(v)),
+        Value::Text(text) => (Value::Text(text), Err(v)),
+        Value::Tag(i) => (Value::Tag(i), Err(v)),
+        Value::Fields(mut fields) => {
+            let answer = replace_at_place(&mut fields, field, v);
+            (Value::Fields(fields), answer)
+        }
+        Value::Case(component, content) => (Value::Case(component, content), Err(v)),
+        Value::Table(table) => (Value::Table(table), Err(v)),
+        Value::Poly(poly) => (Value::Poly(poly), Err(v)),
+        Value::Call(call) => (Value::Call(call), Err(v)),
+        Value::Inport(port) => (Value::Inport(port), Err(v)),
+        Value::Outport(port) => (Value::Outport(port), Err(v)),
+    }
+}
+
+/// The same at a place, if there is one.
+#[inline(always)]
+#[tactic(auto, using(crate::proofs::Replaced::places))]
+fn replace_at_place(places: &mut Vec<Option<Value>>, place: u32, v: Value) -> Result<bool, Value>
+    ensures done { is_ok result ≡ has_replaceable (seen_places places.old.items) (place ∷ []) }
+    ensures held { IfOk result (λ b. b ≡ has_value (seen_places places.old.items) (place ∷ [])) }
+    ensures plain { OnOk result (IfSome (cell_at (place ∷ []) (seen_places places.old.items)) IsPlain) }
+    ensures put { OnOk result (keyed_places places.new.items ≡ put_at (place ∷ []) (keyed_view v) (keyed_places places.old.items)) }
+    ensures kept { OnErr result (keyed_places places.new.items ≡ keyed_places places.old.items) }
+    ensures handed_back { IfErr result (λ w. w ≡ v) }
+    ensures whole { IsWhole v → AllWhole places.old.items → AllWhole places.new.items }
+{
+    if place as usize >= places.len() {
+        return Err(v);
+    }
+    let answer = replace_here(places, place, v);
+    answer
+}
+
+/// The same at a place, or at a field of a record that stands there, where no further steps follow.
 #[inline(always)]
 #[tactic(auto, using(crate::proofs::Replaced::places))]
 pub fn replace_at(
@@ -87,12 +161,15 @@ pub fn replace_at(
     ensures handed_back { IfErr result (λ w. w ≡ v) }
     ensures whole { IsWhole v → AllWhole places.old.items → AllWhole places.new.items }
 {
+    let Some((field, others)) = rest.split_first() else {
+        let answer = replace_at_place(places, place, v);
+        return answer;
+    };
     if place as usize >= places.len() {
         return Err(v);
     }
-    let Some((_step, _others)) = rest.split_first() else {
-        let answer = replace_here(places, place, v);
-        return answer;
-    };
-    Err(v)
+    match others.split_first() {
+        Some((_step, _further)) => Err(v),
+        None => replace_field(places, place, *field, v),
+    }
 }

@@ -104,7 +104,7 @@ impl Variables {
         self.put_keyed(path, v)
     }
 
-    /// Puts a value at a path that is a variable by itself, where nothing stands, or a scalar or an outport, which is gone. The
+    /// Puts a value at a path that is a variable by itself or a field of a record in one, where nothing stands, or a scalar or an outport, which is gone. The
     /// answer is whether something stood there, or the value itself where there is no such place: then all is as it was.
     #[inline(always)]
     #[tactic(auto, using(crate::proofs::Forgotten::told))]

@@ -231,6 +231,18 @@ fn split(values: &mut Vec<Value>, n: usize) -> Result<Option<Vec<Value>>, AllocE
     Ok(Some(taken))
 }
 
+/// Makes room for one value more, if there is none.
+#[inline(always)]
+fn make_room(values: &mut Vec<Value>) -> Result<(), AllocError>
+    ensures items { values.new.items ≡ values.old.items }
+    ensures room { OnOk result (vec_len values.new < vec_capacity values.new) }
+{
+    if values.len() < values.capacity() {
+        return Ok(());
+    }
+    values.reserve(1)
+}
+
 /// Pushes a value.
 #[tactic(auto, using(crate::proofs::Stacked::stacking))]
 fn push(values: &mut Vec<Value>, v: Value) -> Result<(), AllocError>
@@ -238,7 +250,7 @@ fn push(values: &mut Vec<Value>, v: Value) -> Result<(), AllocError>
     ensures pushed { OnOk result (reverse values.new.items ≡ v ∷ reverse values.old.items) }
     ensures whole { All IsWhole values.old.items → All IsWhole values.new.items }
 {
-    values.reserve(1)?;
+    make_room(values)?;
     values.push_reserved(v);
     Ok(())
 }
@@ -250,7 +262,7 @@ fn push_constant(values: &mut Vec<Value>, constant: &Const) -> Result<(), AllocE
     ensures pushed { OnOk result (IsPushed (literal_cell (const_view constant.now)) (reverse values.old.items) (reverse values.new.items)) }
     ensures whole { All IsWhole values.old.items → All IsWhole values.new.items }
 {
-    values.reserve(1)?;
+    make_room(values)?;
     match constant {
         Const::Bool(b) => values.push_reserved(Value::Bool(*b)),
         Const::Int(n) => values.push_reserved(Value::Int(*n)),
@@ -267,7 +279,7 @@ fn push_text(values: &mut Vec<Value>, text: &Word) -> Result<(), AllocError>
     ensures pushed { OnOk result (reverse values.new.items ≡ held.Text text.now ∷ reverse values.old.items) }
     ensures whole { All IsWhole values.old.items → All IsWhole values.new.items }
 {
-    values.reserve(1)?;
+    make_room(values)?;
     let text = text.clone()?;
     values.push_reserved(Value::Text(text));
     Ok(())
@@ -281,7 +293,7 @@ fn push_copy(values: &mut Vec<Value>, alloc: Global, v: &Value) -> Result<(), Al
     ensures pushed { OnOk result (IsCopied v.now (reverse values.old.items) (reverse values.new.items)) }
     ensures whole { All IsWhole values.old.items → All IsWhole values.new.items }
 {
-    values.reserve(1)?;
+    make_room(values)?;
     match v {
         Value::Bool(b) => values.push_reserved(Value::Bool(*b)),
         Value::Int(n) => values.push_reserved(Value::Int(*n)),
@@ -301,7 +313,7 @@ fn push_whole_copy(values: &mut Vec<Value>, alloc: Global, v: &Value) -> Result<
     ensures pushed { OnOk result (IsCopied v.now (reverse values.old.items) (reverse values.new.items)) }
     ensures whole { All IsWhole values.old.items → All IsWhole values.new.items }
 {
-    values.reserve(1)?;
+    make_room(values)?;
     let copy = copy_of(alloc, v)?;
     values.push_reserved(copy);
     Ok(())
@@ -338,7 +350,13 @@ fn ends_without_memory(values: &[Value]) -> bool {
     let [.., last] = values else {
         return false;
     };
-    match last {
+    is_without_memory(last)
+}
+
+/// Whether a value holds no memory.
+#[inline(always)]
+fn is_without_memory(v: &Value) -> bool {
+    match v {
         Value::Bool(_) | Value::Int(_) | Value::Tag(_) => true,
         Value::Inport(_) | Value::Outport(_) => true,
         _ => false,
@@ -376,16 +394,55 @@ fn drop_last(values: &mut Vec<Value>) -> bool
 
 /// Lets the last two values go, if there are two. The places that they leave are room for others.
 #[inline(always)]
-#[tactic(auto, using(crate::proofs::Stacked::letting_go))]
 fn let_two_go(values: &mut Vec<Value>) -> bool
     ensures gone { AreLetGo result (reverse values.old.items) (reverse values.new.items) }
     ensures room { IsTrue result → vec_len values.new < vec_capacity values.new }
     ensures left_whole { All IsWhole values.old.items → All IsWhole values.new.items }
 {
-    if !let_go(values) {
+    if both_end_without_memory(values.as_slice()) {
+        return forget_two(values);
+    }
+    drop_two(values)
+}
+
+/// Whether neither of the last two values holds memory.
+#[inline(always)]
+fn both_end_without_memory(values: &[Value]) -> bool {
+    let [.., left, right] = values else {
+        return false;
+    };
+    is_without_memory(left) && is_without_memory(right)
+}
+
+/// Forgets the last two values, if there are two.
+#[inline(always)]
+#[tactic(auto, using(crate::proofs::Stacked::letting_go))]
+fn forget_two(values: &mut Vec<Value>) -> bool
+    ensures gone { AreLetGo result (reverse values.old.items) (reverse values.new.items) }
+    ensures room { IsTrue result → vec_len values.new < vec_capacity values.new }
+    ensures left_whole { All IsWhole values.old.items → All IsWhole values.new.items }
+{
+    if !forget_last(values) {
         return false;
     }
-    if !let_go(values) {
+    if !forget_last(values) {
+        return false;
+    }
+    true
+}
+
+/// Drops the last two values, if there are two.
+#[inline(never)]
+#[tactic(auto, using(crate::proofs::Stacked::letting_go))]
+fn drop_two(values: &mut Vec<Value>) -> bool
+    ensures gone { AreLetGo result (reverse values.old.items) (reverse values.new.items) }
+    ensures room { IsTrue result → vec_len values.new < vec_capacity values.new }
+    ensures left_whole { All IsWhole values.old.items → All IsWhole values.new.items }
+{
+    if !drop_last(values) {
+        return false;
+    }
+    if !drop_last(values) {
         return false;
     }
     true

@@ -9,3 +9,4 @@ pub mod Turned
 pub mod Begun
 pub mod Stepped
 pub mod KeyTaken
+pub mod Common

@@ -1,9 +1,10 @@
 -- Kinds of instructions.
-use Rattle.std.specs.Prelude.{◌≡◌, Bool, true, false, List, ⊤}
+use Rattle.std.specs.Prelude.{◌≡◌, ℕ, Bool, true, false, List, ⊤}
 use Rattle.herm_journal.specs.Renaming.{forget_name}
 use Rattle.herm_model.specs.Values.{Value}
 use Rattle.herm_forms.specs.Frames.{Frame}
 use Rattle.herm_instructions.specs.Instructions.{Instruction, Const, Load, Size, Store, Jump, JumpFalse, Move, New, Discard, Unite, Dissolve, Reveal, CaseOf, Wrap, Unwrap, Insert, Remove, Get, LoopStart, LoopNext, LoopDrop, Connect, Raise, Drop, End, EndBy}
+use Rattle.herm_code_machine.specs.CodeStates.{jumped}
 use Rattle.herm_code_machine.specs.Effects.{effect}
 use Rattle.herm_code_machine.specs.ReadyCode.{ReadyCode}
 use Rattle.herm_code_machine.specs.Stacks.{no_effect}
@@ -69,6 +70,10 @@ abbrev pub is_ending : Instruction → Bool
 is_ending End = true
 is_ending (EndBy e) = true
 is_ending _ = false
+
+-- it jumps nowhere: without an exception the instruction behind it is next
+abbrev pub PassesOn : Instruction → Type 0
+PassesOn i = (behind : ℕ) → jumped i behind ≡ behind
 
 -- It has no effect: a step, an action or an end. Code reference, "Instructions".
 abbrev pub HasNoEffect : Instruction → Type 0

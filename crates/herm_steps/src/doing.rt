@@ -13,11 +13,12 @@ ghost use Rattle.herm_stack.specs.Answers.{on_stack};
 ghost use Rattle.herm_steps.specs.Behind.{IsBehind};
 ghost use Rattle.herm_steps.specs.Coming.{end_position, end_view};
 ghost use Rattle.herm_steps.specs.KeysThere.{CanBeKeyed};
-ghost use Rattle.herm_steps.specs.KindsOfCode.{IsEndOf, IsRare};
+ghost use Rattle.herm_steps.specs.Kinds.{PassesOn};
+ghost use Rattle.herm_steps.specs.KindsOfCode.{IsEndOf, IsKind, IsRare};
 ghost use Rattle.herm_steps.specs.Performed.{Performs, behind_effect};
 ghost use Rattle.herm_steps.specs.StandingAt.{StandsAt};
 
-use crate::kinds::{Kind, Rare, kind_of};
+use crate::kinds::{Kind, Rare};
 use crate::leading::outcome_of;
 use crate::running::{End, Running};
 use herm_code::Instr;
@@ -26,7 +27,7 @@ use herm_pieces::{Code, Outcome as Led, Position};
 use std::alloc::{AllocError, Global};
 
 impl Running {
-    /// Does the instruction at an index, which is neither a step nor an action. False where it is stuck. A table that is refused the
+    /// Does the instruction of this kind at an index, which is neither a step nor an action. False where it is stuck. A table that is refused the
     /// key of its type is told as want of memory: no run of a sound process has one.
     #[inline(always)]
     pub fn do_instruction(
@@ -35,22 +36,24 @@ impl Running {
         code: &Code,
         index: usize,
         instruction: &Instr,
+        kind: Kind,
     ) -> Result<bool, AllocError>
         requires within { index < length code.now.code.now.code.items }
+        requires kind { IsKind kind (instr_view instruction.now) }
         ensures done { IfOk result (λ r. (s : CodeState ⊤) → StandsAt self.old s → IsBehind r self.new s (done_instruction forget_name (ready_view code.now) s index (instr_view instruction.now))) }
     {
-        match kind_of(instruction) {
+        match kind {
             Kind::Pushing => {
                 let outcome = self.push(alloc, code, instruction)?;
-                Ok(self.go_on(code, index, instruction, outcome))
+                Ok(self.go_behind(code, index, instruction, outcome))
             }
             Kind::Combining(operator) => {
                 let outcome = self.combine(operator);
-                Ok(self.go_on(code, index, instruction, outcome))
+                Ok(self.go_behind(code, index, instruction, outcome))
             }
             Kind::Storing => {
                 let outcome = self.store_by(instruction)?;
-                Ok(self.go_on(code, index, instruction, outcome))
+                Ok(self.go_behind(code, index, instruction, outcome))
             }
             Kind::Leading => {
                 let outcome = self.lead(code, instruction);
@@ -107,6 +110,29 @@ impl Running {
         match outcome_of(outcome) {
             Some(Led::Ok) => {
                 self.pass_on(code, index, instruction);
+                true
+            }
+            Some(led) => self.lead_on(code, index, instruction, led),
+            None => false,
+        }
+    }
+
+    /// The same of an instruction that jumps nowhere.
+    #[inline(always)]
+    fn go_behind(
+        &mut self,
+        code: &Code,
+        index: usize,
+        instruction: &Instr,
+        outcome: Outcome,
+    ) -> bool
+        requires within { index < length code.now.code.now.code.items }
+        requires passes { PassesOn (instr_view instruction.now) }
+        ensures behind { (s : CodeState ⊤) (e : Effect ⊤) → Performs outcome self.old e → IsBehind result self.new s (behind_effect (ready_view code.now) s index (instr_view instruction.now) e) }
+    {
+        match outcome_of(outcome) {
+            Some(Led::Ok) => {
+                self.pass_behind(code, index, instruction);
                 true
             }
             Some(led) => self.lead_on(code, index, instruction, led),

@@ -1,9 +1,13 @@
 //! The kinds of instructions that are neither steps nor actions.
 ghost use Rattle.herm_code.specs.View.{instr_view};
+ghost use Rattle.std.specs.Prelude.{◌≡◌};
+ghost use Rattle.herm_code_machine.specs.CodeStates as states;
+ghost use Rattle.herm_pieces.specs.View.{ready_view};
 ghost use Rattle.herm_steps.specs.KindsOfCode.{IsKind};
 
 use crate::running::End;
 use herm_code::Instr;
+use herm_pieces::{Code, begins_piece};
 use herm_stack::{Binary, Unary};
 
 /// What an instruction does: it pushes a constant or a copy, combines the top two of the stack without memory, stores the top,
@@ -74,5 +78,23 @@ pub fn kind_of(instruction: &Instr) -> Kind
         Instr::LoopStart(_, _) | Instr::LoopNext(_, _, _) => Kind::Rare(Rare::Looping),
         Instr::LoopDrop(_) => Kind::Rare(Rare::Looping),
         _ => Kind::Rare(Rare::Other),
+    }
+}
+
+/// Whether a piece begins at an instruction of this kind where none has begun since the last end of one: only one of a rarer kind is a
+/// step or an action.
+#[inline(always)]
+#[tactic(auto, using(crate::proofs::Common::common))]
+pub fn begins_here(code: &Code, instruction: &Instr, kind: Kind) -> bool
+    requires kind { IsKind kind (instr_view instruction.now) }
+    ensures begins { result ≡ states.begins_piece (ready_view code.now) (instr_view instruction.now) }
+{
+    match kind {
+        Kind::Pushing => false,
+        Kind::Combining(_) => false,
+        Kind::Storing => false,
+        Kind::Leading => false,
+        Kind::Ending(_) => false,
+        Kind::Rare(_) => begins_piece(code, instruction),
     }
 }

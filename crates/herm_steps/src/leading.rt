@@ -10,6 +10,7 @@ ghost use Rattle.herm_frames.specs.Standing.{Stands};
 ghost use Rattle.herm_pieces.specs.View.{outcome_view, ready_view};
 ghost use Rattle.herm_stack.specs.Answers.{on_stack};
 ghost use Rattle.herm_steps.specs.Behind.{IsBehind};
+ghost use Rattle.herm_steps.specs.Kinds.{PassesOn};
 
 use crate::running::Running;
 use herm_code::Instr;
@@ -47,7 +48,18 @@ impl Running {
         self.position = Position::At(code.goes_to(index, instruction));
     }
 
+    /// Goes on behind the instruction at an index, which jumps nowhere.
+    #[inline(always)]
+    pub fn pass_behind(&mut self, code: &Code, index: usize, instruction: &Instr)
+        requires within { index < length code.now.code.now.code.items }
+        requires passes { PassesOn (instr_view instruction.now) }
+        ensures behind { (s : CodeState ⊤) (b : frames.Frame ⊤) → Stands self.old.frame b → IsBehind true self.new s (state_behind (ready_view code.now) s index (instr_view instruction.now) (on_stack self.old.stack) (goes ok b)) }
+    {
+        self.position = Position::At(code.behind(index));
+    }
+
     /// An exception leads on with an empty stack.
+    #[inline(always)]
     fn clear_raised(&mut self, outcome: Outcome)
         ensures process { self.new ≡ record self.old { stack = self.new.stack } }
         ensures stack { on_stack self.new.stack ≡ stack_after (outcome_view outcome) (on_stack self.old.stack) }

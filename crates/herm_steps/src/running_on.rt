@@ -7,8 +7,9 @@ ghost use Rattle.herm_steps.specs.Behind.{IsBehind};
 ghost use Rattle.herm_steps.specs.StandingAt.{StandsAt};
 ghost use Rattle.herm_steps.specs.Turns.{IsTurned};
 
+use crate::kinds::{begins_here, kind_of};
 use crate::running::Running;
-use herm_pieces::{Code, Position, begins_piece};
+use herm_pieces::{Code, Position};
 use std::alloc::{AllocError, Global};
 
 impl Running {
@@ -56,10 +57,11 @@ impl Running {
         let Some(instruction) = code.instruction_at(index) else {
             return Ok(Some(false));
         };
-        if begins_piece(code, instruction) {
+        let kind = kind_of(instruction);
+        if begins_here(code, instruction, kind) {
             return Ok(Some(true));
         }
-        if self.do_instruction(alloc, code, index, instruction)? {
+        if self.do_instruction(alloc, code, index, instruction, kind)? {
             return Ok(None);
         }
         Ok(Some(false))
