@@ -121,6 +121,10 @@ module _ (image : Image) (main : ℕ) where
 abbrev pub IsMachine : MachineState → Type 0
 IsMachine m = m.is_dead ≡ false → (image : Image) × (main : ℕ) × (s : CodeState ⊤) × IsAt image main m s
 
+-- nothing comes next
+abbrev pub IsNothing : found.Coming → Type 0
+IsNothing f = (f.end ≡ None) × ((f.has_step ≡ false) × (f.want ≡ None))
+
 -- What was found to come next is what does, at each state at which the process stands.
 pub record IsFound (f : found.Coming) (c : ReadyCode) (p : HeldState) : Type 0 where
   pub end : (s : CodeState ⊤) → StandsAt p s → option_map end_view f.end ≡ ended_at (coming (code_next c s)) s.position

@@ -1,5 +1,5 @@
 //! One process of an image.
-ghost use Rattle.std.specs.Prelude.{◌≡◌, ◌<◌, ◌↔◌, ℕ, List, Some, None, true, false, is_some, option_map, option_and_then, slice_get, length, IfOk, OnOk, IsErr, ⊤};
+ghost use Rattle.std.specs.Prelude.{◌≡◌, ◌<◌, ◌↔◌, ℕ, List, Some, None, true, false, is_some, option_map, option_and_then, slice_get, length, IfOk, OnOk, IsErr, IsSome, ⊤};
 ghost use Rattle.herm_model.specs.Values.{an_inport};
 ghost use Rattle.herm_journal.specs.Actions.{to_answer, to_put, to_take};
 ghost use Rattle.herm_journal.specs.Entries.{map_reply, texts_of};
@@ -23,7 +23,7 @@ ghost use Rattle.herm_steps.specs.Coming.{begins_with_step, coming, end_view};
 ghost use Rattle.herm_steps.specs.StandingAt.{StandsAt};
 ghost use Rattle.herm_answers.specs.Orders.{HoldsOrder};
 ghost use Rattle.herm_machine.specs.Gots.{Fits, IsOrdered, IsSuiting, IsWholeGot, TellsGot};
-ghost use Rattle.herm_machine.specs.Machines.{HasOut, IsAnswerWanted, IsAt, IsInside, IsPutWanted, IsTakeWanted, Reaches, StandsFor, code_of, counted_out, end_of, nameless};
+ghost use Rattle.herm_machine.specs.Machines.{HasOut, IsAnswerWanted, IsAt, IsInside, IsNothing, IsPutWanted, IsTakeWanted, Reaches, StandsFor, code_of, counted_out, end_of, nameless};
 
 use crate::counting::{counted, counted_cells};
 use crate::looking::first_port;
@@ -40,6 +40,13 @@ use herm_pieces::Code;
 use herm_steps::{Coming, End, Next, Running, sound_steps_are_made};
 use std::alloc::{AllocError, Global};
 use std::marker::Model;
+
+/// Nothing comes next.
+const NOTHING: Coming = Coming {
+    end: None,
+    has_step: false,
+    want: None,
+};
 
 /// One process of an image. Contracts see its code made ready, where it is and what it holds, the want whose message or reply was
 /// taken out, and whether a call failed: it is dead from then on. If it is not dead it is at a state of the machine of code
@@ -149,22 +156,22 @@ impl<'i> Machine<'i> {
         self.coming.end
     }
 
-    /// What comes next, where no order is out: how it has ended, if it has; whether a step begins it; and what it wants of a place. Nothing
-    /// comes next of a dead process.
+    /// What comes next: how it has ended, if it has; whether a step begins it; and what it wants of a place. Nothing comes next of a dead
+    /// process, nor while an order is out.
     #[inline(always)]
     pub fn coming(&self) -> Coming
         ensures end { (image : images.Image) (main : ℕ) (s : CodeState ⊤) → StandsFor image main self.now s → option_map end_view result.end ≡ end_of (code_of self.now) s }
         ensures step { (image : images.Image) (main : ℕ) (s : CodeState ⊤) → StandsFor image main self.now s → result.has_step ≡ begins_with_step (coming (code_next (code_of self.now) s)) }
         ensures wanted { (image : images.Image) (main : ℕ) (s : CodeState ⊤) → StandsFor image main self.now s → option_map want_view result.want ≡ option_and_then told ((nameless image main).wanted s) }
         ensures there { (image : images.Image) (main : ℕ) (s : CodeState ⊤) (w : CellWant ⊤) → StandsFor image main self.now s → (nameless image main).wanted s ≡ Some w → is_some result.want ≡ true }
-        ensures dead { self.now.is_dead ≡ true → (result.end ≡ None) × ((result.has_step ≡ false) × (result.want ≡ None)) }
+        ensures dead { self.now.is_dead ≡ true → IsNothing result }
+        ensures out { IsSome self.now.order → IsNothing result }
     {
         if self.is_dead {
-            return Coming {
-                end: None,
-                has_step: false,
-                want: None,
-            };
+            return NOTHING;
+        }
+        if self.order.is_some() {
+            return NOTHING;
         }
         self.coming
     }
@@ -315,13 +322,17 @@ impl<'i> Machine<'i> {
         Ok(())
     }
 
-    /// Counts one action more, where what it got is put aside.
+    /// Counts one action more, where what it got is put aside. A dead process stays as it is.
     pub fn put_aside(&mut self)
         requires inside { IsInside self.old }
         requires few { self.old.held.frame.actions < u64.MAX }
         ensures aside { (image : images.Image) (main : ℕ) (s : CodeState ⊤) → IsAt image main self.old s → StandsFor image main self.new ((nameless image main).put_aside s) }
         ensures dead { self.new.is_dead ≡ self.old.is_dead }
+        ensures stays { self.old.is_dead ≡ true → self.new ≡ self.old }
     {
+        if self.is_dead {
+            return;
+        }
         count_aside(&mut self.running);
         self.coming = self.running.coming(&self.code);
     }
