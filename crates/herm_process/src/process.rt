@@ -181,6 +181,7 @@ impl<'i> Process<'i> {
         ensures same { OnOk result (self.new ≡ record self.old { machine = self.new.machine }) }
         ensures failed { IsErr result → self.new ≡ record self.old { machine = self.new.machine; is_dead = true } }
         ensures dead { self.old.is_dead ≡ true → IsErr result }
+        ensures stays { self.old.is_dead ≡ true → self.new ≡ self.old }
     {
         if self.is_dead {
             return Err(AllocError);
@@ -203,14 +204,14 @@ impl<'i> Process<'i> {
         ensures same { OnOk result (self.new ≡ record self.old { machine = self.new.machine; ordered = self.new.ordered }) }
         ensures failed { IsErr result → self.new ≡ record self.old { machine = self.new.machine; is_dead = true } }
         ensures dead { self.old.is_dead ≡ true → IsErr result }
+        ensures stays { self.old.is_dead ≡ true → self.new ≡ self.old }
     {
         if self.is_dead {
             return Err(AllocError);
         }
         self.is_dead = true;
         self.diary.reserve()?;
-        let (order, ordered) = order_of(&mut self.machine)?;
-        self.ordered = Some(ordered);
+        let order = order_of(&mut self.machine, &mut self.ordered)?;
         self.is_dead = false;
         Ok(order)
     }
@@ -226,15 +227,14 @@ impl<'i> Process<'i> {
         ensures same { OnOk result (self.new ≡ record self.old { machine = self.new.machine; clock = stamp.0; diary = self.new.diary; ordered = None }) }
         ensures failed { IsErr result → self.new ≡ record self.old { machine = self.new.machine; clock = self.new.clock; diary = self.new.diary; ordered = self.new.ordered; is_dead = true } }
         ensures dead { self.old.is_dead ≡ true → IsErr result }
+        ensures stays { self.old.is_dead ≡ true → self.new ≡ self.old }
     {
         if self.is_dead {
             return Err(AllocError);
         }
-        let Some(ordered) = self.ordered.take() else {
-            unreachable!()
-        };
         self.is_dead = true;
-        let (place, action) = entry_of(self.number, ordered, &got)?;
+        let (place, action) = entry_of(self.number, &self.ordered, &got)?;
+        self.ordered = None;
         self.diary.push(Entry {
             stamp,
             proc: self.number,

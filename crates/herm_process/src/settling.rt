@@ -1,5 +1,5 @@
 //! What a process got for its order: its entry, and how it goes on.
-ghost use Rattle.std.specs.Prelude.{◌≡◌, ◌<◌, ◌↔◌, ℕ, Some, true, false, IfOk, OnOk, ⊤};
+ghost use Rattle.std.specs.Prelude.{◌≡◌, ◌<◌, ◌↔◌, ℕ, Some, true, false, IfOk, IsSome, OnOk, ⊤};
 ghost use Rattle.herm_journal.specs.Actions.{new_process, to_close, to_put};
 ghost use Rattle.herm_journal.specs.Messages.{CellAction, CellWant};
 ghost use Rattle.herm_events.specs.declared.entry.Action.TheVariants as actions;
@@ -22,12 +22,22 @@ use herm_machine::{Got, Machine};
 use std::alloc::AllocError;
 
 /// The place and the action of what the process of this number got for its order.
-pub fn entry_of(number: ProcNo, ordered: Ordered, got: &Got) -> Result<(Place, Action), AllocError>
+pub fn entry_of(
+    number: ProcNo,
+    ordered: &Option<Ordered>,
+    got: &Got,
+) -> Result<(Place, Action), AllocError>
+    requires out { IsSome ordered.now }
     requires whole { IsWholeGot got.now }
-    ensures entry { IfOk result (λ r. (w : CellWant ⊤) → IsFor ordered w → FitsWant got.now w → IsEntryOf number.number r.0 r.1 got.now w) }
+    ensures entry { IfOk result (λ r. (o : Ordered) (w : CellWant ⊤) → ordered.now ≡ Some o → IsFor o w → FitsWant got.now w → IsEntryOf number.number r.0 r.1 got.now w) }
 {
-    let entry = told_entry(number, &ordered, got);
-    entry
+    match ordered {
+        Some(ordered) => {
+            let entry = told_entry(number, ordered, got);
+            entry
+        }
+        None => unreachable!(),
+    }
 }
 
 /// The place and the action of what was got for an order.
