@@ -33,6 +33,7 @@ pub mod WorldLeads
 pub mod WorldStands
 pub mod ActedProcess
 pub mod LookedOne
+pub mod LookedByNext
 pub mod RunsOn
 pub mod StepsShown
 pub mod GoingOn

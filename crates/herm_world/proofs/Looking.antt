@@ -20,7 +20,9 @@ use Rattle.herm_values.specs.View.{value_view}
 use Rattle.herm_values.specs.declared.value.Value.{Value}
 use Rattle.herm_queue.specs.PortStates.{PortState}
 use Rattle.herm_queue.specs.ReplyStates.{ReplyState}
-use Rattle.herm_world.specs.Looks.{can_as}
+use Rattle.herm_exchanges.specs.declared.wants.PortList.{PortList}
+use Rattle.herm_exchanges.specs.declared.wants.Want.TheVariants as wants
+use Rattle.herm_world.specs.Looks.{can_as, IsToldWant, Takes}
 use Rattle.herm_world.specs.Places.{Places, port_seen, replies_seen, seen_of, holds_some, has_port, has_replies, is_filled, is_answered}
 use Rattle.herm_world.proofs.PlacesSeen.{get-map, number-map}
 
@@ -134,6 +136,10 @@ abbrev count_of : Told → Option ℕ
 count_of (a_take first count) = Some count
 count_of t = None
 
+abbrev first_told : Told → Option ℕ
+first_told (a_take first count) = Some first
+first_told t = None
+
 pub take-told : (w : CellWant ⊤) (first count : ℕ) → told w ≡ Some (a_take first count) → (ports : List ℕ) × (w ≡ to_take ports) × (length ports ≡ count)
 take-told new_port first count e = none-not_some (ap (option_and_then count_of) e)
 take-told (new_process code) first count e = none-not_some (ap (option_and_then count_of) e)
@@ -143,6 +149,18 @@ take-told (to_take (n ∷ ports)) first count e = (n ∷ ports, refl, some-injec
 take-told (to_close n) first count e = none-not_some (ap (option_and_then count_of) e)
 take-told (to_answer caller call r) first count e = none-not_some (ap (option_and_then count_of) e)
 take-told to_hear first count e = none-not_some (ap (option_and_then count_of) e)
+
+pub told-takes : (o : Option (CellWant ⊤)) (ports : PortList) → IsToldWant (wants.Take ports) o → Takes ports.count o
+told-takes o ports h = let t = take-told h.0 ports.first.number ports.count h.2 in (t.0, h.1 ∙ ap (λ w. Some w) t.1, t.2)
+
+-- where one is told, it is the port that is told
+pub one-port : (o : Option (CellWant ⊤)) (list : PortList) (ports : List ℕ) → IsToldWant (wants.Take list) o → o ≡ Some (to_take ports) → list.count ≡ 1 → ports ≡ list.first.number ∷ []
+one-port o list ports h is one = by ports (ap told (some-injective (sym is ∙ h.1)) ∙ h.2)
+  where
+    by : (ports : List ℕ) → told (take_of ports) ≡ Some (a_take list.first.number list.count) → ports ≡ list.first.number ∷ []
+    by [] e = none-not_some e
+    by (n ∷ []) e = ap (λ n. n ∷ []) (some-injective (ap (option_and_then first_told) e))
+    by (n ∷ m ∷ ports) e = absurd (let long = some-injective (ap (option_and_then count_of) e) in let k : ⊥ = omega (arith, long, one) in k)
 
 -- the first that passes, found one by one
 abbrev pub NoneBefore : (ℕ → Bool) → List ℕ → ℕ → Type 0

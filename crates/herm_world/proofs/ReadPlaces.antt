@@ -8,6 +8,7 @@ use Rattle.herm_system.specs.Systems.{numbered_from_one, set_from_one}
 use Rattle.herm_queue.specs.PortStates.{PortState}
 use Rattle.herm_queue.specs.ReplyStates.{ReplyState}
 use Rattle.herm_world.specs.Places.{Places, holds_some, is_filled, is_answered}
+use Rattle.herm_world.proofs.ListCases.{set-there}
 
 pub read-there : {X : Type 0} (xs : List X) (i : ℕ) (x : X) → i < length xs → x ≡ get_or xs i x → slice_get xs i ≡ Some x
 read-there xs i x lt e = slice_get_read xs (length xs) i x refl lt e
@@ -19,6 +20,11 @@ read-from-one xs (suc i) x one le e = read-there xs i x (omega (arith, le)) (e �
 pub set-from-one : {X : Type 0} (xs : List X) (p : ℕ) (x : X) → 1 ≤ p → set_from_one p x xs ≡ slice_set xs (p - 1) x
 set-from-one xs zero x one = absurd (omega (arith, one))
 set-from-one xs (suc i) x one = ap (λ j. slice_set xs j x) (omega arith)
+
+-- who is put in the place of another has its number
+pub put-from-one : {X : Type 0} (xs : List X) (p : ℕ) (x y : X) → numbered_from_one p xs ≡ Some x → numbered_from_one p (slice_set xs (p - 1) y) ≡ Some y
+put-from-one xs zero x y e = none-not_some e
+put-from-one xs (suc i) x y e = let same : suc i - 1 ≡ i = omega arith in subst (λ j. slice_get (slice_set xs j y) i ≡ Some y) (sym same) (set-there xs i x y e)
 
 get-within : {X : Type 0} (xs : List X) (i : ℕ) (x : X) → slice_get xs i ≡ Some x → i < length xs
 get-within [] i x e = none-not_some e

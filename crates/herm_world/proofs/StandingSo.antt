@@ -2,7 +2,7 @@
 use Rattle.std.proofs.Common.{◌≡◌, ℕ, Bool, true, false, cond, Some, refl, sym, ap, ◌∙◌}
 use Rattle.std.specs.Prelude.{⊤}
 use Rattle.herm_journal.specs.Messages.{CellWant}
-use Rattle.herm_system.specs.Machines.{Machine, Standing, ended, out_of_steps, out_of_actions, local, acting, waiting}
+use Rattle.herm_system.specs.Machines.{Machine, Standing, local, acting, waiting}
 use Rattle.herm_system.specs.Systems.{standing, seen_as, can_be_done}
 use Rattle.herm_world.specs.Looks.{can_so}
 
@@ -12,15 +12,6 @@ module _ {Q : Type 0} (machine : Machine ⊤ Q) (limit : ℕ) (can : CellWant �
 
   pub local-can : machine.ready limit x ≡ local → true ≡ can_so (standing machine limit can x)
   local-can e = sym (ap can_so (stands-as local e))
-
-  pub ended-can : machine.ready limit x ≡ ended → false ≡ can_so (standing machine limit can x)
-  ended-can e = sym (ap can_so (stands-as ended e))
-
-  pub steps-can : machine.ready limit x ≡ out_of_steps → false ≡ can_so (standing machine limit can x)
-  steps-can e = sym (ap can_so (stands-as out_of_steps e))
-
-  pub actions-can : machine.ready limit x ≡ out_of_actions → false ≡ can_so (standing machine limit can x)
-  actions-can e = sym (ap can_so (stands-as out_of_actions e))
 
   pub acting-as : (w : CellWant ⊤) → machine.ready limit x ≡ acting → machine.wanted x ≡ Some w → standing machine limit can x ≡ cond (can w) acting waiting
   acting-as w e wants = stands-as acting e ∙ ap (λ o. cond (can_be_done can o) acting waiting) wants

@@ -1,4 +1,4 @@
--- From how many ports a message is wanted, by what is told.
+-- From which ports a message is wanted, by what is told.
 use Rattle.std.proofs.Common.{◌≡◌, ℕ, suc, List, [], ◌∷◌, length, Some, refl, sym, ap, subst, ◌∙◌}
 use Rattle.std.specs.Prelude.{⊤}
 use Rattle.herm_model.proofs.Options.{none-not_some, some-injective}
@@ -8,16 +8,17 @@ use Rattle.herm_instructions.specs.Images.{Image}
 use Rattle.herm_code_machine.specs.CodeStates.{CodeState}
 use Rattle.herm_system.specs.Machines.{Standing, ended, out_of_steps, out_of_actions, local, acting}
 use Rattle.herm_exchanges.specs.Told.{Told, a_take, told, want_view}
+use Rattle.herm_exchanges.specs.declared.wants.PortList.{PortList}
 use Rattle.herm_exchanges.specs.declared.wants.Want.{Want}
+use Rattle.herm_exchanges.specs.declared.wants.Want.TheVariants as wants
 use Rattle.herm_machine.specs.Machines.{nameless}
 use Rattle.herm_process.specs.Nexts.{IsNext}
 use Rattle.herm_process.specs.Processes.{ProcessState, IsProcess}
 use Rattle.herm_process.specs.declared.next.Next.{Next}
 use Rattle.herm_process.specs.declared.next.Next.TheVariants as nexts
 use Rattle.herm_process.specs.declared.next.Spent.TheVariants as spent
-use Rattle.herm_world.specs.Looks.{Takes}
+use Rattle.herm_world.specs.Looks.{IsToldWant}
 use Rattle.herm_world.specs.Orders.{IsTaking}
-use Rattle.herm_world.proofs.Looking.{take-told}
 
 abbrev want_take : List ℕ → CellWant ⊤
 want_take ports = to_take ports
@@ -54,11 +55,10 @@ taking-acts p (nexts.Ended end) t is still = let h = is t.0 t.1 t.2 t.4 in apart
 taking-acts p (nexts.Stopped (spent.Steps n)) t is still = let h = is t.0 t.1 t.2 t.4 in apart _ (sym h.0 ∙ t.5) refl
 taking-acts p (nexts.Stopped (spent.Actions n)) t is still = let h = is t.0 t.1 t.2 t.4 in apart _ (sym h.0 ∙ t.5) refl
 
-pub counted-takes : (p : ProcessState) (want : Want) (n : ℕ) → IsTaking p → IsNextFor p (nexts.Act want) → ((first count : ℕ) → want_view want ≡ a_take first count → count ≡ n)
-    → (image : Image) (main : ℕ) (x : CodeState ⊤) → IsProcess image main p x → Takes n ((nameless image main).wanted x)
-counted-takes p want n t is counts image main x stands =
+pub taken-ports : (p : ProcessState) (want : Want) (ports : PortList) → IsTaking p → IsNextFor p (nexts.Act want) → ((first count : ℕ) → want_view want ≡ a_take first count → want ≡ wants.Take ports)
+    → (image : Image) (main : ℕ) (x : CodeState ⊤) → IsProcess image main p x → IsToldWant (wants.Take ports) ((nameless image main).wanted x)
+taken-ports p want ports t is takes image main x stands =
     let h = is t.0 t.1 t.2 t.4 in
     let v = take-view t.3 (want_view want) (ap told (some-injective (sym t.6 ∙ h.2)) ∙ h.3) in
     let k = is image main x stands in
-    let r = take-told k.1 v.0 v.1 (k.3 ∙ ap (λ t. Some t) v.2) in
-    (r.0, k.2 ∙ ap (λ w. Some w) r.1, r.2 ∙ counts v.0 v.1 v.2)
+    subst (λ want. IsToldWant want ((nameless image main).wanted x)) (takes v.0 v.1 v.2) (k.1, k.2, k.3)

@@ -8,7 +8,6 @@ use Rattle.herm_events.specs.declared.entry.Stamp.{Stamp}
 use Rattle.herm_journal.specs.Entries.{Text}
 use Rattle.herm_journal.specs.NextNumbers.{Limits}
 use Rattle.herm_system.specs.Systems.{Event}
-use Rattle.herm_runs.proofs.Numbered.{set-length_from_one}
 use Rattle.herm_code.specs.View.{CodeImage, image_view, module_view}
 use Rattle.herm_code_machine.specs.CodeStates.{CodeState}
 use Rattle.herm_code_worlds.specs.laws.WorldOfCode.{WorksAsWorld}
@@ -25,7 +24,7 @@ use Rattle.herm_world.specs.Worlds.{WorldState, ShowsRun, IsWorld, MakesNext}
 use Rattle.herm_world.specs.declared.parts.Parts.{Parts}
 use Rattle.herm_world.specs.declared.turns.Turn.TheVariants as turns
 use Rattle.herm_world.proofs.ActionLeads as acting
-use Rattle.herm_world.proofs.LocalLeads.{GoesOn, sees-then, local-goes}
+use Rattle.herm_world.proofs.LocalLeads.{GoesOn, local-goes}
 use Rattle.herm_world.proofs.ShownFacts.{alike-alive, alike-number, limits-are, processes-few, are-numbered, are-owned, clocks-fit, process-clock}
 
 module _ (img : CodeImage) (main : ℕ) where
@@ -73,26 +72,18 @@ module _ (img : CodeImage) (main : ℕ) where
         },
       )
 
+  -- who can step has room for all processes
+  pub world-room : (P : Parts) (dead : Bool) → IsWorld (world_at P dead) → length P.processes.items ≤ P.ready.limit
+  world-room P dead is =
+      let few = processes-few (image_view img) main is.works is.limits is.argument is.events is.run is.bare (is.shows).shows P.processes.items ((is.shows).sees).processes in
+      omega (arith, few, is.few, is.room)
+
   -- a local step
-  module _ (p : ℕ) (P Q : Parts) (dead : Bool) (made : MadeLocal p P.processes.items Q.processes.items) (places : Q.places ≡ P.places) (ready : Q.ready ≡ P.ready) (turn : IsOf p P.processes.items (λ process. TurnsAs turns.Local process (places_of P.places) p)) where
-    pub local-alive : IsWorld (world_at P dead) → AreAlive Q.processes.items
-    local-alive is =
-        alike-alive (image_view img) main Q.processes.items _
-        (sees-then (image_view img) main is.works is.limits is.argument is.events is.run is.bare (is.shows).shows P.processes.items Q.processes.items (places_of P.places) (places_of P.places) P.ready.members P.ready.members (is.shows).sees (is.shows).told p made (turn made.before made.there)).processes
-
-    pub local-room : IsWorld (world_at P dead) → length Q.processes.items ≤ Q.ready.limit
-    local-room is =
-        let long = ap length made.set ∙ set-length_from_one p made.after P.processes.items in
-        let few = processes-few (image_view img) main is.works is.limits is.argument is.events is.run is.bare (is.shows).shows P.processes.items ((is.shows).sees).processes in
-        let limit : Q.ready.limit ≡ 1024 = ap (λ (r : ReadySet). r.limit) ready ∙ is.room in
-        omega (arith, long, few, is.few, limit)
-
-    pub local-leads : (R : Parts) → IsWorld (world_at P dead) → R.processes.items ≡ Q.processes.items → LookedAt p Q.processes.items (places_of Q.places) Q.ready.members (places_of R.places) R.ready.members → LeadsOn p P R dead
-    local-leads R is processes looked limits argument events w b shown =
-        let before = subst (λ r. LookedAt p Q.processes.items (places_of P.places) r (places_of R.places) R.ready.members) (ap (λ (r : ReadySet). r.members) ready) (subst (λ s. LookedAt p Q.processes.items (places_of s) Q.ready.members (places_of R.places) R.ready.members) places looked) in
-        makes-next limits argument events b p P R dead
-        (subst (λ ps. GoesOn (image_view img) main limits argument events b p ps (places_of R.places) R.ready.members) (sym processes)
-        (local-goes (image_view img) main is.works limits argument events w b shown.shows P.processes.items Q.processes.items (places_of P.places) (places_of R.places) P.ready.members R.ready.members shown.sees shown.told p made (turn made.before made.there) before))
+  pub local-leads : (p : ℕ) (P Q : Parts) (dead : Bool) → MadeLocal p P.processes.items Q.processes.items → IsOf p P.processes.items (λ process. TurnsAs turns.Local process (places_of P.places) p) → IsWorld (world_at P dead)
+      → LookedAt p Q.processes.items (places_of P.places) P.ready.members (places_of Q.places) Q.ready.members → LeadsOn p P Q dead
+  local-leads p P Q dead made turn is looked limits argument events w b shown =
+      makes-next limits argument events b p P Q dead
+      (local-goes (image_view img) main is.works limits argument events w b shown.shows P.processes.items Q.processes.items (places_of P.places) (places_of Q.places) P.ready.members Q.ready.members shown.sees shown.told p made (turn made.before made.there) looked)
 
   -- an action that can be done now
   module _ (p : ℕ) (P : Parts) (dead : Bool) (turn : IsOf p P.processes.items (λ process. TurnsAs turns.Act process (places_of P.places) p)) where

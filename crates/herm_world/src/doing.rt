@@ -5,11 +5,12 @@ ghost use Rattle.herm_model.specs.Lists.{list_of};
 ghost use Rattle.herm_instructions.specs.Images as images;
 ghost use Rattle.herm_code_machine.specs.CodeStates.{CodeState};
 ghost use Rattle.herm_exchanges.specs.Told.{a_take, want_view};
+ghost use Rattle.herm_exchanges.specs.declared.wants.Want.TheVariants as wants;
 ghost use Rattle.herm_machine.specs.Machines.{nameless};
 ghost use Rattle.herm_process.specs.Entries.{IsOrderOf, IsWholeOrder};
 ghost use Rattle.herm_process.specs.Processes.{IsProcess};
 ghost use Rattle.herm_world.specs.Doing.{Does, numbers_in};
-ghost use Rattle.herm_world.specs.Looks.{Takes};
+ghost use Rattle.herm_world.specs.Looks.{IsToldWant};
 ghost use Rattle.herm_world.specs.Orders.{CanBeServed, CanTake, IsTaking, made_in, made_view};
 ghost use Rattle.herm_world.specs.Places.{places_of, ClocksFit, AreNumbered, AreOwned};
 
@@ -17,7 +18,7 @@ use crate::looks::first_filled;
 use crate::places::Places;
 use herm_base::{PortNo, ProcNo};
 use herm_events::Stamp;
-use herm_exchanges::Want;
+use herm_exchanges::{PortList, Want};
 use herm_machine::{Got, Order};
 use herm_process::{Next, Process};
 use std::alloc::AllocError;
@@ -61,29 +62,35 @@ fn made_of(module: u32, made: Option<(ProcNo, PortNo)>) -> Option<Made>
     }
 }
 
-/// Of how many ports a message is wanted; 0 where none is.
-fn count_in(want: Want) -> usize
-    ensures count { (first count : ℕ) → want_view want ≡ a_take first count → count ≡ result }
+/// No port.
+const NO_PORTS: PortList = PortList {
+    first: PortNo { number: 0 },
+    count: 0,
+};
+
+/// The ports of which a message is wanted; none where none is.
+fn ports_in(want: Want) -> PortList
+    ensures ports { (first count : ℕ) → want_view want ≡ a_take first count → want ≡ wants.Take result }
 {
     match want {
-        Want::Take(ports) => ports.count,
-        Want::MakePort => 0,
-        Want::MakeProcess(_) => 0,
-        Want::Put(_) => 0,
-        Want::Close(_) => 0,
-        Want::Answer(_, _) => 0,
-        Want::Hear => 0,
+        Want::Take(ports) => ports,
+        Want::MakePort => NO_PORTS,
+        Want::MakeProcess(_) => NO_PORTS,
+        Want::Put(_) => NO_PORTS,
+        Want::Close(_) => NO_PORTS,
+        Want::Answer(_, _) => NO_PORTS,
+        Want::Hear => NO_PORTS,
     }
 }
 
-/// Of how many ports the process wants a message.
-fn count_of(process: &Process) -> usize
+/// The ports of which the process wants a message.
+fn ports_of(process: &Process) -> PortList
     requires alive { process.now.is_dead ≡ false }
     requires taking { IsTaking process.now }
-    ensures takes { (image : images.Image) (main : ℕ) (x : CodeState ⊤) → IsProcess image main process.now x → Takes result ((nameless image main).wanted x) }
+    ensures takes { (image : images.Image) (main : ℕ) (x : CodeState ⊤) → IsProcess image main process.now x → IsToldWant (wants.Take result) ((nameless image main).wanted x) }
 {
     match process.next() {
-        Next::Act(want) => count_in(want),
+        Next::Act(want) => ports_in(want),
         Next::Local => unreachable!(),
         Next::Ended(_) => unreachable!(),
         Next::Stopped(_) => unreachable!(),
@@ -103,8 +110,8 @@ fn take_first(
     requires clocks { ClocksFit (places_of places.old) }
     ensures does { IfOk result (λ r. (image : images.Image) (main : ℕ) (x : CodeState ⊤) (w : CellWant ⊤) → IsProcess image main process.now x → (nameless image main).wanted x ≡ Some w → Does who.number clock.0 w (places_of places.old) (places_of places.new) r.0 r.1.0 [] × (None ≡ made_in w r.0)) }
 {
-    let count = count_of(process);
-    match first_filled(process, places, count) {
+    let ports = ports_of(process);
+    match first_filled(process, places, ports) {
         Some(port) => {
             let (got, stamp) = places.take(who, clock, port)?;
             return Ok((got, stamp));

@@ -1,5 +1,5 @@
 //! The parts of a world, and what one step of a process changes among them.
-ghost use Rattle.std.specs.Prelude.{◌≡◌, ◌≤◌, ℕ, List, IfOk, OnOk, length, option_map, ⊤};
+ghost use Rattle.std.specs.Prelude.{◌≡◌, ◌<◌, ◌≤◌, ℕ, List, IfOk, OnOk, length, option_map, ⊤};
 ghost use Rattle.herm_system.specs.Machines.{local};
 ghost use Rattle.herm_instructions.specs.Images as images;
 ghost use Rattle.herm_code.specs.View.{image_view};
@@ -9,7 +9,7 @@ ghost use Rattle.herm_process.specs.Processes.{IsProcess};
 ghost use Rattle.herm_world.specs.Doing.{numbers_in};
 ghost use Rattle.herm_world.specs.Orders.{made_view};
 ghost use Rattle.herm_world.specs.Places.{places_of, ClocksFit, AreNumbered, AreOwned};
-ghost use Rattle.herm_world.specs.Steps.{AreAlive, IsOf, CanAct, Acts, MadeLocal, MadeAction, BeginsMade, IsModule, LookedAt, LookedAtEach};
+ghost use Rattle.herm_world.specs.Steps.{AreAlive, IsOf, CanAct, Acts, MadeLocal, MadeAction, Begins, BeginsMade, IsModule, LookedAt, LookedAtEach};
 ghost use Rattle.herm_world.specs.Turns.{TurnsAs};
 
 use crate::doing::{Made, do_order};
@@ -69,16 +69,20 @@ impl<'i> Parts<'i> {
         turn_of(&self.processes[who.number as usize - 1], &self.places, who)
     }
 
-    /// Makes the local step of the process of this number, which is next.
+    /// Makes the local step of the process of this number, which is next, and looks at it again.
     pub fn step_locally(&mut self, who: ProcNo) -> Result<(), AllocError>
         requires from_one { 1 ≤ who.number }
         requires there { who.number ≤ length self.old.processes.items }
+        requires alive { AreAlive self.old.processes.items }
+        requires room { length self.old.processes.items ≤ self.old.ready.limit }
         requires next { IsOf who.number self.old.processes.items (λ process. (image : images.Image) (main : ℕ) (x : CodeState ⊤) → IsProcess image main process x → (nameless image main).ready process.limit x ≡ local) }
         ensures made { OnOk result (MadeLocal who.number self.old.processes.items self.new.processes.items) }
-        ensures places { self.new.places ≡ self.old.places }
-        ensures ready { self.new.ready ≡ self.old.ready }
+        ensures limit { self.new.ready.limit ≡ self.old.ready.limit }
+        ensures looked { OnOk result (LookedAt who.number self.new.processes.items (places_of self.old.places) self.old.ready.members (places_of self.new.places) self.new.ready.members) }
     {
-        self.processes[who.number as usize - 1].local()?;
+        let process = &mut self.processes[who.number as usize - 1];
+        process.local()?;
+        look_again(process, &mut self.places, &mut self.ready, who)?;
         Ok(())
     }
 
@@ -115,9 +119,29 @@ impl<'i> Parts<'i> {
         ensures places { self.new.places ≡ self.old.places }
         ensures ready { self.new.ready ≡ self.old.ready }
     {
-        let Some(made) = made else {
-            return Ok(());
-        };
+        match made {
+            Some(made) => {
+                self.begin_one(image, limits, maker, stamp, made)?;
+                return Ok(());
+            }
+            None => return Ok(()),
+        }
+    }
+
+    /// Begins a process that an action has made, behind the others.
+    fn begin_one(
+        &mut self,
+        image: &'i Image,
+        limits: &Limits,
+        maker: ProcNo,
+        stamp: Stamp,
+        made: Made,
+    ) -> Result<(), AllocError>
+        requires there { made.module < length image.now.modules }
+        ensures begins { OnOk result (Begins (image_view image.now) limits.now.steps maker stamp made.module made.number.number made.port.number self.old.processes.items self.new.processes.items) }
+        ensures places { self.new.places ≡ self.old.places }
+        ensures ready { self.new.ready ≡ self.old.ready }
+    {
         let alloc = *self.processes.allocator();
         let birth = Birth { maker, stamp };
         let process = Process::begin(

@@ -4,18 +4,20 @@ ghost use Rattle.herm_journal.specs.Actions.{to_take};
 ghost use Rattle.herm_instructions.specs.Images as images;
 ghost use Rattle.herm_code_machine.specs.CodeStates.{CodeState};
 ghost use Rattle.herm_waking.specs.Waking.{noted_at};
+ghost use Rattle.herm_exchanges.specs.declared.wants.Want.TheVariants as wants;
 ghost use Rattle.herm_machine.specs.Machines.{nameless};
+ghost use Rattle.herm_process.specs.Nexts.{IsNext};
 ghost use Rattle.herm_process.specs.Processes.{IsProcess};
-ghost use Rattle.herm_system.specs.Systems.{standing};
+ghost use Rattle.herm_process.specs.declared.next.Next.TheVariants as nexts;
 ghost use Rattle.herm_waking.specs.Unnamed.{bare_can, ports_of_want};
-ghost use Rattle.herm_world.specs.Looks.{Takes, IsToldWant, can_so};
+ghost use Rattle.herm_world.specs.Looks.{Takes, IsToldWant};
 ghost use Rattle.herm_world.specs.Places.{places_of, seen_of, waiters_of};
-ghost use Rattle.herm_world.specs.Waits.{IsSameBut, IsLookedAt, awaited_so, opened};
+ghost use Rattle.herm_world.specs.Waits.{IsSameBut, IsLookedAt, opened};
 
-use crate::looks::can_now;
+use crate::looks::can_do;
 use crate::places::Places;
 use herm_base::{PortNo, ProcNo};
-use herm_exchanges::Want;
+use herm_exchanges::{PortList, Want};
 use herm_process::{Next, Process};
 use herm_ready::Ready;
 use std::alloc::AllocError;
@@ -33,8 +35,29 @@ fn note_at(places: &mut Places, who: ProcNo, port: PortNo) -> Result<(), AllocEr
     Ok(())
 }
 
-/// Notes at each of the ports at which a process looks that it waits there.
-pub fn note(
+/// Notes at each of these ports, at which a process looks, that it waits there.
+fn note(
+    process: &Process,
+    places: &mut Places,
+    who: ProcNo,
+    ports: PortList,
+) -> Result<(), AllocError>
+    requires alive { process.now.is_dead ≡ false }
+    requires takes { (image : images.Image) (main : ℕ) (x : CodeState ⊤) → IsProcess image main process.now x → IsToldWant (wants.Take ports) ((nameless image main).wanted x) }
+    ensures same { OnOk result (IsSameBut (places_of places.old) (places_of places.new)) }
+    ensures noted { OnOk result ((image : images.Image) (main : ℕ) (x : CodeState ⊤) (ports : List ℕ) → IsProcess image main process.now x → (nameless image main).wanted x ≡ Some (to_take ports) → waiters_of (places_of places.new) ≡ noted_at (opened (places_of places.old)) who.number ports (waiters_of (places_of places.old))) }
+{
+    if ports.count == 1 {
+        note_at(places, who, ports.first)?;
+        return Ok(());
+    }
+    note_each(process, places, who, ports.count)?;
+    Ok(())
+}
+
+/// Notes at each of so many ports, at which a process looks, that it waits there.
+#[inline(never)]
+fn note_each(
     process: &Process,
     places: &mut Places,
     who: ProcNo,
@@ -66,7 +89,7 @@ fn wait_for(
 {
     match want {
         Want::Take(ports) => {
-            note(process, places, who, ports.count)?;
+            note(process, places, who, ports)?;
             return Ok(());
         }
         Want::MakePort => return Ok(()),
@@ -78,25 +101,34 @@ fn wait_for(
     }
 }
 
-/// Notes a process that cannot step at each port at which it waits for a message.
-fn wait(process: &Process, places: &mut Places, who: ProcNo) -> Result<(), AllocError>
+/// Looks again at a process whose action is next: it is kept exactly where what it wants can be done, and else noted at each port at
+/// which it waits.
+#[inline(always)]
+fn look_at_want(
+    process: &Process,
+    places: &mut Places,
+    ready: &mut Ready,
+    who: ProcNo,
+    want: Want,
+) -> Result<(), AllocError>
     requires alive { process.now.is_dead ≡ false }
-    requires stuck { (image : images.Image) (main : ℕ) (x : CodeState ⊤) → IsProcess image main process.now x → (qs : List (CodeState ⊤)) → can_so (standing (nameless image main) process.now.limit (bare_can (seen_of qs (places_of places.old)) who.number) x) ≡ false }
+    requires room { who.number ≤ ready.old.limit }
+    requires next { (image : images.Image) (main : ℕ) (x : CodeState ⊤) → IsProcess image main process.now x → IsNext (nameless image main) process.now.limit x (nexts.Act want) }
     ensures same { OnOk result (IsSameBut (places_of places.old) (places_of places.new)) }
-    ensures noted { OnOk result ((image : images.Image) (main : ℕ) (x : CodeState ⊤) → IsProcess image main process.now x → (qs : List (CodeState ⊤)) → waiters_of (places_of places.new) ≡ noted_at (opened (places_of places.old)) who.number (awaited_so (nameless image main) process.now.limit (bare_can (seen_of qs (places_of places.old)) who.number) x) (waiters_of (places_of places.old))) }
+    ensures limit { ready.new.limit ≡ ready.old.limit }
+    ensures kept { OnOk result ((image : images.Image) (main : ℕ) (x : CodeState ⊤) → IsProcess image main process.now x → (qs : List (CodeState ⊤)) → IsLookedAt (nameless image main) process.now.limit (bare_can (seen_of qs (places_of places.old)) who.number) x who.number (places_of places.old) ready.old.members (places_of places.new) ready.new.members) }
 {
-    match process.next() {
-        Next::Act(want) => {
-            wait_for(process, places, who, want)?;
-            return Ok(());
-        }
-        Next::Local => return Ok(()),
-        Next::Ended(_) => return Ok(()),
-        Next::Stopped(_) => return Ok(()),
+    if can_do(process, places, who, want) {
+        ready.insert(who.number);
+        return Ok(());
     }
+    ready.remove(who.number);
+    wait_for(process, places, who, want)?;
+    Ok(())
 }
 
 /// Looks again at a process: it is kept exactly where it can step, and noted at each port at which it waits.
+#[inline(always)]
 pub fn look_again(
     process: &Process,
     places: &mut Places,
@@ -109,11 +141,22 @@ pub fn look_again(
     ensures limit { ready.new.limit ≡ ready.old.limit }
     ensures kept { OnOk result ((image : images.Image) (main : ℕ) (x : CodeState ⊤) → IsProcess image main process.now x → (qs : List (CodeState ⊤)) → IsLookedAt (nameless image main) process.now.limit (bare_can (seen_of qs (places_of places.old)) who.number) x who.number (places_of places.old) ready.old.members (places_of places.new) ready.new.members) }
 {
-    if can_now(process, places, who) {
-        ready.insert(who.number);
-        return Ok(());
+    match process.next() {
+        Next::Local => {
+            ready.insert(who.number);
+            return Ok(());
+        }
+        Next::Act(want) => {
+            look_at_want(process, places, ready, who, want)?;
+            return Ok(());
+        }
+        Next::Ended(_) => {
+            ready.remove(who.number);
+            return Ok(());
+        }
+        Next::Stopped(_) => {
+            ready.remove(who.number);
+            return Ok(());
+        }
     }
-    ready.remove(who.number);
-    wait(process, places, who)?;
-    Ok(())
 }

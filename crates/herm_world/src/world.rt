@@ -184,7 +184,6 @@ impl<'i> World<'i> {
     {
         self.is_dead = true;
         self.parts.step_locally(who)?;
-        self.parts.look_at(who)?;
         self.is_dead = false;
         Ok(())
     }

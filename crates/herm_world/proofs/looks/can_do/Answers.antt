@@ -1,4 +1,4 @@
-use Rattle.std.proofs.Common.{◌≡◌, ℕ, List, Some, is_some, sym, ap, ◌∙◌}
+use Rattle.std.proofs.Common.{◌≡◌, ℕ, List, Some, is_some, sym, ap, subst, ◌∙◌}
 use Rattle.std.specs.Prelude.{⊤}
 use Rattle.herm_model.proofs.Options.{some-injective, is_some-map}
 use Rattle.herm_journal.specs.Messages.{CellWant}
@@ -11,7 +11,7 @@ use Rattle.herm_machine.specs.Machines.{nameless}
 use Rattle.herm_process.specs.Processes.{ProcessState, IsProcess}
 use Rattle.herm_world.specs.Looks.{IsToldWant, can_as}
 use Rattle.herm_world.specs.Places.{Places, places_of, seen_of}
-use Rattle.herm_world.proofs.Looking.{can-by-told, can-told, take-told}
+use Rattle.herm_world.proofs.Looking.{can-by-told, can-told}
 use Rattle.herm_world.proofs.looks.can_do.Goals as goal
 
 module _ (process : ProcessState) (s : Places) (p : ℕ) (want view : Want) (is : want ≡ view) (wants : (image : Image) (main : ℕ) (x : CodeState ⊤) → IsProcess image main process x → IsToldWant want ((nameless image main).wanted x)) where
@@ -41,10 +41,7 @@ pub returns-in-Hear : goal.returns-in-Hear
 returns-in-Hear c = record { can = λ image main x w is wanted qs. c.is_answered.ensures.answered ∙ can-wanted c.args.process.now (places_of c.args.places.now) c.args.who.number c.args.want _ c.in-Hear.is c.requires.wants image main x w is wanted qs }
 
 pub first_filled-requires-clause-takes : goal.first_filled-requires-clause-takes
-first_filled-requires-clause-takes c image main x is =
-    let h = c.requires.wants image main x is in
-    let t = take-told h.0 c.in-Take.ports.first.number c.in-Take.ports.count (h.2 ∙ ap (λ v. Some (want_view v)) c.in-Take.is) in
-    (t.0, h.1 ∙ ap (λ w. Some w) t.1, t.2)
+first_filled-requires-clause-takes c image main x is = subst (λ want. IsToldWant want ((nameless image main).wanted x)) c.in-Take.is (c.requires.wants image main x is)
 
 pub returns-in-Take : goal.returns-in-Take
 returns-in-Take c =

@@ -1,28 +1,26 @@
-use Rattle.std.proofs.Common.{sym, ap, ◌∙◌, arith, length}
-use Rattle.herm_model.proofs.Options.{some-injective}
+use Rattle.std.proofs.Common.{◌≡◌, ℕ, List, ◌∷◌, [], Bool, true, false, cond, find, Option, Some, None, sym, ap, ◌∙◌}
+use Rattle.herm_machine.specs.Machines.{nameless}
 use Rattle.herm_world.specs.Places.{places_of, is_filled}
-use Rattle.herm_world.proofs.Looking.{found-first, found-none, next-none, to_take-injective}
+use Rattle.herm_world.proofs.Looking.{one-port, told-takes}
 use Rattle.herm_world.proofs.looks.first_filled.Goals as goal
 
-pub look-port-requires-clause-take : goal.look-port-requires-clause-take
-look-port-requires-clause-take c image main x is = let h = c.requires.takes image main x is in (h.0, h.1, omega (arith, h.2, c.loop-place-test.true))
+pub first_among-port-requires-clause-takes : goal.first_among-port-requires-clause-takes
+first_among-port-requires-clause-takes c image main x is = told-takes ((nameless image main).wanted x) c.args.ports (c.requires.takes image main x is)
+
+-- among one port
+found-one : (test : ℕ → Bool) (ns : List ℕ) (n : ℕ) (b : Bool) → ns ≡ n ∷ [] → test n ≡ b → cond b (Some n) None ≡ find test ns
+found-one test ns n b one is = sym (ap (find test) one ∙ ap (λ b. cond b (Some n) None) is)
 
 pub returns-then-is_filled : goal.returns-then-is_filled
 returns-then-is_filled c =
     record {
       first = λ image main x ports is wants.
-          sym (found-first (is_filled (places_of c.args.places.now)) ports c.loop-place.place c.look-port.result.number (c.loop-place.invariant image main x ports is wants) (c.look-port.ensures.port image main x ports is wants) (sym c.is_filled.ensures.filled ∙ c.if-is_filled.true));
+          found-one (is_filled (places_of c.args.places.now)) ports c.args.ports.first.number true (one-port ((nameless image main).wanted x) c.args.ports ports (c.requires.takes image main x is) wants c.if-ports-eq1.true) (sym c.is_filled.ensures.filled ∙ c.if-is_filled.true);
     }
 
-pub loop-place-preserved : goal.loop-place-preserved
-loop-place-preserved c image main x ports is wants =
-    next-none (is_filled (places_of c.args.places.now)) ports c.loop-place.place c.look-port.result.number (c.loop-place.invariant image main x ports is wants) (c.look-port.ensures.port image main x ports is wants) (sym c.is_filled.ensures.filled ∙ c.if-is_filled.false)
-
-pub returns : goal.returns
-returns c =
+pub returns-then-ports-eq1 : goal.returns-then-ports-eq1
+returns-then-ports-eq1 c =
     record {
       first = λ image main x ports is wants.
-          let h = c.requires.takes image main x is in
-          let long = ap length (to_take-injective (some-injective (sym wants ∙ h.1))) ∙ h.2 in
-          sym (found-none (is_filled (places_of c.args.places.now)) ports c.loop-place.place (c.loop-place.invariant image main x ports is wants) (omega (arith, long, c.loop-place-test.false, c.loop-place.auto)));
+          found-one (is_filled (places_of c.args.places.now)) ports c.args.ports.first.number false (one-port ((nameless image main).wanted x) c.args.ports ports (c.requires.takes image main x is) wants c.if-ports-eq1.true) (sym c.is_filled.ensures.filled ∙ c.if-is_filled.false);
     }

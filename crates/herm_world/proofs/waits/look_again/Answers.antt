@@ -1,44 +1,40 @@
-use Rattle.std.proofs.Common.{cond, sym, ap, ◌∙◌}
-use Rattle.herm_system.specs.Systems.{standing}
-use Rattle.herm_waking.specs.Numbers.{inserted, removed}
-use Rattle.herm_waking.specs.Unnamed.{bare_can, ports_of_want}
-use Rattle.herm_waking.specs.Waking.{noted_at}
-use Rattle.herm_machine.specs.Machines.{nameless}
+use Rattle.std.proofs.Common.{List, sym, ap, subst}
+use Rattle.std.specs.Prelude.{ℕ}
 use Rattle.herm_ready.specs.Table.{ReadySet}
-use Rattle.herm_world.specs.Places.{places_of, seen_of, waiters_of}
-use Rattle.herm_world.specs.Waits.{opened}
-use Rattle.herm_world.proofs.Awaiting.{able-waits_nowhere}
+use Rattle.herm_process.specs.declared.next.Next.TheVariants as nexts
+use Rattle.herm_world.specs.Places.{places_of}
+use Rattle.herm_world.proofs.LookedByNext.{looks-local, looks-ended, looks-stopped}
+use Rattle.herm_world.proofs.LookedOne.{LooksSo}
 use Rattle.herm_world.proofs.Noting.{same-self}
+use Rattle.herm_world.proofs.TakenFrom.{IsNextFor}
 use Rattle.herm_world.proofs.waits.look_again.Goals as goal
 
-pub wait-requires-clause-stuck : goal.wait-requires-clause-stuck
-wait-requires-clause-stuck c image main x is qs = sym (c.can_now.ensures.can image main x is qs) ∙ c.if-can_now.false
+pub look_at_want-requires-clause-next : goal.look_at_want-requires-clause-next
+look_at_want-requires-clause-next c = subst (IsNextFor c.args.process.now) c.in-Act.is c.next.ensures.next
 
-pub returns-then-can_now : goal.returns-then-can_now
-returns-then-can_now c =
+pub returns-in-Local : goal.returns-in-Local
+returns-in-Local c =
     record {
       same = same-self (places_of c.args.places.now);
       limit = ap (λ (r : ReadySet). r.limit) c.insert.ensures.inserted;
-      kept = λ image main x is qs.
-          let e = sym (c.can_now.ensures.can image main x is qs) ∙ c.if-can_now.true in
-          record {
-            kept = ap (λ (r : ReadySet). r.members) c.insert.ensures.inserted ∙ sym (ap (λ b. cond b (inserted c.args.who.number c.args.ready.now.members) (removed c.args.who.number c.args.ready.now.members)) e);
-            noted =
-                sym
-                (ap (λ ports. noted_at (opened (places_of c.args.places.now)) c.args.who.number ports (waiters_of (places_of c.args.places.now)))
-                (able-waits_nowhere (standing (nameless image main) c.args.process.now.limit (bare_can (seen_of qs (places_of c.args.places.now)) c.args.who.number) x) (ports_of_want ((nameless image main).wanted x)) e));
-          };
+      kept = subst (λ (r : List ℕ). LooksSo c.args.who.number c.args.process.now (places_of c.args.places.now) c.args.ready.now.members (places_of c.args.places.now) r) (sym (ap (λ (r : ReadySet). r.members) c.insert.ensures.inserted))
+          (looks-local c.args.process.now (places_of c.args.places.now) c.args.who.number c.args.ready.now.members (subst (IsNextFor c.args.process.now) c.in-Local.is c.next.ensures.next));
     }
 
-pub returns : goal.returns
-returns c =
+pub returns-in-Ended : goal.returns-in-Ended
+returns-in-Ended c =
     record {
-      same = c.in_ok-wait.ensures.same;
+      same = same-self (places_of c.args.places.now);
       limit = ap (λ (r : ReadySet). r.limit) c.remove.ensures.removed;
-      kept = λ image main x is qs.
-          let e = sym (c.can_now.ensures.can image main x is qs) ∙ c.if-can_now.false in
-          record {
-            kept = ap (λ (r : ReadySet). r.members) c.remove.ensures.removed ∙ sym (ap (λ b. cond b (inserted c.args.who.number c.args.ready.now.members) (removed c.args.who.number c.args.ready.now.members)) e);
-            noted = c.in_ok-wait.ensures.noted image main x is qs;
-          };
+      kept = subst (λ (r : List ℕ). LooksSo c.args.who.number c.args.process.now (places_of c.args.places.now) c.args.ready.now.members (places_of c.args.places.now) r) (sym (ap (λ (r : ReadySet). r.members) c.remove.ensures.removed))
+          (looks-ended c.args.process.now (places_of c.args.places.now) c.args.who.number c.args.ready.now.members c.in-Ended.field-0 (subst (IsNextFor c.args.process.now) c.in-Ended.is c.next.ensures.next));
+    }
+
+pub returns-in-Stopped : goal.returns-in-Stopped
+returns-in-Stopped c =
+    record {
+      same = same-self (places_of c.args.places.now);
+      limit = ap (λ (r : ReadySet). r.limit) c.remove-in-Stopped.ensures.removed;
+      kept = subst (λ (r : List ℕ). LooksSo c.args.who.number c.args.process.now (places_of c.args.places.now) c.args.ready.now.members (places_of c.args.places.now) r) (sym (ap (λ (r : ReadySet). r.members) c.remove-in-Stopped.ensures.removed))
+          (looks-stopped c.args.process.now (places_of c.args.places.now) c.args.who.number c.args.ready.now.members c.in-Stopped.field-0 (subst (IsNextFor c.args.process.now) c.in-Stopped.is c.next.ensures.next));
     }

@@ -1,4 +1,4 @@
-use Rattle.std.proofs.Common.{◌≡◌, ℕ, Some, false, refl, sym, ap, ◌∙◌}
+use Rattle.std.proofs.Common.{◌≡◌, ℕ, Some, false, refl, sym, ap, subst, ◌∙◌}
 use Rattle.std.specs.Prelude.{⊤}
 use Rattle.herm_instructions.specs.Images.{Image}
 use Rattle.herm_code_machine.specs.CodeStates.{CodeState}
@@ -12,7 +12,7 @@ use Rattle.herm_world.specs.Looks.{IsToldWant}
 use Rattle.herm_world.specs.Places.{Places, places_of, waiters_of}
 use Rattle.herm_world.specs.Waits.{is_take, opened}
 use Rattle.herm_world.proofs.Awaiting.{none-awaited}
-use Rattle.herm_world.proofs.Looking.{take-told}
+use Rattle.herm_world.proofs.Looking.{told-takes}
 use Rattle.herm_world.proofs.Noting.{same-self}
 use Rattle.herm_world.proofs.waits.wait_for.Goals as goal
 
@@ -23,20 +23,16 @@ none-noted process s who want view is none wants image main x stands =
     sym (ap (λ ports. noted_at (opened s) who ports (waiters_of s)) (ap ports_of_want h.1 ∙ none-awaited h.0 (want_view view) (h.2 ∙ ap (λ v. Some (want_view v)) is) none))
 
 pub note-requires-clause-takes : goal.note-requires-clause-takes
-note-requires-clause-takes c image main x is =
-    let h = c.requires.wants image main x is in
-    let t = take-told h.0 c.in-Take.ports.first.number c.in-Take.ports.count (h.2 ∙ ap (λ v. Some (want_view v)) c.in-Take.is) in
-    (t.0, h.1 ∙ ap (λ w. Some w) t.1, t.2)
+note-requires-clause-takes c image main x is = subst (λ want. IsToldWant want ((nameless image main).wanted x)) c.in-Take.is (c.requires.wants image main x is)
 
 pub returns-in-Take : goal.returns-in-Take
 returns-in-Take c =
     record {
       same = c.in_ok-note-in-Take.ensures.same;
       noted = λ image main x is.
-          let h = c.requires.wants image main x is in
-          let t = take-told h.0 c.in-Take.ports.first.number c.in-Take.ports.count (h.2 ∙ ap (λ v. Some (want_view v)) c.in-Take.is) in
-          c.in_ok-note-in-Take.ensures.noted image main x t.0 is (h.1 ∙ ap (λ w. Some w) t.1)
-          ∙ ap (λ ports. noted_at (opened (places_of c.args.places.now)) c.args.who.number ports (waiters_of (places_of c.args.places.now))) (sym (ap ports_of_want (h.1 ∙ ap (λ w. Some w) t.1)));
+          let t = told-takes ((nameless image main).wanted x) c.in-Take.ports (subst (λ want. IsToldWant want ((nameless image main).wanted x)) c.in-Take.is (c.requires.wants image main x is)) in
+          c.in_ok-note-in-Take.ensures.noted image main x t.0 is t.1
+          ∙ ap (λ ports. noted_at (opened (places_of c.args.places.now)) c.args.who.number ports (waiters_of (places_of c.args.places.now))) (sym (ap ports_of_want t.1));
     }
 
 pub returns-in-MakePort : goal.returns-in-MakePort

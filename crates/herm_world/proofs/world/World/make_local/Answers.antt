@@ -7,13 +7,13 @@ use Rattle.herm_system.specs.Systems.{Event}
 use Rattle.herm_code_machine.specs.CodeStates.{CodeState}
 use Rattle.herm_waking.specs.KeptRounds.{Worked}
 use Rattle.herm_waking.specs.UnnamedRounds.{BareWorked}
-use Rattle.herm_ready.specs.Table.{ReadySet}
 use Rattle.herm_queue.specs.BookStates.{limits_view}
 use Rattle.herm_world.specs.Steps.{IsOf}
 use Rattle.herm_world.specs.Turns.{TurnsAs}
 use Rattle.herm_world.specs.Worlds.{WorldState, ShowsRun, MakesNext}
 use Rattle.herm_world.specs.declared.turns.Turn.TheVariants as turns
-use Rattle.herm_world.proofs.WorldLeads.{world_at, local-alive, local-room, local-leads, stays-world}
+use Rattle.herm_world.proofs.WorldLeads.{world_at, local-leads, stays-world, world-room}
+use Rattle.herm_world.proofs.WorldStands.{world-alive}
 use Rattle.herm_world.proofs.world.World.make_local.Goals as goal
 
 abbrev Turns : WorldState → ℕ → Type 0
@@ -25,25 +25,21 @@ LeadsWorld old new p = (limits : Limits) (argument : Text) (events : List Event)
 pub step_locally-requires-clause-next : goal.step_locally-requires-clause-next
 step_locally-requires-clause-next c process there image main x is = subst (λ w. Turns w c.args.who.number) (sym c.self.view_is) c.requires.turn process there image main x is []
 
-pub look_at-requires-clause-alive : goal.look_at-requires-clause-alive
-look_at-requires-clause-alive c =
-    local-alive c.self.inside.image.now c.self.inside.main c.args.who.number c.self.inside.parts c.step_locally.new.self c.self.inside.is_dead c.in_ok-step_locally.ensures.made c.in_ok-step_locally.ensures.places c.in_ok-step_locally.ensures.ready
-    (subst (λ w. Turns w c.args.who.number) (sym c.self.view_is) c.requires.turn) (c.self.invariant (ap (λ (w : WorldState). w.is_dead) c.self.view_is ∙ c.requires.alive)).1
+pub step_locally-requires-clause-alive : goal.step_locally-requires-clause-alive
+step_locally-requires-clause-alive c = world-alive c.self.inside.image.now c.self.inside.main c.self.inside.parts c.self.inside.is_dead (c.self.invariant (ap (λ (w : WorldState). w.is_dead) c.self.view_is ∙ c.requires.alive)).1
 
-pub look_at-requires-clause-room : goal.look_at-requires-clause-room
-look_at-requires-clause-room c =
-    local-room c.self.inside.image.now c.self.inside.main c.args.who.number c.self.inside.parts c.step_locally.new.self c.self.inside.is_dead c.in_ok-step_locally.ensures.made c.in_ok-step_locally.ensures.places c.in_ok-step_locally.ensures.ready
-    (subst (λ w. Turns w c.args.who.number) (sym c.self.view_is) c.requires.turn) (c.self.invariant (ap (λ (w : WorldState). w.is_dead) c.self.view_is ∙ c.requires.alive)).1
+pub step_locally-requires-clause-room : goal.step_locally-requires-clause-room
+step_locally-requires-clause-room c = world-room c.self.inside.image.now c.self.inside.main c.self.inside.parts c.self.inside.is_dead (c.self.invariant (ap (λ (w : WorldState). w.is_dead) c.self.view_is ∙ c.requires.alive)).1
 
 pub invariant_of-self-2 : goal.invariant_of-self-2
 invariant_of-self-2 c =
-    stays-world c.self.inside.image.now c.self.inside.main (limits_view c.self.inside.limits) c.args.who.number c.self.inside.parts c.look_at.new.self c.self.inside.is_dead (c.self.invariant (ap (λ (w : WorldState). w.is_dead) c.self.view_is ∙ c.requires.alive)).0 (c.self.invariant (ap (λ (w : WorldState). w.is_dead) c.self.view_is ∙ c.requires.alive)).1
-    (local-leads c.self.inside.image.now c.self.inside.main c.args.who.number c.self.inside.parts c.step_locally.new.self c.self.inside.is_dead c.in_ok-step_locally.ensures.made c.in_ok-step_locally.ensures.places c.in_ok-step_locally.ensures.ready
-    (subst (λ w. Turns w c.args.who.number) (sym c.self.view_is) c.requires.turn) c.look_at.new.self (c.self.invariant (ap (λ (w : WorldState). w.is_dead) c.self.view_is ∙ c.requires.alive)).1 c.in_ok-look_at.ensures.processes c.in_ok-look_at.ensures.looked)
-    (c.in_ok-look_at.ensures.limit ∙ ap (λ (r : ReadySet). r.limit) c.in_ok-step_locally.ensures.ready)
+    stays-world c.self.inside.image.now c.self.inside.main (limits_view c.self.inside.limits) c.args.who.number c.self.inside.parts c.step_locally.new.self c.self.inside.is_dead (c.self.invariant (ap (λ (w : WorldState). w.is_dead) c.self.view_is ∙ c.requires.alive)).0 (c.self.invariant (ap (λ (w : WorldState). w.is_dead) c.self.view_is ∙ c.requires.alive)).1
+    (local-leads c.self.inside.image.now c.self.inside.main c.args.who.number c.self.inside.parts c.step_locally.new.self c.self.inside.is_dead c.in_ok-step_locally.ensures.made
+    (subst (λ w. Turns w c.args.who.number) (sym c.self.view_is) c.requires.turn) (c.self.invariant (ap (λ (w : WorldState). w.is_dead) c.self.view_is ∙ c.requires.alive)).1 c.in_ok-step_locally.ensures.looked)
+    c.in_ok-step_locally.ensures.limit
 
 pub returns-clause-leads : goal.returns-clause-leads
 returns-clause-leads c =
-    subst (λ w. LeadsWorld w (world_at c.self.inside.image.now c.self.inside.main c.look_at.new.self false) c.args.who.number) c.self.view_is
-    (local-leads c.self.inside.image.now c.self.inside.main c.args.who.number c.self.inside.parts c.step_locally.new.self c.self.inside.is_dead c.in_ok-step_locally.ensures.made c.in_ok-step_locally.ensures.places c.in_ok-step_locally.ensures.ready
-    (subst (λ w. Turns w c.args.who.number) (sym c.self.view_is) c.requires.turn) c.look_at.new.self (c.self.invariant (ap (λ (w : WorldState). w.is_dead) c.self.view_is ∙ c.requires.alive)).1 c.in_ok-look_at.ensures.processes c.in_ok-look_at.ensures.looked)
+    subst (λ w. LeadsWorld w (world_at c.self.inside.image.now c.self.inside.main c.step_locally.new.self false) c.args.who.number) c.self.view_is
+    (local-leads c.self.inside.image.now c.self.inside.main c.args.who.number c.self.inside.parts c.step_locally.new.self c.self.inside.is_dead c.in_ok-step_locally.ensures.made
+    (subst (λ w. Turns w c.args.who.number) (sym c.self.view_is) c.requires.turn) (c.self.invariant (ap (λ (w : WorldState). w.is_dead) c.self.view_is ∙ c.requires.alive)).1 c.in_ok-step_locally.ensures.looked)

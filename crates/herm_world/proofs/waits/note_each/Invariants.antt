@@ -8,7 +8,7 @@ use Rattle.herm_machine.specs.Machines.{nameless}
 use Rattle.herm_process.specs.Processes.{IsProcess}
 use Rattle.herm_world.specs.Places.{places_of, waiters_of}
 use Rattle.herm_world.specs.Waits.{IsSameBut, opened}
-use Rattle.herm_world.proofs.waits.note.Given as goal
+use Rattle.herm_world.proofs.waits.note_each.Given as goal
 
 abbrev pub invariant-loop-place : goal.invariant-loop-place
 invariant-loop-place l =

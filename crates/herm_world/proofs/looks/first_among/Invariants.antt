@@ -7,7 +7,7 @@ use Rattle.herm_machine.specs.Machines.{nameless}
 use Rattle.herm_process.specs.Processes.{IsProcess}
 use Rattle.herm_world.specs.Places.{places_of, is_filled}
 use Rattle.herm_world.proofs.Looking.{NoneBefore}
-use Rattle.herm_world.proofs.looks.first_filled.Given as goal
+use Rattle.herm_world.proofs.looks.first_among.Given as goal
 
 abbrev pub invariant-loop-place : goal.invariant-loop-place
 invariant-loop-place l = (image : Image) (main : ℕ) (x : CodeState ⊤) (ports : List ℕ) → IsProcess image main l.process x → (nameless image main).wanted x ≡ Some (to_take ports) → NoneBefore (is_filled (places_of l.places)) ports l.place
