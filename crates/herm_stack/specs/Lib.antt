@@ -1,3 +1,4 @@
 pub mod Answers
 pub mod HeldValues
+pub mod Memory
 pub mod Operands

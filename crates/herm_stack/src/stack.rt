@@ -21,6 +21,7 @@ ghost use Rattle.herm_values.specs.Keyed.{keyed_view};
 ghost use Rattle.herm_values.specs.Whole.{IsWhole};
 ghost use Rattle.herm_values.specs.declared.value.Value.TheVariants as held;
 ghost use Rattle.herm_stack.specs.Answers.{evaluated, written, binary_view, unary_view, effect_of, on_stack, popped, literal_cell, IsPushed, IsCopied, IsLetGo, AreLetGo, IsPushedAs};
+ghost use Rattle.herm_stack.specs.Memory.{takes_no_memory, top_takes_no_memory, two_take_no_memory};
 
 use crate::answers::{Completion, Evaluation, Written};
 use crate::operators::{Binary, Unary, applied_at_end, combined_at_end};
@@ -344,9 +345,11 @@ fn let_go(values: &mut Vec<Value>) -> bool
     drop_last(values)
 }
 
-/// Whether the last value holds no memory, so that it need not be dropped.
+/// Whether the last value is there and holds no memory, so that it need not be dropped.
 #[inline(always)]
-fn ends_without_memory(values: &[Value]) -> bool {
+fn ends_without_memory(values: &[Value]) -> bool
+    ensures { result ≡ top_takes_no_memory (reverse values.now) }
+{
     let [.., last] = values else {
         return false;
     };
@@ -355,7 +358,9 @@ fn ends_without_memory(values: &[Value]) -> bool {
 
 /// Whether a value holds no memory.
 #[inline(always)]
-fn is_without_memory(v: &Value) -> bool {
+fn is_without_memory(v: &Value) -> bool
+    ensures { result ≡ takes_no_memory v.now }
+{
     match v {
         Value::Bool(_) | Value::Int(_) | Value::Tag(_) => true,
         Value::Inport(_) | Value::Outport(_) => true,
@@ -363,9 +368,10 @@ fn is_without_memory(v: &Value) -> bool {
     }
 }
 
-/// Forgets the last value, if there is one: it is not moved, and no memory that it holds is given back.
+/// Forgets the last value, which holds no memory: it is not moved, and nothing is given back.
 #[inline(always)]
 fn forget_last(values: &mut Vec<Value>) -> bool
+    requires memory { IsTrue (top_takes_no_memory (reverse values.old.items)) }
     ensures gone { IsLetGo result (reverse values.old.items) (reverse values.new.items) }
     ensures room { IsTrue result → vec_len values.new < vec_capacity values.new }
     ensures left_whole { All IsWhole values.old.items → All IsWhole values.new.items }
@@ -405,19 +411,22 @@ fn let_two_go(values: &mut Vec<Value>) -> bool
     drop_two(values)
 }
 
-/// Whether neither of the last two values holds memory.
+/// Whether the last two values are there and neither holds memory.
 #[inline(always)]
-fn both_end_without_memory(values: &[Value]) -> bool {
+fn both_end_without_memory(values: &[Value]) -> bool
+    ensures { result ≡ two_take_no_memory (reverse values.now) }
+{
     let [.., left, right] = values else {
         return false;
     };
     is_without_memory(left) && is_without_memory(right)
 }
 
-/// Forgets the last two values, if there are two.
+/// Forgets the last two values, neither of which holds memory.
 #[inline(always)]
 #[tactic(auto, using(crate::proofs::Stacked::letting_go))]
 fn forget_two(values: &mut Vec<Value>) -> bool
+    requires memory { IsTrue (two_take_no_memory (reverse values.old.items)) }
     ensures gone { AreLetGo result (reverse values.old.items) (reverse values.new.items) }
     ensures room { IsTrue result → vec_len values.new < vec_capacity values.new }
     ensures left_whole { All IsWhole values.old.items → All IsWhole values.new.items }
