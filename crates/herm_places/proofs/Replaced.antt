@@ -1,23 +1,21 @@
 -- Where a value is put in the place of nothing, or of a value of one cell.
-use Rattle.std.proofs.Common.{◌≡◌, ◌<◌, ◌≤◌, ℕ, List, [], ◌∷◌, Bool, true, false, Option, Some, None, Result, Ok, Err, is_ok, is_some, IfOk, OnOk, OnErr, IfSome, option_map, get_or, length, refl, sym, ap, subst, ◌∙◌, arith, Vec, Global, Box}
-use Rattle.std.proofs.lemmas.List.{length-map, get_or_past}
+use Rattle.std.proofs.Common.{◌≡◌, ◌<◌, ◌≤◌, ℕ, zero, suc, List, [], ◌∷◌, Bool, true, false, Option, Some, None, Result, Ok, Err, is_ok, is_some, OnOk, IfSome, option_map, get_or, length, refl, sym, ap, subst, ◌∙◌, arith, Vec, Global, Box}
+use Rattle.std.proofs.lemmas.List.{length-map, get_or_past, set-set}
 use Rattle.std.proofs.lemmas.Bool.{lt-ltb, le-ltb}
 use Rattle.std.proofs.Math.ListN as lists
 use Rattle.std.specs.Prelude.{slice_set, nat_lt, ◌&&◌, ⊤}
 use Rattle.herm_parcels.specs.declared.call.CallMsg.{CallMsg}
 use Rattle.herm_model.specs.Values as model
-use Rattle.herm_model.specs.Values.{Kind, Cell, cell, Parts, no_parts, kind_of, part_at, size, inside, cell_at, has_value, has_place, set_at, put_at, change_inside}
+use Rattle.herm_model.specs.Values.{Cell, cell, Parts, no_parts, part_at, size, inside, cell_at, has_value, has_place, set_at, put_at, change_inside}
 use Rattle.herm_values.specs.Keyed.{keyed_view}
 use Rattle.herm_values.specs.View.{value_view, views_of}
 use Rattle.herm_values.specs.declared.value.Value.{Value, Fields, Call, Table as a_table}
 use Rattle.herm_values.specs.declared.value.Table.{Table}
 use Rattle.herm_values.proofs.Seen.{fields_view, table_view, call_view}
-use Rattle.herm_values.proofs.Wholes.{fields-whole, whole-fields}
 use Rattle.herm_places.specs.Held.{keyed_places, seen_places}
 use Rattle.herm_places.specs.Plain.{IsPlain, fields_in, has_replaceable, is_replaceable}
 use Rattle.herm_places.proofs.Read.{part-at}
-use Rattle.herm_places.proofs.Changed.{size-from, set_here, set_within, put_back}
-use Rattle.herm_places.proofs.Put.{fields_put, fields_held}
+use Rattle.herm_places.proofs.Changed.{size-from, set_here, set_within, fields_changed}
 
 -- a place by what is there
 seen_get : (vs : List (Option Value)) (i : ℕ) → get_or (views_of vs) i None ≡ option_map value_view (get_or vs i None)
@@ -87,30 +85,58 @@ within_done vs i j outer b some done =
 cell_within : (vs : List (Option Value)) (i j : ℕ) (outer : Value) → Some outer ≡ get_or vs i None → cell_at (j ∷ []) (inside (Some (value_view outer))) ≡ cell_at (i ∷ j ∷ []) (seen_places vs)
 cell_within vs i j outer some = ap (λ o. cell_at (j ∷ []) (inside o)) (sym (part_seen vs i ∙ ap (option_map value_view) (sym some)))
 
-pub within_held : (vs : List (Option Value)) (i j : ℕ) (outer : Value) (answer : Result Bool Value) → Some outer ≡ get_or vs i None
-    → IfOk answer (λ b. b ≡ has_value (inside (Some (value_view outer))) (j ∷ [])) → IfOk answer (λ b. b ≡ has_value (seen_places vs) (i ∷ j ∷ []))
-within_held vs i j outer answer some held = subst (λ o. IfOk answer (λ b. b ≡ is_some o)) (cell_within vs i j outer some) held
+pub within_held : (vs : List (Option Value)) (i j : ℕ) (outer : Value) (answer : Option Bool) → Some outer ≡ get_or vs i None
+    → IfSome answer (λ b. b ≡ has_value (inside (Some (value_view outer))) (j ∷ [])) → IfSome answer (λ b. b ≡ has_value (seen_places vs) (i ∷ j ∷ []))
+within_held vs i j outer answer some held = subst (λ o. IfSome answer (λ b. b ≡ is_some o)) (cell_within vs i j outer some) held
 
-pub within_plain : (vs : List (Option Value)) (i j : ℕ) (outer : Value) (answer : Result Bool Value) → Some outer ≡ get_or vs i None
-    → OnOk answer (IfSome (cell_at (j ∷ []) (inside (Some (value_view outer)))) IsPlain) → OnOk answer (IfSome (cell_at (i ∷ j ∷ []) (seen_places vs)) IsPlain)
-within_plain vs i j outer answer some plain = subst (λ o. OnOk answer (IfSome o IsPlain)) (cell_within vs i j outer some) plain
+pub within_plain : (vs : List (Option Value)) (i j : ℕ) (outer : Value) → Some outer ≡ get_or vs i None
+    → IfSome (cell_at (j ∷ []) (inside (Some (value_view outer)))) IsPlain → IfSome (cell_at (i ∷ j ∷ []) (seen_places vs)) IsPlain
+within_plain vs i j outer some plain = subst (λ o. IfSome o IsPlain) (cell_within vs i j outer some) plain
 
-pub within_put : (vs mid new : List (Option Value)) (i j : ℕ) (outer left v : Value) (answer : Result Bool Value)
-    → Some outer ≡ get_or vs i None → mid ≡ slice_set vs i None → new ≡ slice_set mid i (Some left)
-    → OnOk answer (keyed_view left ≡ change_inside (set_at (j ∷ []) (Some (keyed_view v))) (keyed_view outer))
-    → OnOk answer (keyed_places new ≡ put_at (i ∷ j ∷ []) (keyed_view v) (keyed_places vs))
-within_put vs mid new i j outer left v (Err w) at first last changed = tt
-within_put vs mid new i j outer left v (Ok o) at first last changed = set_within vs mid new i j [] (Some (keyed_view v)) outer left at first last changed
+-- the fields of the record at a place
+pub fields_at : (vs : List (Option Value)) (i : ℕ) (outer : Value) → Some outer ≡ get_or vs i None → size (fields_in (part_at i (seen_places vs))) ≡ size (fields_in (Some (value_view outer)))
+fields_at vs i outer some = ap (λ o. size (fields_in o)) (part_seen vs i ∙ ap (option_map value_view) (sym some))
 
-pub within_kept : (vs mid new : List (Option Value)) (i : ℕ) (outer left : Value) (answer : Result Bool Value)
-    → Some outer ≡ get_or vs i None → mid ≡ slice_set vs i None → new ≡ slice_set mid i (Some left)
-    → OnErr answer (keyed_view left ≡ keyed_view outer) → OnErr answer (keyed_places new ≡ keyed_places vs)
-within_kept vs mid new i outer left (Err w) at first last same = put_back vs mid new i outer left at first last same
-within_kept vs mid new i outer left (Ok o) at first last same = tt
+pub within_there : (vs : List (Option Value)) (i j : ℕ) (outer : Value) (answer : Option Bool) → Some outer ≡ get_or vs i None
+    → IfSome answer (λ b. j < size (fields_in (Some (value_view outer)))) → IfSome answer (λ b. j < size (fields_in (part_at i (seen_places vs))))
+within_there vs i j outer answer some there = subst (λ n. IfSome answer (λ b. j < n)) (sym (fields_at vs i outer some)) there
 
-pub ruleset here = (part_seen, here_done, here_put)
+by_part : (vs : List (Option Value)) (i j : ℕ) (o : Option Value) → get_or vs i None ≡ o → j < size (fields_in (option_map value_view o)) → i < length vs
+by_part [] i j o is h = absurd (no_part o (sym is) h) where
+  no_part : (o : Option Value) → o ≡ None → j < size (fields_in (option_map value_view o)) → ⊥
+  no_part None e h = omega (arith, h)
+  no_part (Some v) e h = cc
+by_part (x ∷ vs) zero j o is h = omega arith
+by_part (x ∷ vs) (suc i) j o is h = let less = by_part vs i j o is h in omega (arith, less)
 
-pub ruleset places = (past, behind, nowhere, within_done, within_held, within_plain)
+pub a_place : (vs : List (Option Value)) (i j : ℕ) → j < size (fields_in (part_at i (seen_places vs))) → i < length vs
+a_place vs i j h = by_part vs i j (get_or vs i None) refl (subst (λ o. j < size (fields_in o)) (part_seen vs i) h)
+
+-- what is lent at a place stands there
+got : {X : Type 0} (os : List (Option X)) (i : ℕ) (o : Option X) → i < length os → o ≡ get_or os i o → o ≡ get_or os i None
+got [] i o h is = absurd (omega (arith, h))
+got (x ∷ os) zero o h is = is
+got (x ∷ os) (suc i) o h is = got os i o (omega (arith, h)) is
+
+pub lent_some : (vs : List (Option Value)) (i j : ℕ) (o : Option Value) (outer : Value) → j < size (fields_in (part_at i (seen_places vs))) → o ≡ get_or vs i o → o ≡ Some outer → Some outer ≡ get_or vs i None
+lent_some vs i j o outer h at is = sym is ∙ got vs i o (a_place vs i j h) at
+
+pub lent_there : (vs : List (Option Value)) (i j : ℕ) (o : Option Value) (outer : Value) → j < size (fields_in (part_at i (seen_places vs))) → o ≡ get_or vs i o → o ≡ Some outer → j < size (fields_in (Some (value_view outer)))
+lent_there vs i j o outer h at is = subst (λ n. j < n) (fields_at vs i outer (lent_some vs i j o outer h at is)) h
+
+pub lent_none : {A : Type 0} (vs : List (Option Value)) (i j : ℕ) (o : Option Value) → j < size (fields_in (part_at i (seen_places vs))) → o ≡ get_or vs i o → o ≡ None → A
+lent_none vs i j o h at is =
+    let none : None ≡ get_or vs i None = sym is ∙ got vs i o (a_place vs i j h) at in
+    absurd (omega (arith, subst (λ o. j < size (fields_in o)) (part_seen vs i ∙ ap (option_map value_view) (sym none)) h))
+
+pub within_put : (vs new : List (Option Value)) (i j : ℕ) (outer left v : Value)
+    → Some outer ≡ get_or vs i None → new ≡ slice_set vs i (Some left) → keyed_view left ≡ change_inside (set_at (j ∷ []) (Some (keyed_view v))) (keyed_view outer)
+    → keyed_places new ≡ put_at (i ∷ j ∷ []) (keyed_view v) (keyed_places vs)
+within_put vs new i j outer left v at put changed = set_within vs (slice_set vs i None) new i j [] (Some (keyed_view v)) outer left at refl (put ∙ sym (set-set vs i None (Some left))) changed
+
+pub ruleset here = (part_seen, past, here_done, here_put)
+
+pub ruleset places = (past, behind, nowhere, within_done, within_held, within_plain, within_there)
 
 -- what is no record has no fields
 abbrev pub IsNoRecord : Value → Type 0
@@ -126,13 +152,35 @@ pub call_closed : (x : CallMsg Value) → IsNoRecord (Call x)
 call_closed x = ap (λ c. fields_in (Some c)) (call_view (Call x) x refl)
 
 -- inside a record
-pub fields_done : (v : Value) (x : Vec (Option Value) Global) (p : List ℕ) (b : Bool) → v ≡ Fields x → b ≡ has_replaceable (seen_places x.items) p → b ≡ has_replaceable (fields_in (Some (value_view v))) p
-fields_done v x p b is done = done ∙ sym (ap (λ c. has_replaceable (fields_in (Some c)) p) (fields_view v x is))
+pub record_seen : (v : Value) (x : Vec (Option Value) Global) (vs : List (Option Value)) → v ≡ Fields x → vs ≡ x.items → value_view v ≡ cell tt model.a_record (seen_places vs)
+record_seen v x vs is same = fields_view v x is ∙ ap (λ vs. cell tt model.a_record (seen_places vs)) (sym same)
 
-pub fields_here : (v : Value) (x : Vec (Option Value) Global) (p : List ℕ) (answer : Result Bool Value) → v ≡ Fields x → IfOk answer (λ b. b ≡ has_value (seen_places x.items) p) → IfOk answer (λ b. b ≡ has_value (inside (Some (value_view v))) p)
-fields_here v x p answer is held = subst (λ c. IfOk answer (λ b. b ≡ has_value (inside (Some c)) p)) (sym (fields_view v x is)) held
+module _ (v : Value) (vs : List (Option Value)) (seen : value_view v ≡ cell tt model.a_record (seen_places vs)) where
+  pub fields_done : (p : List ℕ) (b : Bool) → b ≡ has_replaceable (seen_places vs) p → b ≡ has_replaceable (fields_in (Some (value_view v))) p
+  fields_done p b done = done ∙ sym (ap (λ c. has_replaceable (fields_in (Some c)) p) seen)
 
-pub fields_plain : (v : Value) (x : Vec (Option Value) Global) (p : List ℕ) (answer : Result Bool Value) → v ≡ Fields x → OnOk answer (IfSome (cell_at p (seen_places x.items)) IsPlain) → OnOk answer (IfSome (cell_at p (inside (Some (value_view v)))) IsPlain)
-fields_plain v x p answer is plain = subst (λ c. OnOk answer (IfSome (cell_at p (inside (Some c))) IsPlain)) (sym (fields_view v x is)) plain
+  pub fields_here : (p : List ℕ) (answer : Option Bool) → IfSome answer (λ b. b ≡ has_value (seen_places vs) p) → IfSome answer (λ b. b ≡ has_value (inside (Some (value_view v))) p)
+  fields_here p answer held = subst (λ c. IfSome answer (λ b. b ≡ has_value (inside (Some c)) p)) (sym seen) held
 
-pub ruleset within_record = (closed, table_closed, call_closed, fields_done, fields_here, fields_plain, fields_put, fields_held, fields-whole, whole-fields)
+  pub fields_plain : (p : List ℕ) → IfSome (cell_at p (seen_places vs)) IsPlain → IfSome (cell_at p (inside (Some (value_view v)))) IsPlain
+  fields_plain p plain = subst (λ c. IfSome (cell_at p (inside (Some c))) IsPlain) (sym seen) plain
+
+  pub fields_size : size (fields_in (Some (value_view v))) ≡ length vs
+  fields_size = ap (λ c. size (fields_in (Some c))) seen ∙ counted vs
+
+  pub fields_there : (j : ℕ) (answer : Option Bool) → IfSome answer (λ b. j < length vs) → IfSome answer (λ b. j < size (fields_in (Some (value_view v))))
+  fields_there j answer there = subst (λ n. IfSome answer (λ b. j < n)) (sym fields_size) there
+
+pub ruleset in_record = (closed, table_closed, call_closed)
+
+-- a value put at a field of a record
+pub a_field : (v : Value) (x : Vec (Option Value) Global) (j : ℕ) → v ≡ Fields x → j < size (fields_in (Some (value_view v))) → j < length x.items
+a_field v x j is h = subst (λ n. j < n) (fields_size v x.items (fields_view v x is)) h
+
+pub field_put : (v w : Value) (x new : Vec (Option Value) Global) (j : ℕ) → v ≡ Fields x → new.items ≡ slice_set x.items j (Some w) → keyed_view (Fields new) ≡ change_inside (set_at (j ∷ []) (Some (keyed_view w))) (keyed_view v)
+field_put v w x new j is put = fields_changed v x new (j ∷ []) (Some (keyed_view w)) is (set_here x.items new.items j (Some w) put)
+
+pub no_field : (v w : Value) (j : ℕ) (f : Parts (List ℕ) → Parts (List ℕ)) → v ≡ w → IsNoRecord w → j < size (fields_in (Some (value_view v))) → keyed_view v ≡ change_inside f (keyed_view v)
+no_field v w j f is none h = absurd (omega (arith, subst (λ n. j < n) (ap (λ v. size (fields_in (Some (value_view v)))) is ∙ ap size none) h))
+
+pub ruleset put_within = (a_place, no_field, table_closed, call_closed)
