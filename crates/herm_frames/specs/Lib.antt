@@ -8,6 +8,7 @@ pub mod KeyedTables
 pub mod Keyings
 pub mod Leaving
 pub mod Opening
+pub mod PlainRecords
 pub mod Refusals
 pub mod RowsGone
 pub mod Scopes

@@ -1,11 +1,12 @@
 //! How many cells are finalised at once, and values that are let go.
-ghost use Rattle.std.specs.Prelude.{◌≡◌, ◌≤◌, ◌<◌, ◌+◌, ◌^◌, ◌++◌, min, length, IfOk, OnOk, IsErr};
+ghost use Rattle.std.specs.Prelude.{◌≡◌, ◌≤◌, ◌<◌, ◌+◌, ◌^◌, ◌++◌, [], suc, min, length, IfOk, IfSome, OnOk, IsErr, IsTrue, is_some};
 ghost use Rattle.herm_model.specs.CellNames.{count};
-ghost use Rattle.herm_model.specs.Finalising.{finalised, finalised_in, pending};
+ghost use Rattle.herm_model.specs.Finalising.{finalised, finalised_in, pending, pending_in};
 ghost use Rattle.herm_values.specs.Parts.{parts_from};
 ghost use Rattle.herm_values.specs.View.{value_view, table_parts, views_of};
 ghost use Rattle.herm_values.specs.Works.{waiting, spare};
 ghost use Rattle.herm_frames.specs.Counts.{cut};
+ghost use Rattle.herm_frames.specs.PlainRecords.{are_plain, is_plain_record};
 
 use herm_places::is_plain;
 use herm_values::{Table, Value, Work, cells, finalise, pending};
@@ -111,6 +112,49 @@ fn make_room(v: &Value, work: &mut Work) -> Result<(), AllocError>
     work.reserve(n)
 }
 
+/// How many cells a record has whose fields are empty, scalars or outports: all are finalised at once. None of any other value.
+#[inline(always)]
+#[tactic(auto, using(herm_values::proofs::Seen::layers))]
+fn plain_cells(v: &Value) -> Option<u64>
+    ensures plain { is_some result ≡ is_plain_record (value_view v.now) }
+    ensures count { IfSome result (λ n. cut n ≡ cut (length (finalised (value_view v.now)))) }
+    ensures nothing_waits { IsTrue (is_some result) → pending (value_view v.now) ≡ [] }
+{
+    match v {
+        Value::Bool(_) => None,
+        Value::Int(_) => None,
+        Value::Text(_) => None,
+        Value::Tag(_) => None,
+        Value::Fields(fields) => plain_cells_in(fields.as_slice()),
+        Value::Case(_, _) => None,
+        Value::Table(_) => None,
+        Value::Poly(_) => None,
+        Value::Call(_) => None,
+        Value::Inport(_) => None,
+        Value::Outport(_) => None,
+    }
+}
+
+/// One more than the values at these places. None where one is no scalar and no outport.
+#[inline(always)]
+#[tactic(auto, using(crate::proofs::PlainCells::plain_places))]
+fn plain_cells_in(places: &[Option<Value>]) -> Option<u64>
+    ensures plain { is_some result ≡ are_plain (parts_from (views_of places.now)) }
+    ensures count { IfSome result (λ n. cut n ≡ cut (suc (length (finalised_in (parts_from (views_of places.now)))))) }
+    ensures nothing_waits { IsTrue (is_some result) → pending_in (parts_from (views_of places.now)) ≡ [] }
+{
+    let mut count: u64 = 1;
+    'places: for held in places {
+        if let Some(v) = held {
+            if !is_plain(v) {
+                return None;
+            }
+            count = count.saturating_add(1);
+        }
+    }
+    Some(count)
+}
+
 /// Finalises a value, where so many cells have been finalised before. The answer is how many have been then. Memory is
 /// wanted only where an inport or a callmessage goes on the work list.
 #[tactic(auto, using(crate::proofs::PlainCells::counting))]
@@ -121,6 +165,9 @@ pub fn let_go(v: Value, work: &mut Work, before: u64) -> Result<u64, AllocError>
 {
     if is_plain(&v) {
         return Ok(sum(before, 1));
+    }
+    if let Some(count) = plain_cells(&v) {
+        return Ok(sum(before, count));
     }
     make_room(&v, work)?;
     let count = sum(before, ended(&v));
