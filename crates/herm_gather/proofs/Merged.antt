@@ -1,24 +1,21 @@
 -- Entries that are sorted by their place in the order are a journal, if those of each process rise.
-use Rattle.std.proofs.Common.{◌≡◌, ℕ, zero, suc, ◌+◌, ◌*◌, ◌<◌, ◌≤◌, Bool, true, List, [], ◌∷◌, filter, nat_eq, length, get_or, ◌^◌, ◌-◌, refl, sym, ap, subst, ◌∙◌, arith, inl, inr, ◌⊎◌}
+use Rattle.std.proofs.Common.{◌≡◌, ℕ, ◌+◌, ◌*◌, ◌<◌, ◌≤◌, Bool, List, [], ◌∷◌, filter, nat_eq, ◌^◌, ◌-◌, refl, sym, ap, subst, ◌∙◌, arith, inl, inr, ◌⊎◌}
 use Rattle.std.proofs.lemmas.Bool.{cond-true, cond-false, cases_Bool}
-use Rattle.std.proofs.lemmas.Bool.Decides.{nat_tests}
 use Rattle.std.specs.List.Sorted.{IsNonDecreasingBy, IsStableByKey}
 use Rattle.std.specs.Ordering.{nat_cmp}
 use Rattle.herm_journal.specs.Entries as source
 use Rattle.herm_journal.specs.Journals.{IsBefore, IsRising, IsRisingFrom, part_of_process}
 use Rattle.herm_events.specs.View.{entry_view, entries_view}
 use Rattle.herm_events.specs.declared.entry.Entry.{Entry}
+use Rattle.herm_gather.specs.Diaries.{AreOfNumber}
 use Rattle.herm_gather.specs.Orders.{place_in_order, short_place}
+use Rattle.herm_gather.proofs.SameNumber.{same-true, same-is}
 use Rattle.herm_gather.proofs.SameClasses.{AreAtLeast, Rises, filters-swap, rises_from_sort, rises_kept, same_class, same_from_classes}
 
-abbrev is_of : ℕ → Entry → Bool
+abbrev pub is_of : ℕ → Entry → Bool
 is_of p e = nat_eq e.proc.number p
 
-abbrev AreOf : ℕ → List Entry → Type 0
-AreOf p [] = Unit {0}
-AreOf p (e ∷ es) = (e.proc.number ≡ p) × AreOf p es
-
-part-kept : (p : ℕ) (es : List Entry) → part_of_process p (entries_view es) ≡ entries_view (filter (is_of p) es)
+pub part-kept : (p : ℕ) (es : List Entry) → part_of_process p (entries_view es) ≡ entries_view (filter (is_of p) es)
 part-kept p [] = refl
 part-kept p (e ∷ es) =
     elim (cases_Bool (is_of p e)) [
@@ -30,15 +27,12 @@ part-kept p (e ∷ es) =
           ∙ part-kept p es ∙ sym (ap entries_view (cond-false (is_of p e) (e ∷ filter (is_of p) es) (filter (is_of p) es) without))
     ]
 
-is-of : (p q : ℕ) → nat_eq q p ≡ true → q ≡ p
-is-of p q h = grind (arith, nat_tests)
-
-are-of : (p : ℕ) (es : List Entry) → AreOf p (filter (is_of p) es)
+pub are-of : (p : ℕ) (es : List Entry) → AreOfNumber p (filter (is_of p) es)
 are-of p [] = tt
 are-of p (e ∷ es) =
     elim (cases_Bool (is_of p e)) [
-      | inl with ↦ subst (AreOf p) (sym (cond-true (is_of p e) (e ∷ filter (is_of p) es) (filter (is_of p) es) with)) (is-of p e.proc.number with, are-of p es)
-      | inr without ↦ subst (AreOf p) (sym (cond-false (is_of p e) (e ∷ filter (is_of p) es) (filter (is_of p) es) without)) (are-of p es)
+      | inl with ↦ subst (AreOfNumber p) (sym (cond-true (is_of p e) (e ∷ filter (is_of p) es) (filter (is_of p) es) with)) (same-is e.proc.number p with, are-of p es)
+      | inr without ↦ subst (AreOfNumber p) (sym (cond-false (is_of p e) (e ∷ filter (is_of p) es) (filter (is_of p) es) without)) (are-of p es)
     ]
 
 -- entries of one process that rise are in order
@@ -52,14 +46,14 @@ module _ (key : Entry → ℕ) (rises : (e f : Entry) → place_in_order e ≤ p
   at-least-le n m [] le h = tt
   at-least-le n m (e ∷ es) le h = let first = h.0 in (omega arith, at-least-le n m es le h.1)
 
-  placed-from : (p : ℕ) (e : Entry) (es : List Entry) → e.proc.number ≡ p → AreOf p es → IsRisingFrom (entry_view e) (entries_view es) → AreAtLeast key (key e) es × Rises key es
+  placed-from : (p : ℕ) (e : Entry) (es : List Entry) → e.proc.number ≡ p → AreOfNumber p es → IsRisingFrom (entry_view e) (entries_view es) → AreAtLeast key (key e) es × Rises key es
   placed-from p e [] its all rising = (tt, tt)
   placed-from p e (f ∷ es) its all rising =
       let rest = placed-from p f es all.0 all.1 rising.1 in
       let le : key e ≤ key f = rises e f (before-place e f (its ∙ sym all.0) rising.0) in
       ((le, at-least-le (key e) (key f) es le rest.0), rest)
 
-  placed : (p : ℕ) (es : List Entry) → AreOf p es → IsRising (entries_view es) → Rises key es
+  pub placed : (p : ℕ) (es : List Entry) → AreOfNumber p es → IsRising (entries_view es) → Rises key es
   placed p [] all rising = tt
   placed p (e ∷ es) all rising = placed-from p e es all.0 all.1 rising
 
@@ -85,15 +79,12 @@ stamps-or s t p q few le = grind (arith)
 less-or : (p q : ℕ) → p ≤ q → (p < q) ⊎ (p ≡ q)
 less-or p q le = grind (arith)
 
-equal-true : (n p : ℕ) → n ≡ p → nat_eq n p ≡ true
-equal-true n p e = grind (arith, nat_tests)
-
 first-two : (p : ℕ) (e f : Entry) (es : List Entry) → e.proc.number ≡ p → f.proc.number ≡ p
     → part_of_process p (entries_view (e ∷ f ∷ es)) ≡ entry_view e ∷ entry_view f ∷ part_of_process p (entries_view es)
 first-two p e f es a b =
-    cond-true (nat_eq e.proc.number p) (entry_view e ∷ part_of_process p (entries_view (f ∷ es))) (part_of_process p (entries_view (f ∷ es))) (equal-true e.proc.number p a)
+    cond-true (nat_eq e.proc.number p) (entry_view e ∷ part_of_process p (entries_view (f ∷ es))) (part_of_process p (entries_view (f ∷ es))) (same-true e.proc.number p a)
     ∙ ap (λ l. entry_view e ∷ l)
-    (cond-true (nat_eq f.proc.number p) (entry_view f ∷ part_of_process p (entries_view es)) (part_of_process p (entries_view es)) (equal-true f.proc.number p b))
+    (cond-true (nat_eq f.proc.number p) (entry_view f ∷ part_of_process p (entries_view es)) (part_of_process p (entries_view es)) (same-true f.proc.number p b))
 
 rising-tail : (e : source.Entry) (es : List source.Entry) → IsRisingFrom e es → IsRising es
 rising-tail e [] r = tt
@@ -125,40 +116,19 @@ journal-rises (e ∷ f ∷ es) few sorted rise = (
   journal-rises (f ∷ es) few.1 sorted.1 (λ p. tail-rises p e (f ∷ es) (rise p)),
 )
 
-few-of : (e : Entry) → e.proc.number < 2048
+pub few-of : (e : Entry) → e.proc.number < 2048
 few-of e = omega (arith, e.proc.in_range)
 
 pub are-few : (es : List Entry) → AreFew es
 are-few [] = tt
 are-few (e ∷ es) = (few-of e, are-few es)
 
--- the places cut to 64 bits do not fall either, and are the places where the cut leaves less than the most
 pub same-place : (e f : Entry) → place_in_order e ≤ place_in_order f → place_in_order e ≤ place_in_order f
 same-place e f le = le
 
-pub short-rises : (e f : Entry) → place_in_order e ≤ place_in_order f → short_place e ≤ short_place f
-short-rises e f le = grind (arith)
-
-short-is : (e : Entry) → short_place e < 2 ^ 64 - 1 → short_place e ≡ place_in_order e
+-- a place cut to 64 bits is the place where the cut leaves less than the most
+pub short-is : (e : Entry) → short_place e < 2 ^ 64 - 1 → short_place e ≡ place_in_order e
 short-is e h = grind (arith)
-
-same-at : (es : List Entry) (n : ℕ) (d e : Entry) → n < length es → get_or es n d ≡ get_or es n e
-same-at [] n d e h = absurd (omega (arith, h))
-same-at (x ∷ es) zero d e h = refl
-same-at (x ∷ es) (suc n) d e h = same-at es n d e (omega (arith, h))
-
--- so it is of each default, where it is of an entry that stands there
-pub fits-there : (es : List Entry) (n : ℕ) (e : Entry) → n < length es → e ≡ get_or es n e → short_place e < 2 ^ 64 - 1 → (d : Entry) → short_place (get_or es n d) < 2 ^ 64 - 1
-fits-there es n e below is h d = subst (λ x. short_place x < 2 ^ 64 - 1) (is ∙ same-at es n e d below) h
-
-pub all-fit : (es : List Entry) (n : ℕ) → n + 1 ≡ length es → IsNonDecreasingBy short_place es → ((d : Entry) → short_place (get_or es n d) < 2 ^ 64 - 1) → IsNonDecreasingBy place_in_order es
-all-fit es n last sorted fits i j d le lt =
-    let to_last = sorted j n d (omega (arith, last, lt)) (omega (arith, last)) in
-    let pair = sorted i j d le lt in
-    let few = fits d in
-    let a = short-is (get_or es j d) (omega (arith, to_last, few)) in
-    let b = short-is (get_or es i d) (omega (arith, to_last, few, pair)) in
-    omega (arith, a, b, pair)
 
 pub rises-again : (xs ys : List Entry) → ((p : ℕ) → part_of_process p (entries_view ys) ≡ part_of_process p (entries_view xs)) → ((p : ℕ) → IsRising (part_of_process p (entries_view xs)))
     → (p : ℕ) → IsRising (part_of_process p (entries_view ys))

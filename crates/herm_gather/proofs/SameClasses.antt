@@ -39,7 +39,7 @@ module _ {X : Type 0} (key : X → ℕ) where
   abbrev pub same_class : X → X → Bool
   same_class = ties (λ x y. is_lt (nat_cmp (key x) (key y)))
 
-  same_class-true : (x y : X) → same_class x y ≡ true → key x ≡ key y
+  pub same_class-true : (x y : X) → same_class x y ≡ true → key x ≡ key y
   same_class-true x y = (ties_at (key x) (key y)).0
 
   same_class_from : (x y : X) → key x ≡ key y → same_class x y ≡ true

@@ -1,2 +1,3 @@
+pub mod Diaries
 pub mod Gathered
 pub mod Orders

@@ -4,7 +4,9 @@
 mod counting;
 mod ending;
 mod merging;
+mod places;
 mod sums;
+mod turns;
 
 pub use counting::{PortCounts, ProcCounts, counts_of};
 pub use merging::journal_of;

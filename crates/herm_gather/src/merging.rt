@@ -1,55 +1,46 @@
-//! The journal of a run, from the entries of its diaries.
-ghost use Rattle.std.specs.Prelude.{◌≡◌, ◌+◌, ◌*◌, ℕ, IfOk, OnOk, IsTrue};
+//! The journal of a run, from its diaries.
+ghost use Rattle.std.specs.Prelude.{◌≡◌, ℕ, map, IfOk, OnOk};
 ghost use Rattle.std.specs.List.Sorted.{IsNonDecreasingBy};
 ghost use Rattle.herm_journal.specs.Journals.{IsRising, part_of_process};
 ghost use Rattle.herm_events.specs.View.{entries_view};
-ghost use Rattle.herm_gather.specs.Orders.{place_in_order, short_place};
+ghost use Rattle.herm_gather.specs.Diaries.{AreOwn, all_of, diaries_view, diary_lists};
+ghost use Rattle.herm_gather.specs.Orders.{place_in_order};
 
+use crate::places::{entry_count, place_of, places_of};
+use crate::turns::{queues_of, taken_in_turn};
 use herm_events::Entry;
 use herm_report::Journal;
-use std::alloc::AllocError;
+use std::alloc::{AllocError, Global};
 
-/// The number by which entries are ordered: first by stamp, then by process.
-fn place_of(entry: &Entry) -> u128
-    ensures place { result ≡ place_in_order entry.now }
+/// The journal of diaries, of which the first is of process 1, the second of process 2 and so on, with the places of their entries.
+fn merged(alloc: Global, diaries: Vec<Vec<Entry>>, places: Vec<u64>) -> Result<Journal, AllocError>
+    requires own { AreOwn 1 (diary_lists diaries.items) }
+    requires places { places.items ≡ map place_in_order (all_of (diary_lists diaries.items)) }
+    requires rise { (p : ℕ) → IsRising (part_of_process p (diaries_view diaries.items)) }
+    ensures rising { IfOk result (λ j. IsRising (entries_view j.entries.items)) }
+    ensures parts { IfOk result (λ j. (p : ℕ) → part_of_process p (entries_view j.entries.items) ≡ part_of_process p (diaries_view diaries.items)) }
 {
-    entry.stamp.0 as u128 * 2048 + entry.proc.number as u128
+    let mut places = places;
+    places.sort_unstable();
+    let queues = queues_of(alloc, diaries)?;
+    let entries = taken_in_turn(alloc, queues, places.as_slice())?;
+    Ok(Journal { entries })
 }
 
-/// That number, or the largest of 64 bits where it is larger.
-fn short_place_of(entry: &Entry) -> u64
-    ensures place { result ≡ short_place entry.now }
+/// The entries of all diaries, one diary behind the other.
+fn joined(alloc: Global, diaries: Vec<Vec<Entry>>) -> Result<Vec<Entry>, AllocError>
+    ensures entries { IfOk result (λ v. entries_view v.items ≡ diaries_view diaries.items) }
 {
-    entry
-        .stamp
-        .0
-        .saturating_mul(2048)
-        .saturating_add(entry.proc.number as u64)
-}
-
-/// Whether the places of entries, sorted by what fits of them in 64 bits, fit: that of the last one does.
-fn all_fit(entries: &[Entry]) -> bool
-    requires sorted { IsNonDecreasingBy short_place entries.now }
-    ensures fit { IsTrue result → IsNonDecreasingBy place_in_order entries.now }
-{
-    if entries.is_empty() {
-        return true;
+    let mut entries = Vec::with_capacity(alloc, entry_count(diaries.as_slice()))?;
+    for diary in diaries {
+        let mut diary = diary;
+        entries.append(&mut diary)?;
     }
-    short_place_of(&entries[entries.len() - 1]) < u64::MAX
-}
-
-/// Sorts entries, those of each process in order, by what fits of their places in 64 bits.
-fn sort_short(entries: &mut Vec<Entry>) -> Result<(), AllocError>
-    requires rise { (p : ℕ) → IsRising (part_of_process p (entries_view entries.old.items)) }
-    ensures sorted { OnOk result (IsNonDecreasingBy short_place entries.new.items) }
-    ensures parts { OnOk result ((p : ℕ) → part_of_process p (entries_view entries.new.items) ≡ part_of_process p (entries_view entries.old.items)) }
-{
-    entries.sort_by_cached_key(|entry| short_place_of(entry))?;
-    Ok(())
+    Ok(entries)
 }
 
 /// Sorts entries, those of each process in order, by their places.
-fn sort_long(entries: &mut Vec<Entry>) -> Result<(), AllocError>
+fn sort(entries: &mut Vec<Entry>) -> Result<(), AllocError>
     requires rise { (p : ℕ) → IsRising (part_of_process p (entries_view entries.old.items)) }
     ensures sorted { OnOk result (IsNonDecreasingBy place_in_order entries.new.items) }
     ensures parts { OnOk result ((p : ℕ) → part_of_process p (entries_view entries.new.items) ≡ part_of_process p (entries_view entries.old.items)) }
@@ -58,17 +49,32 @@ fn sort_long(entries: &mut Vec<Entry>) -> Result<(), AllocError>
     Ok(())
 }
 
-/// The journal of these entries, those of each process in order: by stamp, and those of one stamp by process.
-pub fn journal_of(entries: Vec<Entry>) -> Result<Journal, AllocError>
-    requires rise { (p : ℕ) → IsRising (part_of_process p (entries_view entries.items)) }
+/// The journal of any diaries.
+fn sorted(alloc: Global, diaries: Vec<Vec<Entry>>) -> Result<Journal, AllocError>
+    requires rise { (p : ℕ) → IsRising (part_of_process p (diaries_view diaries.items)) }
     ensures rising { IfOk result (λ j. IsRising (entries_view j.entries.items)) }
-    ensures parts { IfOk result (λ j. (p : ℕ) → part_of_process p (entries_view j.entries.items) ≡ part_of_process p (entries_view entries.items)) }
+    ensures parts { IfOk result (λ j. (p : ℕ) → part_of_process p (entries_view j.entries.items) ≡ part_of_process p (diaries_view diaries.items)) }
 {
-    let mut entries = entries;
-    sort_short(&mut entries)?;
-    if all_fit(&entries) {
-        return Ok(Journal { entries });
-    }
-    sort_long(&mut entries)?;
+    let mut entries = joined(alloc, diaries)?;
+    sort(&mut entries)?;
     Ok(Journal { entries })
+}
+
+/// The journal of these diaries, in which the entries of each process are in order: by stamp, and those of one stamp by process.
+#[inline(never)]
+pub fn journal_of(alloc: Global, diaries: Vec<Vec<Entry>>) -> Result<Journal, AllocError>
+    requires rise { (p : ℕ) → IsRising (part_of_process p (diaries_view diaries.items)) }
+    ensures rising { IfOk result (λ j. IsRising (entries_view j.entries.items)) }
+    ensures parts { IfOk result (λ j. (p : ℕ) → part_of_process p (entries_view j.entries.items) ≡ part_of_process p (diaries_view diaries.items)) }
+{
+    match places_of(alloc, diaries.as_slice())? {
+        Some(places) => {
+            let journal = merged(alloc, diaries, places)?;
+            Ok(journal)
+        }
+        None => {
+            let journal = sorted(alloc, diaries)?;
+            Ok(journal)
+        }
+    }
 }

@@ -2,6 +2,7 @@
 ghost use Rattle.std.specs.Prelude.{◌≡◌, ◌≤◌, ℕ, None, All, IfOk, length};
 ghost use Rattle.herm_journal.specs.Journals.{IsRising, part_of_process};
 ghost use Rattle.herm_events.specs.View.{entries_view};
+ghost use Rattle.herm_gather.specs.Diaries.{diaries_view};
 ghost use Rattle.herm_world.specs.Reported.{IsAtRest, IsReported, all_entries};
 
 use crate::ends::ends_of;
@@ -14,25 +15,15 @@ use herm_process::Process;
 use herm_report::{Journal, Report};
 use std::alloc::{AllocError, Global};
 
-/// How many entries the diaries have.
-fn entry_count(processes: &[Process]) -> usize {
-    let mut count: usize = 0;
-    for process in processes {
-        count = count.saturating_add(process.diary().entries().len());
-    }
-    count
-}
-
-/// The entries of all diaries.
-fn entries_of(alloc: Global, processes: Vec<Process>) -> Result<Vec<Entry>, AllocError>
-    ensures entries { IfOk result (λ v. entries_view v.items ≡ all_entries processes.entry.items) }
+/// The diaries of processes, in their order.
+fn diaries_of(alloc: Global, processes: Vec<Process>) -> Result<Vec<Vec<Entry>>, AllocError>
+    ensures entries { IfOk result (λ v. diaries_view v.items ≡ all_entries processes.entry.items) }
 {
-    let mut entries = Vec::with_capacity(alloc, entry_count(processes.as_slice()))?;
+    let mut diaries = Vec::with_capacity(alloc, processes.len())?;
     for process in processes {
-        let mut own = process.into_diary().into_entries();
-        entries.append(&mut own)?;
+        diaries.push(process.into_diary().into_entries())?;
     }
-    Ok(entries)
+    Ok(diaries)
 }
 
 /// The journal of these processes.
@@ -41,8 +32,8 @@ fn journal_from(alloc: Global, processes: Vec<Process>) -> Result<Journal, Alloc
     ensures rises { IfOk result (λ j. IsRising (entries_view j.entries.items)) }
     ensures parts { IfOk result (λ j. (p : ℕ) → part_of_process p (entries_view j.entries.items) ≡ part_of_process p (all_entries processes.entry.items)) }
 {
-    let entries = entries_of(alloc, processes)?;
-    let journal = journal_of(entries)?;
+    let diaries = diaries_of(alloc, processes)?;
+    let journal = journal_of(alloc, diaries)?;
     Ok(journal)
 }
 

@@ -2,7 +2,7 @@ use Rattle.std.proofs.Common.{rules}
 use Rattle.std.proofs.lemmas.List.Sorted.{answers_always, IsNonDecreasingBy-from_sort}
 use Rattle.herm_gather.specs.Orders.{place_in_order}
 use Rattle.herm_gather.proofs.Merged.{same-place, same-parts}
-use Rattle.herm_gather.proofs.merging.sort_long.Goals as goal
+use Rattle.herm_gather.proofs.merging.sort.Goals as goal
 
 pub returns-clause-sorted : goal.returns-clause-sorted
 returns-clause-sorted c =
