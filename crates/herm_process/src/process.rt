@@ -217,7 +217,7 @@ impl<'i> Process<'i> {
     }
 
     /// Goes on with what it got for the order that is out, up to its next piece, with an entry of this stamp; what does not suit
-    /// it is put aside. No order is out then.
+    /// it is put aside. No order is out then. Where memory is wanted there is no entry.
     pub fn settle(&mut self, got: Got, stamp: Stamp) -> Result<(), AllocError>
         requires out { IsSome self.old.ordered }
         requires whole { IsWholeGot got }
@@ -225,7 +225,7 @@ impl<'i> Process<'i> {
         requires later { self.old.clock < stamp.0 }
         ensures settled { OnOk result ((image : images.Image) (main : ℕ) (x : CodeState ⊤) (w : CellWant ⊤) → IsProcess image main self.old x → (nameless image main).wanted x ≡ Some w → FitsWant got w → IsSettled image main self.old self.new x got w stamp.0) }
         ensures same { OnOk result (self.new ≡ record self.old { machine = self.new.machine; clock = stamp.0; diary = self.new.diary; ordered = None }) }
-        ensures failed { IsErr result → self.new ≡ record self.old { machine = self.new.machine; clock = self.new.clock; diary = self.new.diary; ordered = self.new.ordered; is_dead = true } }
+        ensures failed { IsErr result → self.new ≡ record self.old { machine = self.new.machine; is_dead = true } }
         ensures dead { self.old.is_dead ≡ true → IsErr result }
         ensures stays { self.old.is_dead ≡ true → self.new ≡ self.old }
     {
@@ -234,6 +234,7 @@ impl<'i> Process<'i> {
         }
         self.is_dead = true;
         let (place, action) = entry_of(self.number, &self.ordered, &got)?;
+        take_in(&mut self.machine, got)?;
         self.ordered = None;
         self.diary.push(Entry {
             stamp,
@@ -242,7 +243,6 @@ impl<'i> Process<'i> {
             action,
         });
         self.clock = stamp;
-        take_in(&mut self.machine, got)?;
         self.is_dead = false;
         Ok(())
     }

@@ -30,7 +30,7 @@ impl Running {
     /// Does the instruction of this kind at an index, which is neither a step nor an action. False where it is stuck. A table that is refused the
     /// key of its type is told as want of memory: no run of a sound process has one.
     #[inline(always)]
-    pub fn do_instruction(
+    pub(crate) fn do_instruction(
         &mut self,
         alloc: Global,
         code: &Code,

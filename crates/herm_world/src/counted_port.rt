@@ -178,6 +178,7 @@ impl CountedPort {
         ensures stamp { IfOk result (λ r. IfSome r (λ r. r.0.0 ≡ self.new.clock)) }
         ensures parcel { IfOk result (λ r. IfSome r (λ r. IsParcel r.1)) }
         ensures empty { IfOk result (λ r. r ≡ None → self.old.held.queue ≡ []) }
+        ensures unchanged { IfOk result (λ r. r ≡ None → self.new ≡ record self.old { spare = self.new.spare }) }
     {
         self.reserve()?;
         match self.cell.take(who, clock) {

@@ -104,6 +104,7 @@ impl CountedReplies {
         ensures whole { IfOk result (λ r. IfSome r (λ r. IsWholeReply r.2)) }
         ensures text { IfOk result (λ r. IfSome r (λ r. reply_trace_view r.3 ≡ reply_text r.2)) }
         ensures empty { IfOk result (λ r. r ≡ None → self.old.waiting ≡ []) }
+        ensures unchanged { IfOk result (λ r. r ≡ None → self.new ≡ record self.old { spare = self.new.spare }) }
     {
         self.reserve()?;
         match self.cell.hear(clock) {

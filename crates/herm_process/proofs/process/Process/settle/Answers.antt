@@ -43,14 +43,6 @@ take_in-requires-clause-few c comes =
     let n : c.self.inside.machine.held.frame.actions < 16384 = its-few r.0 r.1 (process_state c.self.inside.machine c.self.inside.number c.self.inside.module_number c.self.inside.first c.self.inside.birth c.self.inside.limit c.self.inside.clock c.self.inside.diary c.self.inside.ordered c.self.inside.is_dead) r.2 r.4 c.args.got r.3 r.5 r.6 q.0 q.1 comes in
     omega (arith, n)
 
-pub invariant_of-self-in_err-take_in : goal.invariant_of-self-in_err-take_in
-invariant_of-self-in_err-take_in c =
-    let s = c.self.inside in
-    let late = subst (λ (p : ProcessState). p.clock < c.args.stamp.0) (sym c.self.view_is) c.requires.later in
-    entered-kept s.machine c.take_in.new.machine s.number s.module_number s.first s.birth s.limit s.clock c.args.stamp s.diary c.push.new.self s.ordered None s.is_dead true
-    (record { stamp = c.args.stamp.0; process = s.number.number; place = place_view c.in_ok-place.place; action = action_view c.in_ok-place.action }) c.self.invariant refl refl late
-    (ap (λ (d : DiaryState). d.entries) c.push.ensures.pushed) (ap (λ (d : DiaryState). d.process) c.push.ensures.pushed) never-stands
-
 pub invariant_of-self-2 : goal.invariant_of-self-2
 invariant_of-self-2 c =
     let s = c.self.inside in
