@@ -1,4 +1,4 @@
--- The values that hold no memory: one that goes need not be dropped.
+-- Values of the kinds that hold no memory: one that goes need not be dropped.
 use Rattle.std.specs.Prelude.{Bool, true, false, List, [], ◌∷◌, ◌&&◌}
 use Rattle.herm_values.specs.declared.value.Value.{Value}
 use Rattle.herm_values.specs.declared.value.Value.TheBlock as values

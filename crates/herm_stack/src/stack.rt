@@ -1,5 +1,5 @@
 //! The stack of values of a process.
-ghost use Rattle.std.specs.Prelude.{◌≡◌, ◌∷◌, ◌++◌, [], ◌<◌, IfOk, IfSome, IfNone, OnOk, option_to_list, option_map, IsTrue, reverse, slice_get, Some, ℕ, List, ⊤};
+ghost use Rattle.std.specs.Prelude.{◌≡◌, ◌∷◌, ◌++◌, [], ◌<◌, IfOk, IfSome, IfNone, OnOk, option_to_list, option_map, IsTrue, reverse, slice_get, Some, ℕ, List, ⊤, false};
 ghost use Rattle.std.specs.Vec.{vec_len, vec_capacity};
 ghost use Rattle.std.specs.List.{All};
 ghost use Rattle.herm_journal.specs.Renaming.{forget_name};
@@ -95,6 +95,7 @@ impl Stack {
     #[inline(always)]
     pub fn let_go(&mut self) -> bool
         ensures gone { IsLetGo result self.old self.new }
+        ensures kept { result ≡ false → self.new ≡ self.old }
     {
         let_go(&mut self.values)
     }
@@ -201,6 +202,7 @@ impl Stack {
     pub fn take(&mut self, n: usize) -> Result<Option<Vec<Value>>, AllocError>
         ensures popped { IfOk result (λ r. pop n (on_stack self.old) ≡ popped r (on_stack self.new)) }
         ensures whole { IfOk result (λ r. IfSome r (λ vs. All IsWhole vs.items)) }
+        ensures kept { IfOk result (λ r. IfNone r (self.new ≡ self.old)) }
     {
         split(&mut self.values, n)
     }
@@ -223,6 +225,7 @@ impl Stack {
 fn split(values: &mut Vec<Value>, n: usize) -> Result<Option<Vec<Value>>, AllocError>
     ensures popped { IfOk result (λ r. pop n (on_stack (reverse values.old.items)) ≡ popped r (on_stack (reverse values.new.items))) }
     ensures whole { All IsWhole values.old.items → IfOk result (λ r. IfSome r (λ vs. All IsWhole vs.items)) }
+    ensures kept { IfOk result (λ r. IfNone r (values.new.items ≡ values.old.items)) }
     ensures left_whole { All IsWhole values.old.items → All IsWhole values.new.items }
 {
     if n > values.len() {
@@ -336,6 +339,7 @@ fn pop(values: &mut Vec<Value>) -> Option<Value>
 #[inline(always)]
 fn let_go(values: &mut Vec<Value>) -> bool
     ensures gone { IsLetGo result (reverse values.old.items) (reverse values.new.items) }
+    ensures kept { result ≡ false → values.new.items ≡ values.old.items }
     ensures room { IsTrue result → vec_len values.new < vec_capacity values.new }
     ensures left_whole { All IsWhole values.old.items → All IsWhole values.new.items }
 {
@@ -345,7 +349,7 @@ fn let_go(values: &mut Vec<Value>) -> bool
     drop_last(values)
 }
 
-/// Whether the last value is there and holds no memory, so that it need not be dropped.
+/// Whether the last value is there and is of a kind that holds no memory, so that it need not be dropped.
 #[inline(always)]
 fn ends_without_memory(values: &[Value]) -> bool
     ensures { result ≡ top_takes_no_memory (reverse values.now) }
@@ -356,7 +360,7 @@ fn ends_without_memory(values: &[Value]) -> bool
     is_without_memory(last)
 }
 
-/// Whether a value holds no memory.
+/// Whether a value is of a kind that holds no memory.
 #[inline(always)]
 fn is_without_memory(v: &Value) -> bool
     ensures { result ≡ takes_no_memory v.now }
@@ -368,11 +372,12 @@ fn is_without_memory(v: &Value) -> bool
     }
 }
 
-/// Forgets the last value, which holds no memory: it is not moved, and nothing is given back.
+/// Forgets the last value, which holds no memory: nothing is given back.
 #[inline(always)]
 fn forget_last(values: &mut Vec<Value>) -> bool
     requires memory { IsTrue (top_takes_no_memory (reverse values.old.items)) }
     ensures gone { IsLetGo result (reverse values.old.items) (reverse values.new.items) }
+    ensures kept { result ≡ false → values.new.items ≡ values.old.items }
     ensures room { IsTrue result → vec_len values.new < vec_capacity values.new }
     ensures left_whole { All IsWhole values.old.items → All IsWhole values.new.items }
 {
@@ -389,6 +394,7 @@ fn forget_last(values: &mut Vec<Value>) -> bool
 #[inline(never)]
 fn drop_last(values: &mut Vec<Value>) -> bool
     ensures gone { IsLetGo result (reverse values.old.items) (reverse values.new.items) }
+    ensures kept { result ≡ false → values.new.items ≡ values.old.items }
     ensures room { IsTrue result → vec_len values.new < vec_capacity values.new }
     ensures left_whole { All IsWhole values.old.items → All IsWhole values.new.items }
 {
