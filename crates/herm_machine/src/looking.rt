@@ -1,7 +1,9 @@
 //! At which port a process looks, and which call it has open.
-ghost use Rattle.std.specs.Prelude.{◌≡◌, ◌∷◌, [], ℕ, List, Some, IfSome, find, map, nat_eq, option_map, option_and_then, slice_get, ⊤};
+ghost use Rattle.std.specs.Prelude.{◌≡◌, ◌∷◌, [], ℕ, List, Some, IfSome, IsSome, find, map, nat_eq, option_map, option_and_then, slice_get, ⊤};
 ghost use Rattle.herm_journal.specs.Actions.{to_take};
 ghost use Rattle.herm_exchanges.specs.Told.{told, want_view};
+ghost use Rattle.herm_exchanges.specs.declared.wants.PortList.{PortList as list_of_ports};
+ghost use Rattle.herm_exchanges.specs.declared.wants.Want.TheVariants as wants;
 ghost use Rattle.herm_model.specs.Lists.{any_pass, list_of};
 ghost use Rattle.herm_forms.specs.Forms.{inport_number};
 ghost use Rattle.herm_forms.specs.Frames as frames;
@@ -86,6 +88,8 @@ fn path_of_port<'i>(frame: &Frame, instruction: &'i Instr, port: PortNo) -> Opti
 
 /// The first port of a want to take a message; none of any other want.
 fn first_of(want: Want) -> Option<PortNo>
+    ensures first { (ports : list_of_ports) → want ≡ wants.Take ports → result ≡ Some ports.first }
+    ensures none { IsSome result → (ports : list_of_ports) × (want ≡ wants.Take ports) }
     ensures port { (ports : List ℕ) → Some (want_view want) ≡ told (to_take ports) → IfSome result (λ p. slice_get ports 0 ≡ Some p.number) }
 {
     match want {
@@ -101,6 +105,8 @@ fn first_of(want: Want) -> Option<PortNo>
 
 /// The same, where something is wanted.
 pub fn first_port(want: Option<Want>) -> Option<PortNo>
+    ensures first { (ports : list_of_ports) → want ≡ Some (wants.Take ports) → result ≡ Some ports.first }
+    ensures none { IsSome result → (ports : list_of_ports) × (want ≡ Some (wants.Take ports)) }
     ensures port { (ports : List ℕ) → option_map want_view want ≡ told (to_take ports) → IfSome result (λ p. slice_get ports 0 ≡ Some p.number) }
 {
     match want {

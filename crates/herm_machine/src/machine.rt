@@ -183,6 +183,7 @@ impl<'i> Machine<'i> {
         ensures step { OnOk result ((image : images.Image) (main : ℕ) (s : CodeState ⊤) → IsAt image main self.old s → Reaches image main self.new ((nameless image main).local_step s)) }
         ensures failed { IsErr result → self.new.is_dead ≡ true }
         ensures dead { self.old.is_dead ≡ true → IsErr result }
+        ensures stays { self.old.is_dead ≡ true → self.new ≡ self.old }
     {
         if self.is_dead {
             return Err(AllocError);
@@ -209,6 +210,7 @@ impl<'i> Machine<'i> {
         ensures out { OnOk result ((image : images.Image) (main : ℕ) (s : CodeState ⊤) → IsAt image main self.old s → HasOut image main self.new s) }
         ensures failed { IsErr result → self.new.is_dead ≡ true }
         ensures dead { self.old.is_dead ≡ true → IsErr result }
+        ensures stays { self.old.is_dead ≡ true → self.new ≡ self.old }
     {
         if self.is_dead {
             return Err(AllocError);
@@ -237,6 +239,7 @@ impl<'i> Machine<'i> {
         ensures out { OnOk result ((image : images.Image) (main : ℕ) (s : CodeState ⊤) → IsAt image main self.old s → HasOut image main self.new s) }
         ensures failed { IsErr result → self.new.is_dead ≡ true }
         ensures dead { self.old.is_dead ≡ true → IsErr result }
+        ensures stays { self.old.is_dead ≡ true → self.new ≡ self.old }
     {
         if self.is_dead {
             return Err(AllocError);
@@ -301,6 +304,7 @@ impl<'i> Machine<'i> {
         ensures answered { OnOk result ((image : images.Image) (main : ℕ) (s : CodeState ⊤) (w : CellWant ⊤) (at : ℕ) (a : CellAction ⊤) → IsAt image main self.old s → (nameless image main).wanted s ≡ Some w → Answers w a → TellsGot got at a → Reaches image main self.new ((nameless image main).answered s at a)) }
         ensures failed { IsErr result → self.new.is_dead ≡ true }
         ensures dead { self.old.is_dead ≡ true → IsErr result }
+        ensures stays { self.old.is_dead ≡ true → self.new ≡ self.old }
     {
         if self.is_dead {
             return Err(AllocError);
