@@ -210,6 +210,3 @@ entered-kept machine m number code first birth limit clock stamp diary d o q was
     let later = grown-later birth.stamp.0 clock.0 stamp.0 diary.entries d.entries e (k.kept).later (k.kept).at_clock late same is in
     subst (λ q. AreKept m number code first birth limit stamp d q is_dead) (sym none)
     (record { kept = record { stands = stands; later = later.0; at_clock = later.1 }; own = process ∙ k.own; room = λ some. absurd (true≢false (sym some)); few = k.few })
-
-pub never-stands : {A : Type 0} → true ≡ false → A
-never-stands e = absurd (true≢false e)

@@ -217,7 +217,7 @@ impl<'i> Process<'i> {
     }
 
     /// Goes on with what it got for the order that is out, up to its next piece, with an entry of this stamp; what does not suit
-    /// it is put aside. No order is out then. Where memory is wanted there is no entry.
+    /// it is put aside. Then no order is out. Where memory is wanted there is no entry, and the order stays.
     pub fn settle(&mut self, got: Got, stamp: Stamp) -> Result<(), AllocError>
         requires out { IsSome self.old.ordered }
         requires whole { IsWholeGot got }

@@ -5,7 +5,7 @@ use Rattle.herm_events.specs.View.{action_view, place_view}
 use Rattle.herm_process.specs.Kept.{process_state}
 use Rattle.herm_process.specs.Processes.{ProcessState, FitsProcess, IsProcess, IsSettled}
 use Rattle.herm_process.proofs.DiaryGrown.{above-last}
-use Rattle.herm_process.proofs.KeptOn.{entered-kept, its-few, its-inside, its-out, never-stands}
+use Rattle.herm_process.proofs.KeptOn.{entered-kept, its-few, its-inside, its-out}
 use Rattle.herm_process.proofs.Went.{settled, settled-there}
 use Rattle.herm_process.specs.declared.ordered.Ordered.{Ordered}
 use Rattle.herm_process.proofs.process.Process.settle.Goals as goal
