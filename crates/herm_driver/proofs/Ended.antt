@@ -20,7 +20,6 @@ use Rattle.herm_waking.specs.KeptRounds.{Worked}
 use Rattle.herm_waking.specs.UnnamedRounds.{BareWorked}
 use Rattle.herm_waking.specs.UnnamedReport.{bare_fates, bare_queues, bare_counts}
 use Rattle.herm_code_worlds.specs.CodeWorlds.{named, nameless, Shows}
-use Rattle.herm_events.specs.View.{entries_view}
 use Rattle.herm_report.specs.View.{proc_ends_view, numbered_queues, counts_view}
 use Rattle.herm_report.specs.declared.report.Report.{Report}
 use Rattle.herm_world.specs.Worlds.{WorldState, ShowsRun}
@@ -41,7 +40,7 @@ rounds-at image main other number most r o i m e =
 pub end-reported : (image : Image) (main : ℕ) (limits : Limits) (argument : Text) (world : WorldState) (begun : Limits) (given : Text) (events : List Event) (w : Worked (CodeState Name)) (b : BareWorked (CodeState ⊤)) (r : Report)
     → world.image ≡ image → world.main ≡ main → begun ≡ limits → given ≡ argument → ShowsRun begun given events w b world → world.ready.members ≡ []
     → (most : ℕ) → rounds most (named image main) (start (named image main) begun given) ≡ Some w.run
-    → entries_view r.journal.entries.items ≡ ordered w.run.journal → proc_ends_view r.ends.items ≡ bare_fates (nameless world.image world.main) b.system
+    → r.journal ≡ ordered w.run.journal → proc_ends_view r.ends.items ≡ bare_fates (nameless world.image world.main) b.system
     → numbered_queues r.queued.items ≡ bare_queues b.system → counts_view r.counts ≡ bare_counts (nameless world.image world.main) b.system
     → IsReportOfEnd image main limits argument r
 end-reported image main limits argument world begun given events w b r i m l a shown none most by journal ends queued counts =

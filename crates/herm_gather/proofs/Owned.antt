@@ -6,7 +6,8 @@ use Rattle.std.proofs.lemmas.List.Elements.{filter-append}
 use Rattle.herm_journal.specs.Journals.{part_of_process}
 use Rattle.herm_events.specs.View.{entries_view}
 use Rattle.herm_events.specs.declared.entry.Entry.{Entry}
-use Rattle.herm_gather.specs.Diaries.{diaries_view, diary_lists, all_of, AreOfNumber, AreOwn, list_of_process}
+use Rattle.herm_report.specs.Turns.{items_of, list_at}
+use Rattle.herm_gather.specs.Diaries.{diaries_view, all_of, AreOfNumber, AreOwn}
 use Rattle.herm_gather.proofs.Merged.{is_of, part-kept}
 use Rattle.herm_gather.proofs.SameNumber.{same-true, other-false}
 
@@ -37,14 +38,14 @@ part-at n (suc i) p (es ∷ lists) is own =
     ∙ ap (λ l. l ++ filter (is_of p) (all_of lists)) (part-none n p es (λ same. omega (arith, is, same)) own.0)
     ∙ part-at (suc n) i p lists (omega (arith, is)) own.1
 
-pub part-own : (p : ℕ) (lists : List (List Entry)) → AreOwn 1 lists → filter (is_of p) (all_of lists) ≡ list_of_process lists p
+pub part-own : (p : ℕ) (lists : List (List Entry)) → AreOwn 1 lists → filter (is_of p) (all_of lists) ≡ list_at lists p
 part-own zero lists own = none-below 1 0 lists (omega arith) own
 part-own (suc i) lists own = part-at 1 i (suc i) lists (omega arith) own
 
-pub view-joined : (diaries : List (Vec Entry Global)) → diaries_view diaries ≡ entries_view (all_of (diary_lists diaries))
+pub view-joined : (diaries : List (Vec Entry Global)) → diaries_view diaries ≡ entries_view (all_of (items_of diaries))
 view-joined [] = refl
-view-joined (d ∷ ds) = ap (λ l. entries_view d.items ++ l) (view-joined ds) ∙ sym (map-append _ d.items (all_of (diary_lists ds)))
+view-joined (d ∷ ds) = ap (λ l. entries_view d.items ++ l) (view-joined ds) ∙ sym (map-append _ d.items (all_of (items_of ds)))
 
-pub part-diary : (p : ℕ) (diaries : List (Vec Entry Global)) → AreOwn 1 (diary_lists diaries) → part_of_process p (diaries_view diaries) ≡ entries_view (list_of_process (diary_lists diaries) p)
+pub part-diary : (p : ℕ) (diaries : List (Vec Entry Global)) → AreOwn 1 (items_of diaries) → part_of_process p (diaries_view diaries) ≡ entries_view (list_at (items_of diaries) p)
 part-diary p diaries own =
-    ap (part_of_process p) (view-joined diaries) ∙ part-kept p (all_of (diary_lists diaries)) ∙ ap entries_view (part-own p (diary_lists diaries) own)
+    ap (part_of_process p) (view-joined diaries) ∙ part-kept p (all_of (items_of diaries)) ∙ ap entries_view (part-own p (items_of diaries) own)

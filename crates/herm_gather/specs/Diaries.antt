@@ -1,20 +1,18 @@
 -- The diaries of processes 1, 2 and so on, and turns at them.
-use Rattle.std.specs.Prelude.{◌≡◌, ℕ, zero, suc, ◌%◌, List, [], ◌∷◌, map, flat_map, filter, nat_eq, get_or, ⊤}
+use Rattle.std.specs.Prelude.{◌≡◌, ℕ, suc, ◌%◌, List, [], ◌∷◌, map, flat_map, filter, nat_eq, ⊤}
 use Rattle.std.specs.declared.alloc.Global.{Global}
 use Rattle.std.specs.declared.vec.Vec.{Vec}
 use Rattle.herm_journal.specs.Entries as source
 use Rattle.herm_events.specs.View.{entries_view}
 use Rattle.herm_events.specs.declared.entry.Entry.{Entry}
+use Rattle.herm_report.specs.Turns.{list_at}
 use Rattle.herm_gather.specs.Orders.{place_in_order}
 
 -- the entries of all diaries, one diary behind the other
 abbrev pub diaries_view : List (Vec Entry Global) → List source.Entry
 diaries_view diaries = flat_map (λ (d : Vec Entry Global). entries_view d.items) diaries
 
--- diaries as lists
-abbrev pub diary_lists : List (Vec Entry Global) → List (List Entry)
-diary_lists diaries = map (λ (d : Vec Entry Global). d.items) diaries
-
+-- lists, one behind the other
 abbrev pub all_of : List (List Entry) → List Entry
 all_of lists = flat_map (λ (es : List Entry). es) lists
 
@@ -28,11 +26,6 @@ abbrev pub AreOwn : ℕ → List (List Entry) → Type 0
 AreOwn n [] = ⊤
 AreOwn n (es ∷ lists) = AreOfNumber n es × AreOwn (suc n) lists
 
--- the list of a process: that of process 1 stands first, and 0 has none
-abbrev pub list_of_process : List (List Entry) → ℕ → List Entry
-list_of_process lists zero = []
-list_of_process lists (suc n) = get_or lists n []
-
 -- of each process the places are those of its list, in order
 abbrev pub AreTurns : List ℕ → List (List Entry) → Type 0
-AreTurns places lists = (p : ℕ) → filter (λ (n : ℕ). nat_eq (n % 2048) p) places ≡ map place_in_order (list_of_process lists p)
+AreTurns places lists = (p : ℕ) → filter (λ (n : ℕ). nat_eq (n % 2048) p) places ≡ map place_in_order (list_at lists p)

@@ -6,7 +6,6 @@ mod ending;
 mod merging;
 mod places;
 mod sums;
-mod turns;
 
 pub use counting::{PortCounts, ProcCounts, counts_of};
 pub use merging::journal_of;

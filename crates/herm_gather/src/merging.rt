@@ -3,28 +3,26 @@ ghost use Rattle.std.specs.Prelude.{◌≡◌, ℕ, map, IfOk, OnOk};
 ghost use Rattle.std.specs.List.Sorted.{IsNonDecreasingBy};
 ghost use Rattle.herm_journal.specs.Journals.{IsRising, part_of_process};
 ghost use Rattle.herm_events.specs.View.{entries_view};
-ghost use Rattle.herm_gather.specs.Diaries.{AreOwn, all_of, diaries_view, diary_lists};
+ghost use Rattle.herm_gather.specs.Diaries.{AreOwn, all_of, diaries_view};
+ghost use Rattle.herm_report.specs.Turns.{items_of};
 ghost use Rattle.herm_gather.specs.Orders.{place_in_order};
 
 use crate::places::{entry_count, place_of, places_of};
-use crate::turns::{queues_of, taken_in_turn};
 use herm_events::Entry;
 use herm_report::Journal;
 use std::alloc::{AllocError, Global};
 
 /// The journal of diaries, of which the first is of process 1, the second of process 2 and so on, with the places of their entries.
-fn merged(alloc: Global, diaries: Vec<Vec<Entry>>, places: Vec<u64>) -> Result<Journal, AllocError>
-    requires own { AreOwn 1 (diary_lists diaries.items) }
-    requires places { places.items ≡ map place_in_order (all_of (diary_lists diaries.items)) }
+fn merged(diaries: Vec<Vec<Entry>>, places: Vec<u64>) -> Journal
+    requires own { AreOwn 1 (items_of diaries.items) }
+    requires places { places.items ≡ map place_in_order (all_of (items_of diaries.items)) }
     requires rise { (p : ℕ) → IsRising (part_of_process p (diaries_view diaries.items)) }
-    ensures rising { IfOk result (λ j. IsRising (entries_view j.entries.items)) }
-    ensures parts { IfOk result (λ j. (p : ℕ) → part_of_process p (entries_view j.entries.items) ≡ part_of_process p (diaries_view diaries.items)) }
+    ensures rising { IsRising result }
+    ensures parts { (p : ℕ) → part_of_process p result ≡ part_of_process p (diaries_view diaries.items) }
 {
     let mut places = places;
     places.sort_unstable();
-    let queues = queues_of(alloc, diaries)?;
-    let entries = taken_in_turn(alloc, queues, places.as_slice())?;
-    Ok(Journal { entries })
+    Journal::in_turn(diaries, places)
 }
 
 /// The entries of all diaries, one diary behind the other.
@@ -52,24 +50,25 @@ fn sort(entries: &mut Vec<Entry>) -> Result<(), AllocError>
 /// The journal of any diaries.
 fn sorted(alloc: Global, diaries: Vec<Vec<Entry>>) -> Result<Journal, AllocError>
     requires rise { (p : ℕ) → IsRising (part_of_process p (diaries_view diaries.items)) }
-    ensures rising { IfOk result (λ j. IsRising (entries_view j.entries.items)) }
-    ensures parts { IfOk result (λ j. (p : ℕ) → part_of_process p (entries_view j.entries.items) ≡ part_of_process p (diaries_view diaries.items)) }
+    ensures rising { IfOk result (λ j. IsRising j) }
+    ensures parts { IfOk result (λ j. (p : ℕ) → part_of_process p j ≡ part_of_process p (diaries_view diaries.items)) }
 {
     let mut entries = joined(alloc, diaries)?;
     sort(&mut entries)?;
-    Ok(Journal { entries })
+    let journal = Journal::in_order(entries)?;
+    Ok(journal)
 }
 
 /// The journal of these diaries, in which the entries of each process are in order: by stamp, and those of one stamp by process.
 #[inline(never)]
 pub fn journal_of(alloc: Global, diaries: Vec<Vec<Entry>>) -> Result<Journal, AllocError>
     requires rise { (p : ℕ) → IsRising (part_of_process p (diaries_view diaries.items)) }
-    ensures rising { IfOk result (λ j. IsRising (entries_view j.entries.items)) }
-    ensures parts { IfOk result (λ j. (p : ℕ) → part_of_process p (entries_view j.entries.items) ≡ part_of_process p (diaries_view diaries.items)) }
+    ensures rising { IfOk result (λ j. IsRising j) }
+    ensures parts { IfOk result (λ j. (p : ℕ) → part_of_process p j ≡ part_of_process p (diaries_view diaries.items)) }
 {
     match places_of(alloc, diaries.as_slice())? {
         Some(places) => {
-            let journal = merged(alloc, diaries, places)?;
+            let journal = merged(diaries, places);
             Ok(journal)
         }
         None => {

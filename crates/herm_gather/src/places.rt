@@ -1,6 +1,7 @@
 //! The places of entries in a journal, as numbers.
-ghost use Rattle.std.specs.Prelude.{◌≡◌, ◌++◌, map, IfOk, IfSome, IsTrue};
-ghost use Rattle.herm_gather.specs.Diaries.{AreOfNumber, AreOwn, all_of, diary_lists};
+ghost use Rattle.std.specs.Prelude.{◌≡◌, ◌++◌, map, IfOk, IfSome, IsTrue, min, length, ◌^◌, ◌-◌};
+ghost use Rattle.herm_gather.specs.Diaries.{AreOfNumber, AreOwn, all_of};
+ghost use Rattle.herm_report.specs.Turns.{items_of};
 ghost use Rattle.herm_gather.specs.Orders.{place_in_order, short_place};
 
 use herm_events::Entry;
@@ -24,8 +25,10 @@ fn short_place_of(entry: &Entry) -> u64
         .saturating_add(entry.proc.number as u64)
 }
 
-/// How many entries diaries have.
-pub fn entry_count(diaries: &[Vec<Entry>]) -> usize {
+/// How many entries diaries have, cut at the largest number of 64 bits.
+pub fn entry_count(diaries: &[Vec<Entry>]) -> usize
+    ensures count { result ≡ min (length (all_of (items_of diaries.now))) (2 ^ 64 - 1) }
+{
     let mut count: usize = 0;
     for diary in diaries {
         count = count.saturating_add(diary.len());
@@ -33,7 +36,7 @@ pub fn entry_count(diaries: &[Vec<Entry>]) -> usize {
     count
 }
 
-/// Adds the places of a diary's entries. False where one is not of this process or has a place that does not fit.
+/// Adds the places of a diary's entries: true only where all are of this process and have places that fit.
 fn add_places(places: &mut Vec<u64>, diary: &[Entry], number: usize) -> Result<bool, AllocError>
     ensures own { IfOk result (λ b. IsTrue b → AreOfNumber number diary.now) }
     ensures places { IfOk result (λ b. IsTrue b → places.new.items ≡ places.old.items ++ map place_in_order diary.now) }
@@ -48,10 +51,11 @@ fn add_places(places: &mut Vec<u64>, diary: &[Entry], number: usize) -> Result<b
     Ok(true)
 }
 
-/// The places of all entries, if all fit and the first diary is of process 1, the second of process 2 and so on.
+/// The places of all entries: only where all fit and the first diary is of process 1, the second of process 2 and so on. None where
+/// that is not so.
 pub fn places_of(alloc: Global, diaries: &[Vec<Entry>]) -> Result<Option<Vec<u64>>, AllocError>
-    ensures own { IfOk result (λ o. IfSome o (λ v. AreOwn 1 (diary_lists diaries.now))) }
-    ensures places { IfOk result (λ o. IfSome o (λ v. v.items ≡ map place_in_order (all_of (diary_lists diaries.now)))) }
+    ensures own { IfOk result (λ o. IfSome o (λ v. AreOwn 1 (items_of diaries.now))) }
+    ensures places { IfOk result (λ o. IfSome o (λ v. v.items ≡ map place_in_order (all_of (items_of diaries.now)))) }
 {
     let mut places = Vec::with_capacity(alloc, entry_count(diaries))?;
     for (n, diary) in diaries.iter().enumerate() {

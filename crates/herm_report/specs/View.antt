@@ -6,7 +6,6 @@ use Rattle.herm_system.specs.Reports as headline
 use Rattle.herm_system.specs.Summary as summary
 use Rattle.herm_system.specs.ProcessFates.{Fate, ended_normally, ended_by, waits, spent_steps, spent_actions}
 use Rattle.herm_base.specs.declared.numbers.PortNo.{PortNo}
-use Rattle.herm_events.specs.View.{entries_view}
 use Rattle.herm_report.specs.declared.report.End.{End}
 use Rattle.herm_report.specs.declared.report.End.TheVariants.{Normal, By}
 use Rattle.herm_report.specs.declared.report.Spent.{Spent}
@@ -61,7 +60,7 @@ counts_view c = record {
 -- the report of a run that ends with this status and text
 abbrev pub report_view : Report → (status : ℕ) → (text : Text) → headline.Report
 report_view r status text = record {
-  journal = entries_view r.journal.entries.items;
+  journal = r.journal;
   ends = proc_ends_view r.ends.items;
   queued = numbered_queues r.queued.items;
   counts = counts_view r.counts;

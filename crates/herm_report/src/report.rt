@@ -1,14 +1,9 @@
 //! The report of a run.
 ghost use Rattle.std.specs.Prelude.{◌≡◌};
 
+use crate::journal::Journal;
 use herm_base::{ExcNo, PortNo};
-use herm_events::{Entry, Trace, Traces};
-
-/// The actions of a run, by stamp and then by process.
-#[derive(Drop)]
-pub struct Journal {
-    pub entries: Vec<Entry>,
-}
+use herm_events::{Trace, Traces};
 
 /// How a process ended.
 #[derive(Clone, Copy, Debug, PartialEq, Eq)]

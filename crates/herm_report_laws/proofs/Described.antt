@@ -1,8 +1,7 @@
 -- A report that tells of a world that shows a run describes it.
-use Rattle.std.proofs.Common.{◌≡◌, ℕ, List, [], ◌∷◌, Bool, true, false, cond, inl, inr, refl, sym, ap, subst, ◌∙◌, nat_eq, nat_lt, ◌<◌, ◌||◌, ◌&&◌, arith}
+use Rattle.std.proofs.Common.{◌≡◌, ℕ, List, [], ◌∷◌, true, false, cond, inl, inr, refl, sym, ap, subst, ◌∙◌, nat_eq, nat_lt, ◌<◌, ◌||◌, ◌&&◌, arith}
 use Rattle.std.proofs.lemmas.Bool.Decides.{nat_tests}
 use Rattle.std.specs.Prelude.{⊤}
-use Rattle.herm_model.specs.Values.{Name}
 use Rattle.herm_journal.specs.Entries.{Text, Entry}
 use Rattle.herm_journal.specs.Journals.{IsBefore, IsRising, IsRisingFrom, is_before, ordered, with_next}
 use Rattle.herm_journal.specs.Ports.{first_of}
@@ -11,11 +10,10 @@ use Rattle.herm_system.specs.Reports as headline
 use Rattle.herm_system.specs.Reports.{DescribesRun}
 use Rattle.herm_system.specs.RunTexts.{Asked}
 use Rattle.herm_system.specs.Statuses.{status_by}
-use Rattle.herm_system.specs.Summary.{Counts}
 use Rattle.herm_instructions.specs.Images.{Image}
 use Rattle.herm_code_machine.specs.CodeStates.{CodeState}
 use Rattle.herm_waking.specs.Unnamed.{Unnamed}
-use Rattle.herm_code_worlds.specs.BareReports.{bare_report, bare_text}
+use Rattle.herm_code_worlds.specs.BareReports.{bare_report}
 use Rattle.herm_code_worlds.specs.CodeWorlds.{FindsItsOperands, IsWithin, its_ready, named, nameless}
 use Rattle.herm_report.specs.View.{report_view}
 use Rattle.herm_report.specs.declared.report.Report.{Report}

@@ -1,18 +1,17 @@
 -- The messages at the console's port are strings, by its type.
-use Rattle.std.proofs.Common.{◌≡◌, ℕ, List, [], ◌∷◌, ◌++◌, map, Bool, true, false, Some, None, option_map, inl, inr, refl, sym, ap, subst, ◌∙◌}
-use Rattle.std.specs.Prelude.{slice_get, ⊤, IsTrue}
+use Rattle.std.proofs.Common.{◌≡◌, ℕ, List, [], ◌∷◌, ◌++◌, map, Bool, true, false, Some, inl, inr, refl, sym, ap, subst}
+use Rattle.std.specs.Prelude.{slice_get, ⊤}
 use Rattle.herm_model.proofs.Options.{none-not_some, some-injective}
 use Rattle.herm_model.specs.CellNames.{rename}
 use Rattle.herm_model.specs.Lists.{IsIn}
 use Rattle.herm_model.specs.Typed.{HasType, Fits, is_text, leaf_if}
 use Rattle.herm_model.specs.Types.{TypeTable, predefined}
-use Rattle.herm_model.specs.Values.{Name, Kind, a_scalar, a_boolean, an_integer, a_tag, a_text, a_record, a_variant, a_table, a_polymorph, a_callmessage, an_inport, an_outport, Cell, cell, Parts, no_parts, gap, part}
+use Rattle.herm_model.specs.Values.{Name, a_scalar, a_boolean, an_integer, a_tag, a_text, a_record, a_variant, a_table, a_polymorph, a_callmessage, an_inport, an_outport, Cell, cell, Parts, no_parts, gap, part}
 use Rattle.herm_journal.specs.Entries.{Text, map_port}
 use Rattle.herm_journal.specs.Messages.{IsMessage}
 use Rattle.herm_journal.specs.Ports.{Port, first_of, left_in}
 use Rattle.herm_journal.specs.Renaming.{forget_name}
 use Rattle.herm_code_machine.specs.CodeStates.{CodeState}
-use Rattle.herm_waking.specs.Unnamed.{Unnamed}
 use Rattle.herm_waking.specs.UnnamedRounds.{BareWorked}
 use Rattle.herm_report_laws.specs.ReportLaws.{ConsolesHoldStrings, HasStrings, IsString}
 

@@ -1,25 +1,23 @@
 -- The text of a report is that of the system and of the journal of which it tells.
-use Rattle.std.proofs.Common.{◌≡◌, ℕ, List, [], ◌∷◌, ◌++◌, map, flat_map, Some, inl, inr, refl, sym, ap, ap₂, ◌∙◌}
+use Rattle.std.proofs.Common.{◌≡◌, ℕ, List, [], ◌∷◌, ◌++◌, map, flat_map, inl, inr, refl, sym, ap, ap₂, ◌∙◌}
 use Rattle.std.specs.Prelude.{⊤}
 use Rattle.herm_model.specs.Lists.{IsIn, list_of, numbered}
 use Rattle.herm_model.specs.Values.{Cell}
 use Rattle.herm_model.specs.ValueTexts.{text_of}
 use Rattle.herm_journal.specs.Entries.{Text, Entry}
-use Rattle.herm_journal.specs.Journals.{ordered}
 use Rattle.herm_journal.specs.Ports.{Port, first_of, left_in}
 use Rattle.herm_system.specs.ProcessFates.{Fate}
-use Rattle.herm_system.specs.RunTexts.{Asked, plainly, with_summary, the_journal, journal_text}
+use Rattle.herm_system.specs.RunTexts.{plainly, with_summary, the_journal, journal_text}
 use Rattle.herm_system.specs.Statuses.{status_line_by}
 use Rattle.herm_system.specs.Summary.{summary}
 use Rattle.herm_system.specs.TextLines.{line}
 use Rattle.herm_instructions.specs.Images.{Image}
 use Rattle.herm_code_machine.specs.CodeStates.{CodeState}
 use Rattle.herm_waking.specs.Unnamed.{Unnamed}
-use Rattle.herm_code_worlds.specs.BareReports.{bare_bytes, bare_console, bare_text}
-use Rattle.herm_code_worlds.specs.CodeWorlds.{nameless}
-use Rattle.herm_report.specs.View.{numbered_queues, queue_at}
+use Rattle.herm_code_worlds.specs.BareReports.{bare_bytes, bare_console}
+use Rattle.herm_report.specs.View.{queue_at}
 use Rattle.herm_report.specs.declared.report.Report.{Report}
-use Rattle.herm_text.specs.ReportTexts.{console_of, report_text}
+use Rattle.herm_text.specs.ReportTexts.{console_of}
 use Rattle.herm_text.specs.StringsReadBack.{unquoted}
 use Rattle.herm_report_laws.specs.ReportLaws.{HasStrings, IsString, TellsOf, TextsAreOfRuns}
 use Rattle.herm_report_laws.proofs.StringTexts.{read-back}

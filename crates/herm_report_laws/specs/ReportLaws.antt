@@ -21,14 +21,13 @@ use Rattle.herm_waking.specs.UnnamedRounds.{BareWorked}
 use Rattle.herm_code_worlds.specs.BareReports.{bare_text}
 use Rattle.herm_code_worlds.specs.CodeWorlds.{FindsItsOperands, IsWithin, Shows, its_ready, named, nameless}
 use Rattle.herm_code_worlds.specs.laws.WorldOfCode.{WorksAsWorld}
-use Rattle.herm_events.specs.View.{entries_view}
 use Rattle.herm_report.specs.View.{counts_view, numbered_queues, proc_ends_view, report_view}
 use Rattle.herm_report.specs.declared.report.Report.{Report}
 use Rattle.herm_text.specs.ReportTexts.{ends_of, report_text}
 
 -- The report tells of a system of code without names, and of the journal of its run. Language reference, "Reports".
 pub record TellsOf (image : Image) (main : ℕ) (v : Unnamed (CodeState ⊤)) (journal : List Entry) (r : Report) : Type 0 where
-  pub journal_is : entries_view r.journal.entries.items ≡ ordered journal
+  pub journal_is : r.journal ≡ ordered journal
   pub ends : proc_ends_view r.ends.items ≡ bare_fates (nameless image main) v
   pub queued : numbered_queues r.queued.items ≡ bare_queues v
   pub counts : counts_view r.counts ≡ bare_counts (nameless image main) v

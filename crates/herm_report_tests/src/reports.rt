@@ -73,9 +73,7 @@ fn is_text(
     code: u8,
 ) -> Result<bool, AllocError> {
     let report = Report {
-        journal: Journal {
-            entries: entries(alloc)?,
-        },
+        journal: Journal::in_order(entries(alloc)?)?,
         ends: Vec::from_array(alloc, ends)?,
         queued: console(alloc)?,
         counts: COUNTS,
@@ -135,5 +133,47 @@ fn a_journal_stands_alone(rt: HostRuntime) -> Result<(), Fail> {
     let ends = [ProcEnd::Ended(End::Normal), ProcEnd::Ended(End::Normal)];
     let want = "journal: 4 1 reply 1 hear 2 raise  7\njournal: 5 1 port 0 put 0 \"a\\nb\"\n";
     assert!(rt; is_text(rt.alloc(), ends, Asked::Journal, want, 0)?);
+    Ok(())
+}
+
+/// A diary of a process with an entry at each of these stamps.
+fn diary(alloc: Global, proc: ProcNo, stamps: &[u64]) -> Result<Vec<Entry>, AllocError> {
+    let mut diary = Vec::new(alloc);
+    for stamp in stamps {
+        diary.push(Entry {
+            stamp: Stamp(*stamp),
+            proc,
+            place: Place::Book,
+            action: Action::MakePort { made: None },
+        })?;
+    }
+    Ok(diary)
+}
+
+/// Whether these are the stamps and the processes of a journal, in order.
+fn has_entries(journal: &Journal, want: &[(u64, u32)]) -> Result<bool, AllocError> {
+    let entries = journal.entries()?;
+    if entries.len() != want.len() {
+        return Ok(false);
+    }
+    for (entry, (stamp, number)) in entries.iter().zip(want) {
+        if entry.stamp.0 != *stamp || entry.proc.get() != *number {
+            return Ok(false);
+        }
+    }
+    Ok(true)
+}
+
+#[test]
+fn a_turn_of_a_list_with_none_left_is_passed_over(rt: HostRuntime) -> Result<(), Fail> {
+    let alloc = rt.alloc();
+    let (one, two) = (ProcNo { number: 1 }, ProcNo { number: 2 });
+    let lists = Vec::from_array(
+        alloc,
+        [diary(alloc, one, &[3, 5])?, diary(alloc, two, &[4])?],
+    )?;
+    let turns = Vec::from_array(alloc, [2, 1, 2048, 2, 2049, 3, 1])?;
+    let journal = Journal::in_turn(lists, turns);
+    assert!(rt; has_entries(&journal, &[(4, 2), (3, 1), (5, 1)])?);
     Ok(())
 }

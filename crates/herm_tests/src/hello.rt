@@ -204,7 +204,7 @@ fn the_greeting_is_reported(rt: HostRuntime) -> Result<(), Fail> {
     let files: [(&str, &[u8]); 1] = [("a.hm", HELLO)];
     let (outcome, _) = call(rt.alloc(), &["run", "a.hm"], &plain(&files))?;
     let report = outcome.report.expect(&rt, "a report");
-    let entries = report.journal.entries.as_slice();
+    let entries = report.journal.entries()?;
     assert_eq!(rt; entries.len(), 3);
     for (i, entry) in entries.iter().enumerate() {
         assert_eq!(rt; entry.stamp.0, i as u64 + 1);

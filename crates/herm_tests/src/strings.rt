@@ -121,6 +121,6 @@ fn a_program_of_the_most_statements_runs(rt: HostRuntime) -> Result<(), Fail> {
     assert_eq!(rt; written.as_slice(), text.as_slice());
     let report = outcome.report.expect(&rt, "a report");
     assert_eq!(rt; report.counts.actions, 513);
-    assert_eq!(rt; report.journal.entries.len(), 513);
+    assert_eq!(rt; report.journal.entries()?.len(), 513);
     Ok(())
 }

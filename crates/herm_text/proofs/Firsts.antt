@@ -1,5 +1,5 @@
 -- What became of process 1.
-use Rattle.std.proofs.Common.{◌≡◌, ◌≤◌, List, [], ◌∷◌, length, get_or, Some, refl, ap, sym, arith}
+use Rattle.std.proofs.Common.{◌≡◌, ◌≤◌, List, [], ◌∷◌, length, get_or, Some, ap, sym, arith}
 use Rattle.herm_journal.specs.Ports.{first_of}
 use Rattle.herm_report.specs.View.{proc_end_view, proc_ends_view}
 use Rattle.herm_report.specs.declared.report.ProcEnd.{ProcEnd}

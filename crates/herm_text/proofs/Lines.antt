@@ -1,5 +1,5 @@
 -- A line of pieces that were appended one after another.
-use Rattle.std.proofs.Common.{◌≡◌, ℕ, List, [], ◌∷◌, ◌++◌, refl, append_assoc}
+use Rattle.std.proofs.Common.{◌≡◌, [], ◌∷◌, ◌++◌, refl, append_assoc}
 use Rattle.herm_journal.specs.Entries.{Text}
 use Rattle.herm_system.specs.TextLines.{line}
 

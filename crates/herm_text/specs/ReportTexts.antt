@@ -1,5 +1,5 @@
 -- The text of a run by its report. Language reference, "The text of a run".
-use Rattle.std.specs.Prelude.{ℕ, List, [], ◌∷◌, ◌++◌, flat_map, Option, codes}
+use Rattle.std.specs.Prelude.{ℕ, List, ◌++◌, flat_map, Option}
 use Rattle.herm_model.specs.Lists.{list_of}
 use Rattle.herm_journal.specs.Entries.{Text}
 use Rattle.herm_journal.specs.Ports.{first_of}
@@ -8,7 +8,6 @@ use Rattle.herm_system.specs.RunTexts.{Asked, plainly, with_summary, the_journal
 use Rattle.herm_system.specs.Statuses.{status_line_by, spent_line}
 use Rattle.herm_system.specs.Summary.{summary}
 use Rattle.herm_system.specs.TextLines.{line}
-use Rattle.herm_events.specs.View.{entries_view}
 use Rattle.herm_report.specs.View.{spent_view, proc_ends_view, numbered_queues, queue_at, counts_view}
 use Rattle.herm_report.specs.declared.report.Report.{Report}
 use Rattle.herm_report.specs.declared.report.Spent.{Spent}
@@ -30,7 +29,7 @@ status_line_of names r = status_line_by names (first_of (ends_of r)) (ends_of r)
 abbrev pub report_text : List Text → Asked → Report → Text
 report_text names plainly r = console_of r ++ status_line_of names r
 report_text names with_summary r = console_of r ++ status_line_of names r ++ summary (counts_view r.counts)
-report_text names the_journal r = journal_text names (entries_view r.journal.entries.items)
+report_text names the_journal r = journal_text names r.journal
 
 -- the lines on a process that a limit stopped, if there is one
 abbrev pub lines_of_spent : Option (ℕ × Spent) → List Text

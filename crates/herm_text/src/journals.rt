@@ -1,5 +1,5 @@
 //! The lines of a journal.
-ghost use Rattle.std.specs.Prelude.{◌≡◌, ◌++◌, ◌∷◌, [], OnOk, IfOk, true, false, codes, length};
+ghost use Rattle.std.specs.Prelude.{◌≡◌, ◌++◌, ◌∷◌, [], OnOk, IfOk, true, false, codes, length, map};
 ghost use Rattle.herm_journal.specs.EntryTexts as texts;
 ghost use Rattle.herm_system.specs.RunTexts.{journal_text};
 ghost use Rattle.herm_system.specs.TextLines.{line};
@@ -140,8 +140,8 @@ fn push_journal_line(out: &mut Vec<u8>, entry: &Entry, names: &[Word]) -> Result
 }
 
 /// Appends the lines of a journal.
-pub fn push_journal(out: &mut Vec<u8>, entries: &[Entry], names: &[Word]) -> Result<(), AllocError>
-    ensures { OnOk result (out.new.items ≡ out.old.items ++ journal_text names.now (entries_view entries.now)) }
+pub fn push_journal(out: &mut Vec<u8>, entries: &[&Entry], names: &[Word]) -> Result<(), AllocError>
+    ensures { OnOk result (out.new.items ≡ out.old.items ++ journal_text names.now (entries_view (map (λ e. e.now) entries.now))) }
 {
     for entry in entries {
         push_journal_line(out, entry, names)?;

@@ -50,7 +50,8 @@ pub fn run_text(
             Ok(out)
         }
         Asked::Journal => {
-            push_journal(&mut out, report.journal.entries.as_slice(), names)?;
+            let entries = report.journal.entries()?;
+            push_journal(&mut out, entries.as_slice(), names)?;
             Ok(out)
         }
     }

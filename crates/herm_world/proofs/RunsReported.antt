@@ -21,7 +21,6 @@ use Rattle.herm_waking.specs.Numbers.{has}
 use Rattle.herm_waking.specs.Unnamed.{Unnamed, bare_can_step}
 use Rattle.herm_waking.specs.UnnamedReport.{bare_counts, bare_fates, bare_queues}
 use Rattle.herm_waking.specs.UnnamedRounds.{BareWorked}
-use Rattle.herm_events.specs.View.{entries_view}
 use Rattle.herm_queue.specs.PortStates.{PortState, port_cell}
 use Rattle.herm_process.specs.Processes.{ProcessState, IsProcess}
 use Rattle.herm_report.specs.View.{proc_ends_view, numbered_queues, counts_view}
@@ -99,8 +98,8 @@ module _ (world : WorldState) (works : WorksAsWorld world.image world.main) (nob
   its_replies = ap (λ (v : Unnamed (CodeState ⊤)). v.replies) shows.sees.places
 
   module _ (r : Report) (is : IsReported world.processes world.places.ports world.places.replies r) where
-    pub its-journal : entries_view r.journal.entries.items ≡ ordered w.run.journal
-    its-journal = (works.runs.journal limits argument events w.run shows.shows.comes).one (entries_view r.journal.entries.items) is.journal_rises (λ p. is.journal_parts p ∙ parts p)
+    pub its-journal : r.journal ≡ ordered w.run.journal
+    its-journal = (works.runs.journal limits argument events w.run shows.shows.comes).one r.journal is.journal_rises (λ p. is.journal_parts p ∙ parts p)
 
     pub its-ends : proc_ends_view r.ends.items ≡ bare_fates (nameless world.image world.main) b.system
     its-ends = ends-are world.image world.main b.system 1 world.processes b.system.processes r.ends.items shows.sees.processes is.ends have cannot

@@ -18,7 +18,6 @@ use Rattle.herm_values.specs.View.{value_view}
 use Rattle.herm_values.specs.declared.value.Value.{Value}
 use Rattle.herm_letters.specs.View.{reply_view}
 use Rattle.herm_letters.specs.declared.reply.Reply.{Reply}
-use Rattle.herm_events.specs.View.{entries_view}
 use Rattle.herm_queue.specs.CellStates.{value_text}
 use Rattle.herm_queue.specs.PortStates.{PortState}
 use Rattle.herm_queue.specs.ReplyStates.{ReplyState}
@@ -88,5 +87,5 @@ pub record IsReported (ps : List ProcessState) (ports : List PortState) (replies
   pub ends : AreAlike IsEndOf ps r.ends.items
   pub queued : numbered_queues r.queued.items ≡ map left_queue ports
   pub counts : HasCounts ps (proc_ends_view r.ends.items) (map port_counts ports) (map reply_cells replies) r.counts
-  pub journal_rises : IsRising (entries_view r.journal.entries.items)
-  pub journal_parts : (p : ℕ) → part_of_process p (entries_view r.journal.entries.items) ≡ part_of_process p (all_entries ps)
+  pub journal_rises : IsRising r.journal
+  pub journal_parts : (p : ℕ) → part_of_process p r.journal ≡ part_of_process p (all_entries ps)

@@ -1,7 +1,6 @@
 //! The report of the processes and the places of a world.
 ghost use Rattle.std.specs.Prelude.{◌≡◌, ◌≤◌, ℕ, None, All, IfOk, length};
 ghost use Rattle.herm_journal.specs.Journals.{IsRising, part_of_process};
-ghost use Rattle.herm_events.specs.View.{entries_view};
 ghost use Rattle.herm_gather.specs.Diaries.{diaries_view};
 ghost use Rattle.herm_world.specs.Reported.{IsAtRest, IsReported, all_entries};
 
@@ -29,8 +28,8 @@ fn diaries_of(alloc: Global, processes: Vec<Process>) -> Result<Vec<Vec<Entry>>,
 /// The journal of these processes.
 fn journal_from(alloc: Global, processes: Vec<Process>) -> Result<Journal, AllocError>
     requires rise { (p : ℕ) → IsRising (part_of_process p (all_entries processes.items)) }
-    ensures rises { IfOk result (λ j. IsRising (entries_view j.entries.items)) }
-    ensures parts { IfOk result (λ j. (p : ℕ) → part_of_process p (entries_view j.entries.items) ≡ part_of_process p (all_entries processes.entry.items)) }
+    ensures rises { IfOk result (λ j. IsRising j) }
+    ensures parts { IfOk result (λ j. (p : ℕ) → part_of_process p j ≡ part_of_process p (all_entries processes.entry.items)) }
 {
     let diaries = diaries_of(alloc, processes)?;
     let journal = journal_of(alloc, diaries)?;

@@ -15,7 +15,6 @@ ghost use Rattle.herm_waking.specs.Numbers.{has, next_from as first_from};
 ghost use Rattle.herm_waking.specs.Unnamed.{bare_can_step, bare_standing};
 ghost use Rattle.herm_waking.specs.UnnamedRounds.{BareWorked, bare_first};
 ghost use Rattle.herm_model.specs.Values.{Name};
-ghost use Rattle.herm_events.specs.View.{entries_view};
 ghost use Rattle.herm_journal.specs.Journals.{ordered};
 ghost use Rattle.herm_waking.specs.UnnamedReport.{bare_fates, bare_queues, bare_counts};
 ghost use Rattle.herm_report.specs.View.{proc_ends_view, numbered_queues, counts_view};
@@ -242,7 +241,7 @@ impl<'i> World<'i> {
     /// is queued at each port, and its numbers. A dead world has none.
     pub fn report(self, alloc: Global) -> Result<Report, AllocError>
         requires nobody { self.is_dead ≡ false → self.ready.members ≡ [] }
-        ensures journal { IfOk result (λ r. (limits : limits_of.Limits) (argument : Text) (events : List Event) (w : Worked (CodeState Name)) (b : BareWorked (CodeState ⊤)) → ShowsRun limits argument events w b self.entry → entries_view r.journal.entries.items ≡ ordered w.run.journal) }
+        ensures journal { IfOk result (λ r. (limits : limits_of.Limits) (argument : Text) (events : List Event) (w : Worked (CodeState Name)) (b : BareWorked (CodeState ⊤)) → ShowsRun limits argument events w b self.entry → r.journal ≡ ordered w.run.journal) }
         ensures ends { IfOk result (λ r. (limits : limits_of.Limits) (argument : Text) (events : List Event) (w : Worked (CodeState Name)) (b : BareWorked (CodeState ⊤)) → ShowsRun limits argument events w b self.entry → proc_ends_view r.ends.items ≡ bare_fates (nameless self.entry.image self.entry.main) b.system) }
         ensures queued { IfOk result (λ r. (limits : limits_of.Limits) (argument : Text) (events : List Event) (w : Worked (CodeState Name)) (b : BareWorked (CodeState ⊤)) → ShowsRun limits argument events w b self.entry → numbered_queues r.queued.items ≡ bare_queues b.system) }
         ensures counts { IfOk result (λ r. (limits : limits_of.Limits) (argument : Text) (events : List Event) (w : Worked (CodeState Name)) (b : BareWorked (CodeState ⊤)) → ShowsRun limits argument events w b self.entry → counts_view r.counts ≡ bare_counts (nameless self.entry.image self.entry.main) b.system) }

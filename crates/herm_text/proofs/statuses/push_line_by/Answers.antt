@@ -1,4 +1,4 @@
-use Rattle.std.proofs.Common.{ℕ, List, [], ◌∷◌, ◌++◌, map, flat_map, Some, sym, ap, ◌∙◌}
+use Rattle.std.proofs.Common.{[], ◌∷◌, ◌++◌, map, flat_map, Some, sym, ap, ◌∙◌}
 use Rattle.herm_model.specs.Lists.{numbered}
 use Rattle.herm_base.specs.declared.numbers.PortNo.{PortNo}
 use Rattle.herm_system.specs.Statuses.{status_line_by, spent_line, waiting_line}
