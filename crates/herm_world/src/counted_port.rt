@@ -1,5 +1,5 @@
 //! A port with the count of its messages.
-ghost use Rattle.std.specs.Prelude.{◌≡◌, ◌<◌, ◌≤◌, ◌^◌, ◌↔◌, [], false, true, cond, IfOk, IfSome, IfNone, OnOk, Some, None, is_some, option_map, length, map};
+ghost use Rattle.std.specs.Prelude.{◌≡◌, ◌<◌, ◌≤◌, ◌^◌, ◌↔◌, [], false, true, cond, IfOk, IfSome, IfNone, OnOk, Some, None, is_some, option_map, length, map, IsErr};
 ghost use Rattle.herm_journal.specs.Actions.{put, take, close};
 ghost use Rattle.herm_journal.specs.Ports.{empty_port, port_with};
 ghost use Rattle.herm_journal.specs.Weights.{weigh_all};
@@ -179,6 +179,7 @@ impl CountedPort {
         ensures parcel { IfOk result (λ r. IfSome r (λ r. IsParcel r.1)) }
         ensures empty { IfOk result (λ r. r ≡ None → self.old.held.queue ≡ []) }
         ensures unchanged { IfOk result (λ r. r ≡ None → self.new ≡ record self.old { spare = self.new.spare }) }
+        ensures failed { IsErr result → self.new ≡ record self.old { spare = self.new.spare } }
     {
         self.reserve()?;
         match self.cell.take(who, clock) {

@@ -1,5 +1,5 @@
 //! A reply cell with the count of its replies.
-ghost use Rattle.std.specs.Prelude.{◌≡◌, ◌<◌, ◌≤◌, ◌^◌, ◌↔◌, [], true, None, IfSome, IfOk, OnOk};
+ghost use Rattle.std.specs.Prelude.{◌≡◌, ◌<◌, ◌≤◌, ◌^◌, ◌↔◌, [], true, None, IfSome, IfOk, OnOk, IsErr};
 ghost use Rattle.herm_journal.specs.Actions.{answer, hear};
 ghost use Rattle.herm_model.specs.Lists.{total};
 ghost use Rattle.herm_journal.specs.Weights.{weigh_reply};
@@ -105,6 +105,7 @@ impl CountedReplies {
         ensures text { IfOk result (λ r. IfSome r (λ r. reply_trace_view r.3 ≡ reply_text r.2)) }
         ensures empty { IfOk result (λ r. r ≡ None → self.old.waiting ≡ []) }
         ensures unchanged { IfOk result (λ r. r ≡ None → self.new ≡ record self.old { spare = self.new.spare }) }
+        ensures failed { IsErr result → self.new ≡ record self.old { spare = self.new.spare } }
     {
         self.reserve()?;
         match self.cell.hear(clock) {
