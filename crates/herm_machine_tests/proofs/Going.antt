@@ -8,7 +8,6 @@ use Rattle.herm_values.specs.declared.value.Value.{Value}
 use Rattle.herm_letters.specs.View.{reply_view}
 use Rattle.herm_letters.specs.declared.parcel.Parcel.{Parcel}
 use Rattle.herm_letters.specs.declared.reply.Reply.{Reply}
-use Rattle.herm_model.specs.ValueTexts.{text_of}
 use Rattle.herm_journal.specs.Actions.{new_port, new_process, to_put, to_take, to_close, to_answer, to_hear}
 use Rattle.herm_journal.specs.Messages.{CellAction, CellReply, CellWant}
 use Rattle.herm_model.specs.Values as model
@@ -17,7 +16,7 @@ use Rattle.herm_instructions.specs.Images.{Image}
 use Rattle.herm_code_machine.specs.CodeStates.{CodeState}
 use Rattle.herm_exchanges.specs.Told.{Told, a_port, a_process, a_put, a_take, a_close, an_answer, a_hearing, told, want_view}
 use Rattle.herm_exchanges.specs.declared.wants.Want.{Want}
-use Rattle.herm_machine.specs.Gots.{Fits, FitsWant, IsOrdered, IsSuiting, IsWholeGot, TellsGot}
+use Rattle.herm_machine.specs.Gots.{Fits, FitsWant, IsSuiting, TellsGot}
 use Rattle.herm_machine.specs.Machines.{MachineState, IsAt, IsInside, Reaches, StandsFor, HasOut, IsPutWanted, IsTakeWanted, IsAnswerWanted, IsOrderOut, nameless}
 use Rattle.herm_machine.specs.declared.order.Got.{Got}
 use Rattle.herm_machine.specs.declared.order.Got.TheVariants as gots

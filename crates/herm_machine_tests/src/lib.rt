@@ -11,6 +11,8 @@ pub use actor::Actor;
 pub use world::{Most, Sums, World};
 
 #[cfg(test)]
+mod by_hand;
+#[cfg(test)]
 mod rows;
 #[cfg(test)]
 mod tests;
