@@ -73,16 +73,16 @@ def nested_loops(fields, lost):
     return records(begin, 58, first, within + end)
 
 
-def arms():
+def arms(last=""):
     """Selections of 1,000 arms that each receive a record of 1,020 fields."""
     fields = ",".join(f"f{i}:integer" for i in range(FIELDS))
     ports = ",".join(f"i{i}:ri" for i in range(ARMS))
     arm = "".join(f"when m.i{i} receive a{{}}" for i in range(ARMS))
     head = (
         f"definitions w{{type r=record{{{fields}}};type ri=inport of r;type t=record{{{ports}}};type ti=inport of t;}}\n"
-        "process p(start:ti){var m:t,a:r;receive m from start;"
+        "process p(start:ti){var m:t,a:r,b:r;receive m from start;"
     )
-    return filled(head, lambda _: f"select{{{arm}}}", "}\n" + EMPTY_MAIN, STATEMENTS - 1)
+    return filled(head, lambda _: f"select{{{arm}}}", last + "}\n" + EMPTY_MAIN, STATEMENTS - 4)
 
 
 def results():
@@ -94,6 +94,26 @@ def results():
         f"process p(start:si){{var o:co,{','.join(name + ':integer' for name in several)};receive o from start;"
     )
     return filled(head, lambda _: f"call o({','.join(several)});", "}\n" + EMPTY_MAIN, STATEMENTS - 1)
+
+
+def lost_apart():
+    """A field of a quarter is lost in a branch of its own, so that each is missing by another path."""
+    lost = "".join(f"if 1<2{{discard a.f{i};}}" for i in range(FIELDS // 4))
+    return records(lambda _: "b:=a;", STATEMENTS // 2 - 1, "receive a from m.a;" + lost)
+
+
+def before_handlers():
+    """Four records of 780 fields that have no value, and behind them 500 calls within 150 handlers each."""
+    fields = ",".join(f"f{i}:integer" for i in range(FIELDS * 13 // 17))
+    several = [f"v{i}" for i in range(20)]
+    raised = [f"E{i}" for i in range(150)]
+    head = (
+        f"definitions w{{{''.join(f'exception {name};' for name in raised)}type r=record{{{fields}}};"
+        f"type c=callmessage({','.join(f'out {name}:integer' for name in several)}) raises({','.join(raised)});type ci=inport of c;type co=outport of ci;type ti=inport of co;}}\n"
+        f"process p(start:ti){{var a:r,b:r,c:r,d:r,x:r,o:co,{','.join(f'{name}:integer' for name in several)};receive o from start;x:=a;x:=b;x:=c;x:=d;"
+    )
+    tried = f"try{{call o({','.join(several)});}}" + "".join(f"on {name}{{}}" for name in raised)
+    return filled(head, lambda _: tried, "}\n" + EMPTY_MAIN, (STATEMENTS - 6) // 2)
 
 
 def exceptions(most):
@@ -125,9 +145,13 @@ def at_the_limits():
         "1,000 exceptions of calls": exceptions(1_000),
         "exceptions of calls": exceptions(FILE_BYTES),
         "arms that receive": arms(),
+        "refusals behind arms": arms("discard a;new a;b:=a;"),
         "refusals": records(lambda _: "k:=j;", 1_023),
         "refusals in a loop": records(lambda _: "k:=j;", 1_020, "receive a from m.a;while 1<2{", "}"),
         "refusals behind receives": records(lambda _: "receive a from m.a;k:=j;", 511),
         "10,200 refusals": records(lambda _: "b:=a;", 10, "new a;"),
         "a million refusals": records(lambda _: "b:=a;", 1_022, "new a;"),
+        "refusals of what was lost": records(lambda _: "b:=a;", 1_018, "receive a from m.a;if 1<2{discard a;new a;}"),
+        "refusals by many paths": lost_apart(),
+        "refusals before 75,000 exceptions": before_handlers(),
     }

@@ -12,9 +12,9 @@ use Rattle.herm_typed.specs.View.{typed_process_view}
 use Rattle.herm_flow.specs.declared.flow.Flow.{Flow as FlowOf}
 use Rattle.herm_flow.specs.View.{flow_view}
 use Rattle.herm_check.specs.Faults.{HasNoFault}
-use Rattle.herm_check.specs.Missing.{refusal_view}
+use Rattle.herm_check.specs.Missing.{refusals_of}
 use Rattle.herm_check.specs.Shortest.{AreShortest}
-use Rattle.herm_check.specs.declared.missing.MissingFact.{MissingFact}
+use Rattle.herm_check.specs.declared.missing.Missing.{Missing}
 use Rattle.herm_accept.specs.declared.accepting.Lack.{Lack}
 use Rattle.herm_accept.specs.Lacking.{Lacking, lack_view, lacking, AreLacking}
 use Rattle.herm_accept.specs.Judged.{IsSearched}
@@ -67,10 +67,10 @@ searched_accepted types number p flow lacks ready fault = record {
   added = sym (append-nil (map lack_view lacks));
 }
 
-pub searched_refused : (types : NamedTable) (number : ℕ) (p : TypedProcess) (flow : FlowOf) (all : List MissingFact) (lacks more : List Lack)
-    → IsOnward types.shapes (typed_process_view p) flow → AreShortest (flow_view flow) (map refusal_view all) → map lack_view more ≡ map lack_view lacks ++ map (lacking types number p) (map refusal_view all) → IsSearched types number p lacks more
+pub searched_refused : (types : NamedTable) (number : ℕ) (p : TypedProcess) (flow : FlowOf) (all : Missing) (lacks more : List Lack)
+    → IsOnward types.shapes (typed_process_view p) flow → AreShortest (flow_view flow) (refusals_of all) → map lack_view more ≡ map lack_view lacks ++ map (lacking types number p) (refusals_of all) → IsSearched types number p lacks more
 searched_refused types number p flow all lacks more ready are e = record {
-  refusals = map refusal_view all;
-  are = shortest-onward (flow_of types.shapes (typed_process_view p)) ready.of_differ (map refusal_view all) (subst (λ (f : Flow). AreShortest f (map refusal_view all)) ready.flow are);
+  refusals = refusals_of all;
+  are = shortest-onward (flow_of types.shapes (typed_process_view p)) ready.of_differ (refusals_of all) (subst (λ (f : Flow). AreShortest f (refusals_of all)) ready.flow are);
   added = e;
 }

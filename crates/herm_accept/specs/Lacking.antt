@@ -6,11 +6,15 @@ use Rattle.herm_model.specs.MissingFacts.{Refusal}
 use Rattle.herm_meaning.specs.Names.{NamedTable}
 use Rattle.herm_typed.specs.declared.statements.TypedProcess.{TypedProcess}
 use Rattle.herm_typed.specs.View.{typed_process_view}
-use Rattle.herm_check.specs.Missing.{refusal_view}
 use Rattle.herm_check.specs.Shortest.{AreShortest}
 use Rattle.herm_words.specs.declared.sites.Site.{Site}
 use Rattle.herm_words.specs.Sites.{sites_in, site_at}
 use Rattle.herm_words.specs.MissingFactWords.{refusal_words}
+use Rattle.herm_words.specs.ToldWords.{refusal_view, missing_words, told_words}
+use Rattle.herm_words.specs.declared.told.Told.{Told}
+use Rattle.herm_types.specs.View.{fact_view}
+use Rattle.herm_check.specs.Trails.{trail}
+use Rattle.herm_check.specs.declared.search.FactSearch.{FactSearch}
 use Rattle.herm_accept.specs.declared.accepting.Lack.{Lack}
 use Rattle.herm_accept.specs.declared.accepting.AcceptFault.{AcceptFault}
 use Rattle.herm_accept.specs.declared.accepting.AcceptFault.TheVariants.{Missing, Memory}
@@ -27,10 +31,22 @@ abbrev pub start_in : List Site → ℕ → ℕ
 start_in sites number = map_or 0 (λ (s : Site). s.span.start) (site_at sites number)
 
 abbrev pub lack_view : Lack → Lacking
-lack_view l = record { process = l.process; start = l.start; words = l.words; refusal = refusal_view l.missing }
+lack_view l = record { process = l.process; start = l.start; words = missing_words l.missing; refusal = refusal_view l.missing }
 
 abbrev pub lacking : NamedTable → ℕ → TypedProcess → Refusal → Lacking
 lacking types number p r = record { process = number; start = start_in (sites_in p) r.number; words = refusal_words types p r; refusal = r }
+
+-- What is told of a search: its fact, its visits, and at each place the words of the refusal with the path to it.
+pub record IsTold (types : NamedTable) (p : TypedProcess) (s : FactSearch) (told : Told) : Type 0 where
+  pub fact : fact_view told.fact ≡ fact_view s.fact
+  pub visits : told.visits.items ≡ s.search.visits.items
+  pub words : (number place : ℕ) → told_words told place ≡ refusal_words types p (record { number = number; fact = fact_view s.fact; path = trail s.search.visits.items place })
+
+-- so it is of each search, in order
+abbrev pub AreTold : NamedTable → TypedProcess → List FactSearch → List Told → Type 0
+AreTold types p [] [] = ⊤
+AreTold types p (s ∷ ss) (t ∷ ts) = IsTold types p s t × AreTold types p ss ts
+AreTold types p _ _ = ⊥
 
 -- The processes, which are numbered from this one on, lack these facts, by process, by statement and then in the order of
 -- needs, each with a control path that none is shorter than.

@@ -1,26 +1,30 @@
 //! Whether the processes of a program are accepted.
-ghost use Rattle.std.specs.Prelude.{◌≡◌, ◌++◌, ℕ, length, map, IfOk, IfErr, OnOk};
+ghost use Rattle.std.specs.Prelude.{◌≡◌, ◌<◌, ◌++◌, ℕ, List, length, map, IfOk, IfErr, OnOk};
 ghost use Rattle.herm_model.specs.Lists.{IsIn};
 ghost use Rattle.herm_model.specs.Statements.{Process};
 ghost use Rattle.herm_model.specs.TypedPrograms.{IsTypedProcess};
 ghost use Rattle.herm_typed.specs.View.{typed_process_view};
 ghost use Rattle.herm_typed.specs.Beside.{KnowTypes};
-ghost use Rattle.herm_check.specs.Missing.{refusal_view};
-ghost use Rattle.herm_words.specs.Sites.{sites_in, site_at};
+ghost use Rattle.herm_meaning.specs.Names.{NamedTable};
+ghost use Rattle.herm_typed.specs.declared.statements.TypedProcess.{TypedProcess as Typed};
+ghost use Rattle.herm_check.specs.Missing.{ArePlaced, refusal_of, refusals_of};
+ghost use Rattle.herm_check.specs.declared.search.FactSearch.{FactSearch as Searched};
+ghost use Rattle.herm_words.specs.Sites.{sites_in};
 ghost use Rattle.herm_accept.specs.Accepted.{AreAccepted};
 ghost use Rattle.herm_accept.specs.Judged.{IsKnown, IsAdded, IsJudged};
 ghost use Rattle.herm_flow.specs.Ready.{IsReady};
-ghost use Rattle.herm_accept.specs.Lacking.{start_in, lack_view, lacking, IsFaultOf};
+ghost use Rattle.herm_accept.specs.Lacking.{start_in, lack_view, lacking, AreTold, IsFaultOf};
 
-use herm_base::{StmtNo, Word};
-use herm_check::{CheckFault, MissingFact, check};
+use herm_base::StmtNo;
+use herm_check::{CheckFault, FactSearch, Missing, MissingAt, check};
 use herm_coerce::{Coercions, coerce};
 use herm_flow::{Flow, flow_of};
 use herm_typed::TypedProcess;
 use herm_types::TypeTable;
 use herm_typestate::Labels;
-use herm_words::{Site, sites_of, words_of};
+use herm_words::{MissingFact, Site, Told, sites_of, told_of};
 use std::alloc::{AllocError, Global};
+use std::rc::Rc;
 
 /// Of each process by its number: its flow, what is held at each point of it, and what each of its edges finalises.
 #[derive(Drop)]
@@ -31,12 +35,11 @@ pub struct Accepted {
 }
 
 /// A fact that a statement needs and that is not held on some path: the number of the process, the place in bytes where the
-/// statement begins in the file of its module, and the words of the refusal.
+/// statement begins in the file of its module, and what is missing.
 #[derive(Drop)]
 pub struct Lack {
     pub process: usize,
     pub start: u32,
-    pub words: Word,
     pub missing: MissingFact,
 }
 
@@ -71,25 +74,45 @@ fn start_of(sites: &[Site], number: StmtNo) -> u32
     }
 }
 
-/// A missing fact with its place and its words.
-fn lack_of(
+/// What is told of the facts that a process lacks somewhere, by the numbers of their searches.
+fn tell_all(
     alloc: Global,
     types: &TypeTable,
-    number: usize,
     p: &TypedProcess,
     sites: &[Site],
-    missing: MissingFact,
-) -> Result<Lack, AllocError>
+    searches: Vec<FactSearch>,
+) -> Result<Vec<Rc<Told>>, AllocError>
     requires { sites.now ≡ sites_in p.now }
-    ensures { IfOk result (λ l. lack_view l ≡ lacking types.now number p.now (refusal_view missing)) }
+    ensures { IfOk result (λ all. AreTold types.now p.now searches.items (map (λ told. told.value) all.items)) }
+{
+    let mut all = Vec::new(alloc);
+    'searches: for searched in searches {
+        let told = told_of(alloc, types, p, sites, searched)?;
+        all.push(Rc::new(alloc, told)?)?;
+    }
+    Ok(all)
+}
+
+/// A missing fact with its place.
+fn lack_of(
+    number: usize,
+    sites: &[Site],
+    all: &[Rc<Told>],
+    missing: MissingAt,
+) -> Result<Lack, AllocError>
+    requires { missing.search < length all.now }
+    ensures { IfOk result (λ l. (types : NamedTable) (p : Typed) (searches : List Searched) → sites.now ≡ sites_in p → AreTold types p searches (map (λ told. told.value) all.now) → lack_view l ≡ lacking types number p (refusal_of searches missing)) }
 {
     let start = start_of(sites, missing.stmt);
-    let words = words_of(alloc, types, p, sites, &missing)?;
+    let told = all[missing.search].clone()?;
     Ok(Lack {
         process: number,
         start,
-        words,
-        missing,
+        missing: MissingFact {
+            stmt: missing.stmt,
+            told,
+            place: missing.place,
+        },
     })
 }
 
@@ -99,14 +122,16 @@ pub fn add_lacks(
     types: &TypeTable,
     number: usize,
     p: &TypedProcess,
-    all: Vec<MissingFact>,
+    all: Missing,
     lacks: &mut Vec<Lack>,
 ) -> Result<(), AllocError>
-    ensures { OnOk result (map lack_view lacks.new.items ≡ map lack_view lacks.old.items ++ map (lacking types.now number p.now) (map refusal_view all.items)) }
+    requires { ArePlaced all }
+    ensures { OnOk result (map lack_view lacks.new.items ≡ map lack_view lacks.old.items ++ map (lacking types.now number p.now) (refusals_of all)) }
 {
     let sites = sites_of(alloc, p)?;
-    'missing: for missing in all {
-        lacks.push(lack_of(alloc, types, number, p, sites.as_slice(), missing)?)?;
+    let told = tell_all(alloc, types, p, sites.as_slice(), all.searches)?;
+    'missing: for missing in all.facts {
+        lacks.push(lack_of(number, sites.as_slice(), told.as_slice(), missing)?)?;
     }
     Ok(())
 }

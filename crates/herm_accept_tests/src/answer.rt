@@ -37,7 +37,7 @@ fn put_line(alloc: Global, out: &mut String, lack: &Lack) -> Put {
     }
     let text = format!(in alloc; "{number} ")?;
     out.push_str(text.as_str())?;
-    put_bytes(out, lack.words.bytes())
+    put_bytes(out, lack.missing.words(alloc)?.bytes())
 }
 
 fn answer_of(alloc: Global, lacks: &[Lack]) -> Result<Answer, AllocError> {

@@ -3,11 +3,12 @@ use crate::answer::put_bytes;
 use crate::meant::{Meant, acceptance_of, meaning_of};
 use herm_accept::{AcceptFault, Accepted};
 use herm_base::StmtNo;
-use herm_check::{Hop, MissingFact};
+use herm_check::{FactSearch, Hop, Link, Search, Visit};
 use herm_flow::{Edge, Point};
 use herm_types::{Fact, Path};
-use herm_words::{sites_of, words_of};
+use herm_words::{MissingFact, sites_of, told_of};
 use std::alloc::{AllocError, Global};
+use std::rc::Rc;
 
 type Put = Result<(), AllocError>;
 
@@ -24,23 +25,51 @@ fn put_words(out: &mut String, words: &[u8]) -> Put {
     Ok(())
 }
 
-/// Appends a line: a path, and the hop behind which it is finalised, if it is not where the process begins.
-fn put_drop(alloc: Global, meant: &Meant, path: &Path, by: Vec<Hop>, out: &mut String) -> Put {
-    let Some(process) = meant.program.processes.first() else {
-        return Ok(());
-    };
+/// A visit that is reached by a link, or by none where the process begins. Of its place nothing counts.
+fn visit_by(last: Option<Link>) -> Visit {
+    Visit {
+        point: 0,
+        held: false,
+        depth: 0,
+        last,
+    }
+}
+
+/// A search for the fact that a path has a value, with a visit where the process begins, and one behind a hop.
+fn search_of(alloc: Global, path: &Path, by: Option<Hop>) -> Result<FactSearch, AllocError> {
     let parts = Vec::from_slice(alloc, path.parts.as_slice())?;
-    let dropped = MissingFact {
-        stmt: StmtNo(0),
+    let mut visits = Vec::new(alloc);
+    visits.push(visit_by(None))?;
+    if let Some(hop) = by {
+        visits.push(visit_by(Some(Link { from: 0, hop })))?;
+    }
+    Ok(FactSearch {
         fact: Fact::Init(Path {
             var: path.var,
             parts,
         }),
-        by,
+        search: Search {
+            visits,
+            places: Vec::new(alloc),
+        },
+    })
+}
+
+/// Appends a line: a path, and the hop behind which it is finalised, if it is not where the process begins.
+fn put_drop(alloc: Global, meant: &Meant, path: &Path, by: Option<Hop>, out: &mut String) -> Put {
+    let Some(process) = meant.program.processes.first() else {
+        return Ok(());
     };
+    let searched = search_of(alloc, path, by)?;
     let sites = sites_of(alloc, process)?;
-    let words = words_of(alloc, &meant.types, process, sites.as_slice(), &dropped)?;
-    put_words(out, words.bytes())
+    let told = told_of(alloc, &meant.types, process, sites.as_slice(), searched)?;
+    let place = usize::from(by.is_some());
+    let dropped = MissingFact {
+        stmt: StmtNo(0),
+        told: Rc::new(alloc, told)?,
+        place,
+    };
+    put_words(out, dropped.words(alloc)?.bytes())
 }
 
 fn put_edge(
@@ -52,12 +81,11 @@ fn put_edge(
     out: &mut String,
 ) -> Put {
     for path in paths {
-        let mut by = Vec::new(alloc);
-        by.push(Hop {
+        let hop = Hop {
             stmt,
             outcome: edge.outcome,
-        })?;
-        put_drop(alloc, meant, path, by, out)?;
+        };
+        put_drop(alloc, meant, path, Some(hop), out)?;
     }
     Ok(())
 }
@@ -81,7 +109,7 @@ fn put_accepted(alloc: Global, meant: &Meant, accepted: &Accepted, out: &mut Str
         return Ok(());
     };
     for path in &coercions.entry {
-        put_drop(alloc, meant, path, Vec::new(alloc), out)?;
+        put_drop(alloc, meant, path, None, out)?;
     }
     for (point, edges) in flow.points.iter().zip(coercions.at.iter()) {
         put_point(alloc, meant, point, edges.as_slice(), out)?;

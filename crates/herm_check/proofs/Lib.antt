@@ -10,6 +10,8 @@ pub mod Reported
 pub mod Places
 pub mod Begun
 pub mod Searched
+pub mod Trails
 pub mod Following
+pub mod Making
 pub mod Deciding
 pub mod SameEdges

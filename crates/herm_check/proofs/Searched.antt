@@ -1,5 +1,5 @@
 -- A search from the first point finds what control paths lead to, the nearest first.
-use Rattle.std.proofs.Common.{◌≡◌, ◌⊎◌, inl, inr, ℕ, suc, zero, ◌+◌, ◌*◌, ◌<◌, ◌≤◌, List, [], ◌∷◌, ◌++◌, length, Bool, true, false, Option, Some, None, option_and_then, slice_get, refl, sym, ◌∙◌, ap, ap₂, subst, arith}
+use Rattle.std.proofs.Common.{◌≡◌, ◌⊎◌, inl, inr, ℕ, suc, zero, ◌+◌, ◌*◌, ◌<◌, ◌≤◌, List, [], ◌∷◌, ◌++◌, length, Bool, true, false, Option, Some, None, IfSome, IfNone, option_and_then, slice_get, refl, sym, ◌∙◌, ap, ap₂, subst, arith}
 use Rattle.std.proofs.lemmas.Option.{slice_get_within}
 use Rattle.herm_model.specs.Paths.{Fact}
 use Rattle.herm_model.specs.Targets.{Target, node}
@@ -11,7 +11,7 @@ use Rattle.herm_model.proofs.Walks.{IsEdgeOf, edge_from-IsEdgeOf, same_here, sam
 use Rattle.herm_check.specs.View.{hop_view}
 use Rattle.herm_check.specs.declared.search.Link.{Link}
 use Rattle.herm_check.specs.declared.search.Visit.{Visit}
-use Rattle.herm_check.specs.Searched.{IsFound, IsLinked, IsLast, IsSearch, AreFollowed, AreLeft, LeadBack, IsTrail, first, more, IsNearest}
+use Rattle.herm_check.specs.Searched.{slot_of, IsFound, IsLinked, IsLast, IsSearch, AreFollowed, AreLeft, IsNearest}
 use Rattle.herm_check.specs.Shortest.{IsShortest}
 
 -- an element at a place of a list is one element
@@ -40,7 +40,16 @@ length-more (y ∷ xs) x = ap suc (length-more xs x)
 node-same : (m n : ℕ) → node m ≡ node n → m ≡ n
 node-same m n e = cc
 
-module _ (flow : Flow) (f : Fact) (vs : List Visit) (seen : List Bool) (search : IsSearch flow f vs seen) where
+-- each link leads back
+abbrev pub LeadBack : List Visit → Type 0
+LeadBack vs = (k : ℕ) (v : Visit) (l : Link) → slice_get vs k ≡ Some v → v.last ≡ Some l → l.from < k
+
+-- the hops by which visits lead from the beginning to the one at a place
+pub data IsTrail (vs : List Visit) : ℕ → List Hop → Type 0 where
+  first : (k : ℕ) (v : Visit) → slice_get vs k ≡ Some v → v.last ≡ None → IsTrail vs k []
+  more : (k : ℕ) (v : Visit) (l : Link) (hops : List Hop) → slice_get vs k ≡ Some v → v.last ≡ Some l → IsTrail vs l.from hops → IsTrail vs k (hops ++ hop_view l.hop ∷ [])
+
+module _ (flow : Flow) (f : Fact) (vs : List Visit) (places : List (Option ℕ)) (search : IsSearch flow f vs places) where
   deep-by : (k : ℕ) (v : Visit) (o : Option Link) → IsLast flow f vs k v o → ((j : ℕ) (u : Visit) → j < k → slice_get vs j ≡ Some u → u.depth ≤ j) → v.depth ≤ k
   deep-by k v None last again = let e = last.2 in omega (arith, e)
   deep-by k v (Some l) last again = let d = again l.from last.visit last.before last.is in omega (arith, d, last.depth, last.before)
@@ -178,3 +187,31 @@ module _ (flow : Flow) (f : Fact) (vs : List Visit) (seen : List Bool) (search :
         by false leads =
             let found = found-along (length hops) (λ j u p less at there. left j u p (before j u at) at there) entry hops i false (omega arith) leads in
             absurd (missed found.at found.visit (before found.at found.visit found.is) found.is found.same_point found.same_held)
+
+-- The search has come to its end: the place of a point with the fact not held is that of a nearest visit, and where it has none the fact is held on each path.
+module _ (flow : Flow) (f : Fact) (vs : List Visit) (places : List (Option ℕ)) (search : IsSearch flow f vs places) (entry : flow.entry ≡ node 0) (left : AreLeft flow f vs (length vs)) (i : ℕ) where
+  place-of : (j : ℕ) (u : Visit) → slice_get vs j ≡ Some u → u.point ≡ i → u.held ≡ false → slice_get places (slot_of i false) ≡ Some (Some j)
+  place-of j u at point held = subst (λ n. slice_get places (slot_of n false) ≡ Some (Some j)) point (subst (λ b. slice_get places (slot_of u.point b) ≡ Some (Some j)) held (search.placed j u at))
+
+  same-place : (j k : ℕ) → ◌≡◌ {A = Option (Option ℕ)} (Some (Some j)) (Some (Some k)) → j ≡ k
+  same-place j k e = cc
+
+  no-place : (k : ℕ) → ◌≡◌ {A = Option (Option ℕ)} (Some None) (Some (Some k)) → ⊥
+  no-place k e = cc
+
+  pub lost-nearest : (o : Option ℕ) → slice_get places (slot_of i false) ≡ Some o → IfSome o (IsNearest flow f i vs)
+  lost-nearest None is = tt
+  lost-nearest (Some k) is =
+      let h = search.visited i false k is in
+      let within = slice_get_within vs k h.0 h.1 in
+      record {
+        visit = h.0;
+        is = h.1;
+        point = h.2;
+        lost = h.3;
+        least = least-found flow f vs places search entry i k (λ j u p less at there. left j u p (omega (arith, less, within)) at there) (λ j u less at point held. let e = same-place j k (sym (place-of j u at point held) ∙ is) in absurd (omega (arith, e, less))) h.0 h.1;
+      }
+
+  pub lost-holds : (o : Option ℕ) → slice_get places (slot_of i false) ≡ Some o → IfNone o (Holds flow f i)
+  lost-holds (Some k) is = tt
+  lost-holds None is = all-hold flow f vs places search entry i (length vs) left (λ j u less at point held. no-place j (sym is ∙ place-of j u at point held)) (omega arith)

@@ -23,7 +23,7 @@ fn kill_all(state: &mut State, kills: &[Path])
 }
 
 /// Adds these facts.
-fn make_all(alloc: Global, state: &mut State, makes: &[Fact]) -> Result<(), AllocError>
+pub fn make_all(alloc: Global, state: &mut State, makes: &[Fact]) -> Result<(), AllocError>
     ensures { OnOk result ((f : model.Fact) → has_fact state.new f ≡ (any_pass (same_fact f) (map fact_view makes.now) || has_fact state.old f)) }
 {
     for fact in makes {

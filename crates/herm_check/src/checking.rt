@@ -10,7 +10,7 @@ ghost use Rattle.herm_check.specs.Labelled.{LeadThere};
 ghost use Rattle.herm_check.specs.Faults.{IsFault, HasNoFault};
 
 use crate::labels::labels_of;
-use crate::missing::{MissingFact, lacking};
+use crate::missing::{Missing, lacking};
 use herm_flow::Flow;
 use herm_typestate::Labels;
 use std::alloc::{AllocError, Global};
@@ -18,7 +18,7 @@ use std::alloc::{AllocError, Global};
 /// Why a flow is not accepted: the facts that are missing, or want of memory.
 #[derive(Drop)]
 pub enum CheckFault {
-    Missing(Vec<MissingFact>),
+    Missing(Missing),
     Memory,
 }
 
@@ -45,7 +45,7 @@ pub fn check(alloc: Global, flow: &Flow, vars: usize) -> Result<Labels, CheckFau
 {
     let labels = labels_of(alloc, flow, vars)?;
     let missing = lacking(alloc, flow, &labels)?;
-    let count = missing.len();
+    let count = missing.facts.len();
     if count == 0 {
         return Ok(labels);
     }

@@ -1,5 +1,5 @@
 //! Whether one fact is held behind an edge.
-ghost use Rattle.std.specs.Prelude.{◌≡◌, map};
+ghost use Rattle.std.specs.Prelude.{◌≡◌, true, map};
 ghost use Rattle.herm_model.specs.Lists.{any_pass};
 ghost use Rattle.herm_model.specs.Paths as model;
 ghost use Rattle.herm_model.specs.ControlPaths.{held_after_edge};
@@ -105,6 +105,21 @@ pub fn is_held_behind(edge: &Edge, fact: &Fact, held: bool) -> bool
 {
     if is_made(edge.makes(), fact) {
         return true;
+    }
+    let killed = is_killed(edge.kills(), path_of(fact));
+    if killed {
+        return false;
+    }
+    held
+}
+
+/// The same, where an edge that may not make the fact does not make it.
+pub fn is_held_beyond(edge: &Edge, fact: &Fact, may_make: bool, held: bool) -> bool
+    requires { any_pass (model.same_fact (fact_view fact.now)) (edge_view edge.now).makes ≡ true → may_make ≡ true }
+    ensures { result ≡ held_after_edge (edge_view edge.now) (fact_view fact.now) held }
+{
+    if may_make {
+        return is_held_behind(edge, fact, held);
     }
     let killed = is_killed(edge.kills(), path_of(fact));
     if killed {

@@ -7,6 +7,7 @@ mod checking;
 mod held;
 mod label;
 mod labels;
+mod made;
 mod missing;
 mod search;
 
@@ -14,8 +15,8 @@ pub use behind_edge::behind;
 pub use checking::{CheckFault, check};
 pub use held::is_value_held_behind;
 pub use labels::labels_of;
-pub use missing::MissingFact;
-pub use search::Hop;
+pub use missing::{Missing, MissingAt};
+pub use search::{FactSearch, Hop, Link, Search, Visit, trail};
 
 #[cfg(test)]
 mod ready;

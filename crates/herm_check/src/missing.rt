@@ -1,5 +1,5 @@
 //! Which needed facts a label lacks, each with a shortest control path.
-ghost use Rattle.std.specs.Prelude.{◌≡◌, ◌↔◌, ◌++◌, [], ◌∷◌, ◌<◌, ℕ, List, true, map, length, IfOk, OnOk};
+ghost use Rattle.std.specs.Prelude.{◌≡◌, ◌↔◌, ◌++◌, [], ◌∷◌, ◌<◌, ◌≤◌, ℕ, List, true, length, IfOk, OnOk, IfSome};
 ghost use Rattle.herm_model.specs.Paths.{Fact as FactOf};
 ghost use Rattle.herm_model.specs.Targets.{node};
 ghost use Rattle.herm_model.specs.ControlPaths.{Holds, IsReached};
@@ -11,22 +11,32 @@ ghost use Rattle.herm_typestate.specs.Facts.{has_fact};
 ghost use Rattle.herm_flow.specs.View.{point_view, flow_view};
 ghost use Rattle.herm_check.specs.View.{labels_view};
 ghost use Rattle.herm_check.specs.Labelled.{LeadThere};
-ghost use Rattle.herm_check.specs.Shortest.{AreReported};
-ghost use Rattle.herm_check.specs.Missing.{refusal_view, demand};
+ghost use Rattle.herm_check.specs.Made.{AreKnown};
+ghost use Rattle.herm_check.specs.Searched.{AreSearched};
+ghost use Rattle.herm_check.specs.Missing.{demand, IsNumberOf, AreKept, AreMissing};
 
-use crate::search::{Hop, shortest_path};
+use crate::made::{KnownEdges, known_in};
+use crate::search::{FactSearch, lost_place, search_for};
 use herm_base::StmtNo;
 use herm_flow::{Flow, Point};
 use herm_types::{Fact, Path};
-use herm_typestate::{Labels, State};
+use herm_typestate::{Labels, State, same_fact};
 use std::alloc::{AllocError, Global};
 
-/// A fact that a statement needs, and a control path to it on which the fact is not held.
-#[derive(Drop)]
-pub struct MissingFact {
+/// A fact that a statement needs and that is not held on some path to it: the statement, the number of the search for the fact, and the place in it
+/// to which a shortest such path leads.
+#[derive(Clone, Copy)]
+pub struct MissingAt {
     pub stmt: StmtNo,
-    pub fact: Fact,
-    pub by: Vec<Hop>,
+    pub search: usize,
+    pub place: usize,
+}
+
+/// The facts that are missing, by statement and then in the order of needs; and for each fact that is missing somewhere the one search for it.
+#[derive(Drop)]
+pub struct Missing {
+    pub searches: Vec<FactSearch>,
+    pub facts: Vec<MissingAt>,
 }
 
 fn copy_path(alloc: Global, path: &Path) -> Result<Path, AllocError>
@@ -54,6 +64,72 @@ fn copy_fact(alloc: Global, fact: &Fact) -> Result<Fact, AllocError>
     }
 }
 
+/// The number of a search for the fact among those from one number up to another.
+fn number_between(searches: &[FactSearch], start: usize, end: usize, fact: &Fact) -> Option<usize>
+    requires { end ≤ length searches.now }
+    ensures { IfSome result (IsNumberOf searches.now (fact_view fact.now)) }
+{
+    for number in start..end {
+        if same_fact(fact, &searches[number].fact) {
+            return Some(number);
+        }
+    }
+    None
+}
+
+/// The number of the search for the fact, where there was one. It is looked for behind this number first: statements need facts
+/// in the same order mostly.
+fn number_near(searches: &[FactSearch], near: usize, fact: &Fact) -> Option<usize>
+    ensures { IfSome result (IsNumberOf searches.now (fact_view fact.now)) }
+{
+    let count = searches.len();
+    let near = near.min(count);
+    match number_between(searches, near, count, fact) {
+        Some(number) => Some(number),
+        None => number_between(searches, 0, near, fact),
+    }
+}
+
+/// The number of the last search that was of use.
+fn last_number(facts: &[MissingAt]) -> usize {
+    match facts.last() {
+        Some(last) => last.search,
+        None => 0,
+    }
+}
+
+/// The number of the search for the fact, which is made where there was none. What there is to know of edges is found where the first one is made.
+fn number_of(
+    alloc: Global,
+    flow: &Flow,
+    fact: &Fact,
+    known: &mut Vec<KnownEdges>,
+    out: &mut Missing,
+) -> Result<usize, AllocError>
+    requires there { LeadThere (flow_view flow.now) }
+    requires known { AreKnown (flow_view flow.now) known.old.items }
+    requires some { 0 < length flow.now.points.items }
+    requires searched { AreSearched (flow_view flow.now) out.old.searches.items }
+    ensures known { OnOk result (AreKnown (flow_view flow.now) known.new.items) }
+    ensures number { IfOk result (IsNumberOf out.new.searches.items (fact_view fact.now)) }
+    ensures searched { OnOk result (AreSearched (flow_view flow.now) out.new.searches.items) }
+    ensures kept { OnOk result (AreKept out.old.searches.items out.new.searches.items) }
+    ensures facts { OnOk result (out.new.facts.items ≡ out.old.facts.items) }
+{
+    let near = last_number(out.facts.as_slice());
+    if let Some(number) = number_near(out.searches.as_slice(), near, fact) {
+        return Ok(number);
+    }
+    if known.is_empty() {
+        *known = known_in(alloc, flow)?;
+    }
+    let number = out.searches.len();
+    let fact = copy_fact(alloc, fact)?;
+    out.searches
+        .push(search_for(alloc, flow, known.as_slice(), fact)?)?;
+    Ok(number)
+}
+
 /// Appends the fact with its path, where the label of its point lacks it.
 fn push_lacking(
     alloc: Global,
@@ -62,21 +138,30 @@ fn push_lacking(
     stmt: StmtNo,
     fact: &Fact,
     state: &State,
-    out: &mut Vec<MissingFact>,
+    known: &mut Vec<KnownEdges>,
+    out: &mut Missing,
 ) -> Result<(), AllocError>
     requires differ { EdgesDiffer (flow_view flow.now) }
     requires there { LeadThere (flow_view flow.now) }
-    requires some { 0 < length flow.now.points.items }
+    requires within { at < length flow.now.points.items }
     requires exact { (f : FactOf) → (has_fact state.now f ≡ true) ↔ Holds (flow_view flow.now) f at }
-    ensures { OnOk result ((ds : List Demand) → AreReported (flow_view flow.now) ds (map refusal_view out.old.items) → AreReported (flow_view flow.now) (ds ++ demand at stmt.0 (fact_view fact.now) ∷ []) (map refusal_view out.new.items)) }
+    requires known { AreKnown (flow_view flow.now) known.old.items }
+    requires searched { AreSearched (flow_view flow.now) out.old.searches.items }
+    ensures known { OnOk result (AreKnown (flow_view flow.now) known.new.items) }
+    ensures searched { OnOk result (AreSearched (flow_view flow.now) out.new.searches.items) }
+    ensures missing { OnOk result ((ds : List Demand) → AreMissing (flow_view flow.now) ds out.old → AreMissing (flow_view flow.now) (ds ++ demand at stmt.0 (fact_view fact.now) ∷ []) out.new) }
 {
     if state.holds(fact) {
         return Ok(());
     }
-    match shortest_path(alloc, flow, fact, at)? {
-        Some(by) => {
-            let fact = copy_fact(alloc, fact)?;
-            out.push(MissingFact { stmt, fact, by })?;
+    let search = number_of(alloc, flow, fact, known, out)?;
+    match lost_place(flow, &out.searches[search], at) {
+        Some(place) => {
+            out.facts.push(MissingAt {
+                stmt,
+                search,
+                place,
+            })?;
             Ok(())
         }
         None => unreachable!(),
@@ -90,33 +175,42 @@ fn push_point(
     at: usize,
     point: &Point,
     state: &State,
-    out: &mut Vec<MissingFact>,
+    known: &mut Vec<KnownEdges>,
+    out: &mut Missing,
 ) -> Result<(), AllocError>
     requires differ { EdgesDiffer (flow_view flow.now) }
     requires there { LeadThere (flow_view flow.now) }
-    requires some { 0 < length flow.now.points.items }
+    requires within { at < length flow.now.points.items }
     requires exact { (f : FactOf) → (has_fact state.now f ≡ true) ↔ Holds (flow_view flow.now) f at }
-    ensures { OnOk result ((ds : List Demand) → AreReported (flow_view flow.now) ds (map refusal_view out.old.items) → AreReported (flow_view flow.now) (ds ++ demands_at (at, point_view point.now)) (map refusal_view out.new.items)) }
+    requires known { AreKnown (flow_view flow.now) known.old.items }
+    requires searched { AreSearched (flow_view flow.now) out.old.searches.items }
+    ensures known { OnOk result (AreKnown (flow_view flow.now) known.new.items) }
+    ensures searched { OnOk result (AreSearched (flow_view flow.now) out.new.searches.items) }
+    ensures missing { OnOk result ((ds : List Demand) → AreMissing (flow_view flow.now) ds out.old → AreMissing (flow_view flow.now) (ds ++ demands_at (at, point_view point.now)) out.new) }
 {
     for fact in &point.needs {
-        push_lacking(alloc, flow, at, point.stmt, fact, state, out)?;
+        push_lacking(alloc, flow, at, point.stmt, fact, state, known, out)?;
     }
     Ok(())
 }
 
 /// What labels lack of the needs of their points, by statement and then in the order of needs.
-pub fn lacking(alloc: Global, flow: &Flow, labels: &Labels) -> Result<Vec<MissingFact>, AllocError>
+pub fn lacking(alloc: Global, flow: &Flow, labels: &Labels) -> Result<Missing, AllocError>
     requires many { length labels.now.at.items ≡ length flow.now.points.items }
     requires differ { EdgesDiffer (flow_view flow.now) }
     requires there { LeadThere (flow_view flow.now) }
     requires reached { (i : ℕ) → i < length flow.now.points.items → IsReached (flow_view flow.now) (node i) }
     requires exact { AreExact (flow_view flow.now) (labels_view labels.now) }
-    ensures { IfOk result (λ missing. AreReported (flow_view flow.now) (demands (flow_view flow.now)) (map refusal_view missing.items)) }
+    ensures { IfOk result (AreMissing (flow_view flow.now) (demands (flow_view flow.now))) }
 {
-    let mut out = Vec::new(alloc);
+    let mut known = Vec::new(alloc);
+    let mut out = Missing {
+        searches: Vec::new(alloc),
+        facts: Vec::new(alloc),
+    };
     for (i, point) in flow.points.as_slice().iter().enumerate() {
         let state = &labels.at[i];
-        push_point(alloc, flow, i, point, state, &mut out)?;
+        push_point(alloc, flow, i, point, state, &mut known, &mut out)?;
     }
     Ok(out)
 }

@@ -13,7 +13,7 @@ ghost use Rattle.herm_check.specs.Labelled.{LeadThere, is_reached};
 use crate::checking::{CheckFault, check};
 use crate::label::Label;
 use crate::labels::settled;
-use crate::missing::MissingFact;
+use crate::missing::Missing;
 use herm_flow::{Edge, Flow, Target};
 use herm_typed::Outcome;
 use std::alloc::Global;
@@ -120,7 +120,7 @@ fn are_reached(labels: &[Label]) -> bool
 }
 
 /// What the check says is missing, where it may be asked and memory was there.
-pub fn missing_in(alloc: Global, flow: &Flow, vars: usize) -> Option<Vec<MissingFact>> {
+pub fn missing_in(alloc: Global, flow: &Flow, vars: usize) -> Option<Missing> {
     if !all_differ(flow) || !all_lead_there(flow) {
         return None;
     }
@@ -133,7 +133,10 @@ pub fn missing_in(alloc: Global, flow: &Flow, vars: usize) -> Option<Vec<Missing
     match check(alloc, flow, vars) {
         Ok(labels) => {
             drop(labels);
-            Some(Vec::new(alloc))
+            Some(Missing {
+                searches: Vec::new(alloc),
+                facts: Vec::new(alloc),
+            })
         }
         Err(CheckFault::Missing(missing)) => Some(missing),
         Err(CheckFault::Memory) => None,

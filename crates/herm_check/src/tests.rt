@@ -178,19 +178,31 @@ fn push_outcome(alloc: Global, outcome: Outcome, out: &mut String) -> Result<(),
     }
 }
 
-fn told(alloc: Global, missing: &[MissingFact]) -> Result<String, AllocError> {
+fn push_missing(
+    alloc: Global,
+    by: &FactSearch,
+    missing: &MissingAt,
+    out: &mut String,
+) -> Result<(), AllocError> {
+    let number = format!(in alloc; "{} ", missing.stmt.0)?;
+    out.push_str(number.as_str())?;
+    push_fact(alloc, &by.fact, out)?;
+    for hop in &trail(alloc, by.search.visits.as_slice(), missing.place)? {
+        let number = format!(in alloc; " {}", hop.stmt.0)?;
+        out.push_str(number.as_str())?;
+        push_outcome(alloc, hop.outcome, out)?;
+    }
+    Ok(())
+}
+
+fn told(alloc: Global, missing: &Missing) -> Result<String, AllocError> {
     let mut out = String::new(alloc);
-    for (i, m) in missing.iter().enumerate() {
+    for (i, m) in missing.facts.iter().enumerate() {
         if i != 0 {
             out.push_str("; ")?;
         }
-        let number = format!(in alloc; "{} ", m.stmt.0)?;
-        out.push_str(number.as_str())?;
-        push_fact(alloc, &m.fact, &mut out)?;
-        for hop in &m.by {
-            let number = format!(in alloc; " {}", hop.stmt.0)?;
-            out.push_str(number.as_str())?;
-            push_outcome(alloc, hop.outcome, &mut out)?;
+        if let Some(by) = missing.searches.as_slice().get(m.search) {
+            push_missing(alloc, by, m, &mut out)?;
         }
     }
     Ok(out)
@@ -227,7 +239,7 @@ fn answer(alloc: Global, text: &str) -> Result<String, AllocError> {
     let Some(missing) = missing_in(alloc, &flow, 4) else {
         return format!(in alloc; "not checked");
     };
-    told(alloc, missing.as_slice())
+    told(alloc, &missing)
 }
 
 #[test]

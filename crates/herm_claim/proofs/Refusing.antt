@@ -5,11 +5,11 @@ use Rattle.herm_journal.specs.Entries.{Text}
 use Rattle.herm_system.specs.Reports.{Report}
 use Rattle.herm_compile.specs.View.{Seen, fault_view}
 use Rattle.herm_compile.specs.Refused.{AreRefused}
-use Rattle.herm_compile.specs.declared.fault.Fault.{Fault}
+use Rattle.herm_refusals.specs.declared.fault.Fault.{Fault}
 use Rattle.herm_compile.proofs.OneAcceptanceLaws.{accepted_or_refused}
 use Rattle.herm_claim.specs.Claim.{names_of, bytes_of, AreAccepted, Claim}
 use Rattle.herm_claim.specs.Purposes.{Purpose}
-use Rattle.herm_claim.specs.RefusalLines.{refusals_text}
+use Rattle.herm_refusals.specs.RefusalLines.{refusals_text}
 
 -- a list that is seen as one with elements has elements
 some-as : {X Y Z : Type 0} (f : X → Z) (g : Y → Z) (xs : List X) (ys : List Y) → map f xs ≡ map g ys → (ys ≡ [] → ⊥) → xs ≢ []

@@ -22,9 +22,9 @@ use Rattle.herm_source.specs.Instance.{source}
 use Rattle.herm_source.specs.States.{State}
 use Rattle.herm_compile.specs.ThirdPhase.{HaveProgram}
 use Rattle.herm_compile.specs.Refused.{AreRefused}
-use Rattle.herm_compile.specs.declared.fault.Fault.{Fault}
+use Rattle.herm_refusals.specs.declared.fault.Fault.{Fault}
 use Rattle.herm_claim.specs.Purposes.{Purpose, check, run, Options}
-use Rattle.herm_claim.specs.RefusalLines.{refusals_text}
+use Rattle.herm_refusals.specs.RefusalLines.{refusals_text}
 use Rattle.herm_sizes.specs.AcceptedLines.{accepted_text}
 
 abbrev pub names_of : List File → List (List ℕ)

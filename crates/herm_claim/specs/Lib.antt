@@ -1,4 +1,3 @@
 pub mod Claim
 pub mod Purposes
-pub mod RefusalLines
 pub mod laws

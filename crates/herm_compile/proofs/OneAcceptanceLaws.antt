@@ -28,7 +28,7 @@ use Rattle.herm_compile.specs.Spots.{owner_of, bytes_of}
 use Rattle.herm_compile.specs.ThirdPhase.{HaveProgram}
 use Rattle.herm_compile.specs.FourthPhase.{missing_fault, process_modules, AreUnaccepted}
 use Rattle.herm_compile.specs.OneDefinition.{PlacedFact, placed_fact, told_of, FactsAreOneList, AcceptedOrFaults, AcceptedOrRefused}
-use Rattle.herm_compile.specs.declared.fault.Fault.{Fault}
+use Rattle.herm_refusals.specs.declared.fault.Fault.{Fault}
 use Rattle.herm_compile.proofs.FilesAlike.{same_read, same_owners}
 use Rattle.herm_compile.proofs.StatementPlaces.{start_of}
 use Rattle.herm_compile.proofs.OneNamingLaws.{module_starts, starts_read, program_or_faults}

@@ -12,7 +12,7 @@ use Rattle.herm_compile.specs.FirstPhase.{HaveModules}
 use Rattle.herm_compile.specs.SecondPhase.{AreTypesOf}
 use Rattle.herm_compile.specs.View.{Seen, fault_view}
 use Rattle.herm_compile.specs.Spots.{spot_fault}
-use Rattle.herm_compile.specs.declared.fault.Fault.{Fault}
+use Rattle.herm_refusals.specs.declared.fault.Fault.{Fault}
 
 abbrev pub is_process : Module → Bool
 is_process (Definitions name items) = false

@@ -11,7 +11,7 @@ use Rattle.herm_compile.specs.SecondPhase.{HaveTypes, AreMisdefined}
 use Rattle.herm_compile.specs.ThirdPhase.{HaveProgram, AreMisnamed}
 use Rattle.herm_compile.specs.FourthPhase.{AreUnaccepted}
 use Rattle.herm_compile.specs.Refused.{AreRefused}
-use Rattle.herm_compile.specs.declared.fault.Fault.{Fault}
+use Rattle.herm_refusals.specs.declared.fault.Fault.{Fault}
 
 -- Files mean one table of types at most.
 abbrev pub HaveOneTable : Type 0

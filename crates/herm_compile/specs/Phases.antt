@@ -16,7 +16,7 @@ use Rattle.herm_compile.specs.FirstPhase.{HaveModules}
 use Rattle.herm_compile.specs.SecondPhase.{AreTypesOf, AreMisdefined}
 use Rattle.herm_compile.specs.ThirdPhase.{HaveProgram, AreMisnamed}
 use Rattle.herm_compile.specs.FourthPhase.{AreUnaccepted}
-use Rattle.herm_compile.specs.declared.fault.Fault.{Fault}
+use Rattle.herm_refusals.specs.declared.fault.Fault.{Fault}
 
 -- the types that the definitions mean, or their faults
 abbrev pub IsDefined : List (List ℕ) → List Module → Result NamedTable (Vec Fault Global) → Type 0

@@ -5,7 +5,7 @@ use Rattle.herm_compile.specs.FirstPhase.{AreFirstFaults}
 use Rattle.herm_compile.specs.SecondPhase.{AreMisdefined}
 use Rattle.herm_compile.specs.ThirdPhase.{AreMisnamed}
 use Rattle.herm_compile.specs.FourthPhase.{AreUnaccepted}
-use Rattle.herm_compile.specs.declared.fault.Fault.{Fault}
+use Rattle.herm_refusals.specs.declared.fault.Fault.{Fault}
 use Rattle.herm_compile.specs.declared.fault.CompileFault.{CompileFault}
 use Rattle.herm_compile.specs.declared.fault.CompileFault.TheVariants.{Refused, Memory}
 

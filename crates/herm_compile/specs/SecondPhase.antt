@@ -8,7 +8,7 @@ use Rattle.herm_meaning.specs.DefinitionFaults.{rank, Fault as Wrong, AreFaultsO
 use Rattle.herm_compile.specs.FirstPhase.{HaveModules}
 use Rattle.herm_compile.specs.View.{Seen, fault_view}
 use Rattle.herm_compile.specs.Spots.{spot_fault}
-use Rattle.herm_compile.specs.declared.fault.Fault.{Fault}
+use Rattle.herm_refusals.specs.declared.fault.Fault.{Fault}
 use Rattle.herm_compile.specs.RefusalWords.{definition_words}
 
 -- the fault of a definition, at the name where it stands

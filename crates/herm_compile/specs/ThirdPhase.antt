@@ -14,7 +14,7 @@ use Rattle.herm_compile.specs.SecondPhase.{AreTypesOf}
 use Rattle.herm_compile.specs.RefusalWords.{name_words}
 use Rattle.herm_compile.specs.View.{Seen, fault_view}
 use Rattle.herm_compile.specs.Spots.{spot_fault}
-use Rattle.herm_compile.specs.declared.fault.Fault.{Fault}
+use Rattle.herm_refusals.specs.declared.fault.Fault.{Fault}
 
 -- the number of a code
 abbrev pub name_rank : Code → ℕ

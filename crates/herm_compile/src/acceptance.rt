@@ -9,14 +9,15 @@ ghost use Rattle.herm_compile.specs.Phases.{IsAcceptance, IsSearch};
 ghost use Rattle.herm_compile.specs.View.{fault_view};
 ghost use Rattle.herm_compile.specs.Spots.{AreShort, IsCursor};
 
-use crate::fault::Fault;
 use crate::phase::ReadFiles;
 use crate::spots::{Cursor, first_cursor, locate};
 use herm_accept::{AcceptFault, Accepted, Lack, accept, lacks_of};
 use herm_base::Word;
+use herm_refusals::Fault;
 use herm_resolve::Program;
 use herm_syntax::Module;
 use herm_types::TypeTable;
+use herm_words::Reason;
 use std::alloc::{AllocError, Global};
 
 fn is_process(part: &Module) -> bool
@@ -67,8 +68,7 @@ fn missing_fault(
         line: at.line,
         column: at.column,
         code: 13,
-        words: lack.words,
-        missing: Some(lack.missing),
+        reason: Reason::Missing(lack.missing),
     }
 }
 

@@ -9,11 +9,11 @@ ghost use Rattle.herm_compile.specs.Phases.{IsDefined};
 ghost use Rattle.herm_compile.specs.View.{fault_view};
 ghost use Rattle.herm_compile.specs.Spots.{AreShort, IsCursor};
 
-use crate::fault::Fault;
 use crate::phase::ReadFiles;
 use crate::spots::{Cursor, Spot, first_cursor, spot_fault};
 use herm_base::Word;
 use herm_defs::{DefCode, DefFault, DefsFault, define};
+use herm_refusals::Fault;
 use herm_types::TypeTable;
 use std::alloc::{AllocError, Global};
 

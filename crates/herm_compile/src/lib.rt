@@ -27,7 +27,7 @@ ghost use Rattle.herm_compile.specs.declared.fault.CompileFault.TheVariants.{Mem
 pub use checked::{Checked, check};
 use checked::{CheckedFiles, checked_files};
 pub use compiled::Compiled;
-pub use fault::{CompileFault, Fault};
+pub use fault::CompileFault;
 use herm_base::Word;
 use herm_images::image;
 use std::alloc::Global;

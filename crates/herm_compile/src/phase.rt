@@ -6,12 +6,13 @@ ghost use Rattle.herm_compile.specs.FirstPhase.{HasFileFault, AreFirstFaults, Ha
 ghost use Rattle.herm_compile.specs.RefusalWords.{fault_words};
 ghost use Rattle.herm_compile.specs.Added.{IsReadFile, IsAdded};
 
-use crate::fault::Fault;
 use crate::places::{file_start, place_at};
 use herm_base::Word;
 use herm_lexer::{LexFault, Token, lex};
 use herm_parser::{ParseFault, parse};
+use herm_refusals::Fault;
 use herm_syntax::Module;
+use herm_words::Reason;
 use std::alloc::{AllocError, Global};
 
 /// Why a file has no trees, with the place of the fault in bytes.
@@ -82,8 +83,7 @@ fn file_fault(
         line: place.line,
         column: place.column,
         code: fault_code(fault),
-        words,
-        missing: None,
+        reason: Reason::Said(words),
     })
 }
 

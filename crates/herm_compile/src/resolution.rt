@@ -11,13 +11,14 @@ ghost use Rattle.herm_compile.specs.Phases.{IsResolution};
 ghost use Rattle.herm_compile.specs.View.{fault_view};
 ghost use Rattle.herm_compile.specs.Spots.{AreShort, IsCursor};
 
-use crate::fault::Fault;
 use crate::phase::ReadFiles;
 use crate::spots::{Cursor, Spot, first_cursor, spot_fault};
 use herm_base::Word;
 use herm_numbers::{NameCode, NameFault, ResolveFault};
+use herm_refusals::Fault;
 use herm_resolve::{Program, resolve};
 use herm_types::TypeTable;
+use herm_words::Reason;
 use std::alloc::{AllocError, Global};
 
 fn code_of(code: NameCode) -> u8
@@ -58,8 +59,7 @@ fn main_fault(alloc: Global) -> Result<Fault, AllocError>
         line: 0,
         column: 0,
         code: 19,
-        words,
-        missing: None,
+        reason: Reason::Said(words),
     })
 }
 

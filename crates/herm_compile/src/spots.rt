@@ -4,9 +4,10 @@ ghost use Rattle.herm_compile.specs.Places.{IsPlace, line_number_at, column_at};
 ghost use Rattle.herm_compile.specs.View.{fault_view};
 ghost use Rattle.herm_compile.specs.Spots.{AreShort, IsCursor, IsLocation, bytes_of, spot_fault};
 
-use crate::fault::Fault;
 use crate::places::{Place, file_start, place_at};
 use herm_base::Word;
+use herm_refusals::Fault;
+use herm_words::Reason;
 
 /// A code at a place in bytes of the file of a module. Modules count from 0 over all files.
 #[derive(Clone, Copy)]
@@ -122,7 +123,6 @@ pub fn spot_fault(
         line: at.line,
         column: at.column,
         code: spot.code,
-        words,
-        missing: None,
+        reason: Reason::Said(words),
     }
 }

@@ -1,9 +1,10 @@
 //! What is said of files, as text.
 use herm_base::Word;
-use herm_check::MissingFact;
-use herm_compile::{Checked, CompileFault, Compiled, Fault, check, compile};
+use herm_compile::{Checked, CompileFault, Compiled, check, compile};
+use herm_refusals::Fault;
 use herm_typed::Outcome;
 use herm_types::Fact;
+use herm_words::{MissingFact, Reason};
 use std::alloc::{AllocError, Global};
 
 type Files = Vec<(Word, Vec<u8>)>;
@@ -87,12 +88,12 @@ fn write_fault(alloc: Global, text: &mut String, fault: &Fault) -> Result<(), Al
     let code = fault.code;
     let place = format!(in alloc; "{file}/{line}:{column}: F{code} ")?;
     text.push_str(place.as_str())?;
-    for byte in fault.words.bytes() {
+    for byte in fault.reason.words(alloc)?.bytes() {
         text.push(*byte as char)?;
     }
-    match &fault.missing {
-        Some(missing) => write_missing(alloc, text, missing)?,
-        None => {}
+    match &fault.reason {
+        Reason::Missing(missing) => write_missing(alloc, text, missing)?,
+        Reason::Said(_) => {}
     }
     text.push('|')
 }
@@ -104,7 +105,7 @@ fn write_missing(
     missing: &MissingFact,
 ) -> Result<(), AllocError> {
     let at = missing.stmt.0;
-    let (kind, path) = match &missing.fact {
+    let (kind, path) = match missing.fact() {
         Fact::Init(path) => ("init", path),
         Fact::Case(path, _) => ("case", path),
     };
@@ -112,7 +113,7 @@ fn write_missing(
     let down = path.parts.len();
     let fact = format!(in alloc; " ({at} {kind} {variable} {down}:")?;
     text.push_str(fact.as_str())?;
-    for hop in &missing.by {
+    for hop in missing.path(alloc)? {
         let number = hop.stmt.0;
         let how = if hop.outcome == Outcome::Ok { "" } else { "?" };
         let step = format!(in alloc; " {number}{how}")?;

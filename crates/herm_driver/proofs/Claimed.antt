@@ -40,7 +40,7 @@ use Rattle.herm_code_worlds.proofs.ReportsBare.{reports-bare}
 use Rattle.herm_images.specs.CheckedPrograms.{program_view, StandsForProgram}
 use Rattle.herm_compile.specs.Phases.{HaveThisProgram, EachIsAccepted}
 use Rattle.herm_compile.specs.Refused.{AreRefused, IfRefused}
-use Rattle.herm_compile.specs.declared.fault.Fault.{Fault}
+use Rattle.herm_refusals.specs.declared.fault.Fault.{Fault}
 use Rattle.herm_compile.specs.declared.fault.CompileFault.{CompileFault}
 use Rattle.herm_compile.specs.declared.fault.CompileFault.TheVariants.{Refused}
 use Rattle.herm_report.specs.View.{report_view}
@@ -52,13 +52,15 @@ use Rattle.herm_text.specs.ReportTexts.{report_text, ends_of}
 use Rattle.herm_sizes.specs.AcceptedLines.{accepted_text}
 use Rattle.herm_claim.specs.Claim.{names_of, bytes_of, IsByRounds, Runs, Checks, Accepts, Claim}
 use Rattle.herm_claim.specs.Purposes.{Purpose, Options}
-use Rattle.herm_claim.specs.RefusalLines.{refusals_text}
+use Rattle.herm_refusals.specs.RefusalLines.{refusals_text}
 use Rattle.herm_claim.proofs.Running.{claim-of-accepted}
 use Rattle.herm_claim.proofs.Refusing.{claim-of-refusal}
 use Rattle.herm_driver.specs.declared.outcome.Answer.{Answer}
+use Rattle.herm_driver.specs.declared.outcome.Text.TheVariants.{Whole}
 use Rattle.herm_driver.specs.Due.{told_of}
 use Rattle.herm_driver.specs.Ending.{IsReportOfEnd}
 use Rattle.herm_driver.specs.Purposes.{files_view}
+use Rattle.herm_driver.specs.Texts.{text_view}
 
 -- the status of a report
 abbrev pub status_in : Report → ℕ
@@ -144,10 +146,10 @@ runs-of-end types program image stands options r argued of status s text e files
 
 -- what is told of a program whose processes are accepted, by its line
 pub checks-of-line : (types : NamedTable) (program : compiled.Program) → EachIsAccepted types program → (answer : Answer) (text : Vec ℕ Global)
-    → answer ≡ record { status = 0; text = text; report = None } → text.items ≡ accepted_text (map typed_process_view program.processes.items)
-    → (files : List (List ℕ)) → HaveThisProgram files types program → Checks files answer.status answer.text.items (told_of answer.report answer.status answer.text.items)
+    → answer ≡ record { status = 0; text = Whole text; report = None } → text.items ≡ accepted_text (map typed_process_view program.processes.items)
+    → (files : List (List ℕ)) → HaveThisProgram files types program → Checks files answer.status (text_view answer.text) (told_of answer.report answer.status (text_view answer.text))
 checks-of-line types program each answer text is line files means =
-    subst (λ (a : Answer). Checks files a.status a.text.items (told_of a.report a.status a.text.items)) (sym is) (record {
+    subst (λ (a : Answer). Checks files a.status (text_view a.text) (told_of a.report a.status (text_view a.text))) (sym is) (record {
       accepted = record {
         types = types;
         processes = map typed_process_view program.processes.items;
@@ -174,13 +176,12 @@ pub accepted-answer : (purpose : Purpose) (files : List (List ℕ × Vec ℕ Glo
 accepted-answer purpose files status text report accepts =
     claim-of-accepted purpose (files_view files) status text (told_of report status text) (subst (λ (bs : List (List ℕ)). Accepts purpose bs status text (told_of report status text)) (sym (bytes-same files)) accepts)
 
-pub refused-answer : (purpose : Purpose) (files : List (List ℕ × Vec ℕ Global)) (fault : CompileFault) (faults : Vec Fault Global) (answer : Answer) (text : Vec ℕ Global) → answer ≡ record { status = 1; text = text; report = None }
-    → text.items ≡ refusals_text (map (λ (f : List ℕ × Vec ℕ Global). f.0) files) faults.items → fault ≡ Refused faults → IfRefused fault (λ faults. AreRefused (map (λ (f : List ℕ × Vec ℕ Global). f.1.items) files) faults)
-    → Claim purpose (files_view files) answer.status answer.text.items (told_of answer.report answer.status answer.text.items)
-refused-answer purpose files fault faults answer text is lines f refused =
-    subst (λ (a : Answer). Claim purpose (files_view files) a.status a.text.items (told_of a.report a.status a.text.items)) (sym is)
-    (claim-of-refusal purpose (files_view files) faults.items text.items
+pub refused-answer : (purpose : Purpose) (files : List (List ℕ × Vec ℕ Global)) (fault : CompileFault) (faults : Vec Fault Global) (text : Text)
+    → text ≡ refusals_text (map (λ (f : List ℕ × Vec ℕ Global). f.0) files) faults.items → fault ≡ Refused faults → IfRefused fault (λ faults. AreRefused (map (λ (f : List ℕ × Vec ℕ Global). f.1.items) files) faults)
+    → Claim purpose (files_view files) 1 text None
+refused-answer purpose files fault faults text lines f refused =
+    claim-of-refusal purpose (files_view files) faults.items text
     (subst (λ (bs : List (List ℕ)). AreRefused bs faults.items) (sym (bytes-same files)) (subst (λ (x : CompileFault). IfRefused x (λ faults. AreRefused (map (λ (f : List ℕ × Vec ℕ Global). f.1.items) files) faults)) f refused))
-    (lines ∙ ap (λ (names : List Text). refusals_text names faults.items) (sym (names-same files))))
+    (lines ∙ ap (λ (names : List Text). refusals_text names faults.items) (sym (names-same files)))
 
 pub ruleset run_lemmas = runs-of-end

@@ -8,6 +8,7 @@ ghost use Rattle.herm_compile.specs.Phases.{HaveThisProgram, EachIsAccepted};
 ghost use Rattle.herm_compile.specs.Refused.{AreRefused, IfRefused};
 ghost use Rattle.herm_driver.specs.Due.{told_of};
 ghost use Rattle.herm_driver.specs.Purposes.{purpose_view, HasText, files_view};
+ghost use Rattle.herm_driver.specs.Texts.{text_view};
 ghost use Rattle.herm_driver.specs.Words.{options_of};
 
 use crate::outcome::{Answer, plain};
@@ -23,7 +24,7 @@ use std::alloc::{AllocError, Global};
 /// Says how many processes and statements a checked program has.
 fn size_answer(alloc: Global, checked: &Checked) -> Result<Answer, AllocError>
     requires accepted { EachIsAccepted checked.now.types checked.now.program }
-    ensures checks { IfOk result (λ a. (files : List (List ℕ)) → HaveThisProgram files checked.now.types checked.now.program → Checks files a.status a.text.items (told_of a.report a.status a.text.items)) }
+    ensures checks { IfOk result (λ a. (files : List (List ℕ)) → HaveThisProgram files checked.now.types checked.now.program → Checks files a.status (text_view a.text) (told_of a.report a.status (text_view a.text))) }
 {
     let text = accepted_line(alloc, checked.program.processes.as_slice())?;
     Ok(plain(0, text))
@@ -36,12 +37,16 @@ fn refusal_answer(
     fault: CompileFault,
 ) -> Result<Answer, AllocError>
     requires refused { IfRefused fault (λ faults. AreRefused (map (λ file. file.1.items) files.now) faults) }
-    ensures claim { IfOk result (λ a. (purpose : claim.Purpose) → Claim purpose (files_view files.now) a.status a.text.items (told_of a.report a.status a.text.items)) }
+    ensures claim { IfOk result (λ a. (purpose : claim.Purpose) → Claim purpose (files_view files.now) a.status (text_view a.text) (told_of a.report a.status (text_view a.text))) }
 {
     match fault {
         CompileFault::Refused(faults) => {
-            let text = refusals(alloc, files, &faults)?;
-            Ok(plain(1, text))
+            let text = refusals(alloc, files, faults)?;
+            Ok(Answer {
+                status: 1,
+                text,
+                report: None,
+            })
         }
         CompileFault::Memory => Err(AllocError),
     }
@@ -49,7 +54,7 @@ fn refusal_answer(
 
 /// Checks the bytes of files, and says how large their program is, or where they are refused. No image is made.
 fn check_answer(alloc: Global, files: &[(Word, Vec<u8>)]) -> Result<Answer, AllocError>
-    ensures claim { IfOk result (λ a. Claim claim.check (files_view files.now) a.status a.text.items (told_of a.report a.status a.text.items)) }
+    ensures claim { IfOk result (λ a. Claim claim.check (files_view files.now) a.status (text_view a.text) (told_of a.report a.status (text_view a.text))) }
 {
     match check(alloc, files) {
         Ok(checked) => {
@@ -70,7 +75,7 @@ fn run_answer(
     options: &RunOptions,
 ) -> Result<Answer, AllocError>
     requires text { IsTrue (is_text options.now.arg.now) }
-    ensures claim { IfOk result (λ a. Claim (claim.run (options_of (options_seen options.now))) (files_view files.now) a.status a.text.items (told_of a.report a.status a.text.items)) }
+    ensures claim { IfOk result (λ a. Claim (claim.run (options_of (options_seen options.now))) (files_view files.now) a.status (text_view a.text) (told_of a.report a.status (text_view a.text))) }
 {
     match compile(alloc, files) {
         Ok(compiled) => {
@@ -91,7 +96,7 @@ pub fn judge(
     files: &[(Word, Vec<u8>)],
 ) -> Result<Answer, AllocError>
     requires text { HasText (purpose_view purpose.now) }
-    ensures claim { IfOk result (λ a. Claim (purpose_view purpose.now) (files_view files.now) a.status a.text.items (told_of a.report a.status a.text.items)) }
+    ensures claim { IfOk result (λ a. Claim (purpose_view purpose.now) (files_view files.now) a.status (text_view a.text) (told_of a.report a.status (text_view a.text))) }
 {
     match purpose {
         Purpose::Check => {

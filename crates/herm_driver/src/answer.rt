@@ -5,6 +5,7 @@ ghost use Rattle.herm_commands.specs.Words.{asked, seen};
 ghost use Rattle.herm_commands.specs.Within.{IsWithin};
 ghost use Rattle.herm_driver.specs.Loads.{FirstAreLoaded};
 ghost use Rattle.herm_driver.specs.Due.{IsDue, IsCaused, IsChosen, IsMade, IsTextStatus};
+ghost use Rattle.herm_driver.specs.Texts.{text_view};
 ghost use Rattle.herm_driver.specs.Words.{names_of, ring_file, work_of};
 ghost use Rattle.herm_driver.specs.Purposes.{files_view};
 
@@ -32,7 +33,7 @@ fn ring_file(alloc: Global, nodes: u32) -> Result<Vec<(Word, Vec<u8>)>, AllocErr
 /// The text of the ring of so many nodes.
 fn made(alloc: Global, nodes: u32) -> Result<Answer, AllocError>
     requires few { nodes ≤ 1000 }
-    ensures made { IfOk result (λ a. IsMade nodes a.status a.text.items a.report) }
+    ensures made { IfOk result (λ a. IsMade nodes a.status (text_view a.text) a.report) }
 {
     let text = ring_text(alloc, nodes)?;
     Ok(plain(0, text))
@@ -46,7 +47,7 @@ fn answer_for<F: Shelf>(
     shelf: &mut F,
 ) -> Result<Answer, AllocError>
     requires within { IsWithin (seen command) }
-    ensures due { IfOk result (λ a. IsDue F.loads F.faults (F.contents shelf.old) shelf.old shelf.new (work_of (Some (seen command.entry))) a.status a.text.items a.report) }
+    ensures due { IfOk result (λ a. IsDue F.loads F.faults (F.contents shelf.old) shelf.old shelf.new (work_of (Some (seen command.entry))) a.status (text_view a.text) a.report) }
     ensures memory { OnErr result (FirstAreLoaded F.loads (names_of (work_of (Some (seen command.entry)))) shelf.old shelf.new) }
     ensures counted { F.faults shelf.old ≤ F.faults shelf.new }
     ensures same { F.contents shelf.new ≡ F.contents shelf.old }
@@ -83,9 +84,9 @@ pub fn answer_to<F: Shelf>(
     words: &[String],
     shelf: &mut F,
 ) -> Result<Answer, AllocError>
-    ensures due { IfOk result (λ a. IsDue F.loads F.faults (F.contents shelf.old) shelf.old shelf.new (work_of (asked (map string_bytes words.now))) a.status a.text.items a.report) }
+    ensures due { IfOk result (λ a. IsDue F.loads F.faults (F.contents shelf.old) shelf.old shelf.new (work_of (asked (map string_bytes words.now))) a.status (text_view a.text) a.report) }
     ensures told { IfOk result (λ a. IfSome (F.contents shelf.old) (λ files.
-        IsChosen (work_of (asked (map string_bytes words.now))) files (Rose (F.faults shelf.old) (F.faults shelf.new)) a.status a.text.items a.report)) }
+        IsChosen (work_of (asked (map string_bytes words.now))) files (Rose (F.faults shelf.old) (F.faults shelf.new)) a.status (text_view a.text) a.report)) }
     ensures usage { IfOk result (λ a. a.status ≡ 2 → asked (map string_bytes words.now) ≡ None) }
     ensures caused { IfOk result (λ a. IsCaused (F.faults shelf.old) (F.faults shelf.new) a.status) }
     ensures memory { OnErr result (FirstAreLoaded F.loads (names_of (work_of (asked (map string_bytes words.now)))) shelf.old shelf.new) }

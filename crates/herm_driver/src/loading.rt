@@ -5,6 +5,7 @@ ghost use Rattle.herm_edge.specs.View.{loaded_view};
 ghost use Rattle.herm_edge.specs.Shelf.{file_at, IfHere, OnMissing, OnFailed, UnlessFailed};
 ghost use Rattle.herm_driver.specs.Loads.{load_limit, load_of, FirstAreLoaded};
 ghost use Rattle.herm_driver.specs.Due.{IsNotFound, IsUnreadable, IsDue};
+ghost use Rattle.herm_driver.specs.Texts.{text_view};
 ghost use Rattle.herm_driver.specs.Purposes.{purpose_view, HasText, files_view};
 ghost use Rattle.herm_driver.specs.Words.{over};
 
@@ -26,7 +27,7 @@ fn load_limit() -> usize
 
 /// Says that no file has the name.
 fn not_found(alloc: Global, name: &str) -> Result<Answer, AllocError>
-    ensures due { IfOk result (λ a. IsNotFound name.now a.status a.text.items a.report) }
+    ensures due { IfOk result (λ a. IsNotFound name.now a.status (text_view a.text) a.report) }
 {
     let text = file_line(alloc, name.as_bytes(), b": not found\n")?;
     Ok(plain(10, text))
@@ -34,7 +35,7 @@ fn not_found(alloc: Global, name: &str) -> Result<Answer, AllocError>
 
 /// Says that the file could not be read.
 fn read_fault(alloc: Global, name: &str) -> Result<Answer, AllocError>
-    ensures due { IfOk result (λ a. IsUnreadable name.now a.status a.text.items a.report) }
+    ensures due { IfOk result (λ a. IsUnreadable name.now a.status (text_view a.text) a.report) }
 {
     let text = file_line(alloc, name.as_bytes(), b": read fault\n")?;
     Ok(plain(3, text))
@@ -81,7 +82,7 @@ pub fn answer_over<F: Shelf>(
     shelf: &mut F,
 ) -> Result<Answer, AllocError>
     requires text { HasText (purpose_view purpose.now) }
-    ensures due { IfOk result (λ a. IsDue F.loads F.faults (F.contents shelf.old) shelf.old shelf.new (over (purpose_view purpose.now) (files_view files.items) (map (λ name. name.now) names.now)) a.status a.text.items a.report) }
+    ensures due { IfOk result (λ a. IsDue F.loads F.faults (F.contents shelf.old) shelf.old shelf.new (over (purpose_view purpose.now) (files_view files.items) (map (λ name. name.now) names.now)) a.status (text_view a.text) a.report) }
     ensures memory { OnErr result (FirstAreLoaded F.loads (map (λ name. name.now) names.now) shelf.old shelf.new) }
     ensures counted { F.faults shelf.old ≤ F.faults shelf.new }
     ensures same { F.contents shelf.new ≡ F.contents shelf.old }

@@ -1,7 +1,10 @@
 //! What the top call answers.
 ghost use Rattle.std.specs.Prelude.{◌≡◌, None};
+ghost use Rattle.herm_driver.specs.declared.outcome.Text.TheVariants.{Whole};
 
+use herm_base::Word;
 use herm_events::{Entry, Place, Stamp};
+use herm_refusals::Fault;
 use herm_report::Report;
 
 /// How a call of the program ended.
@@ -50,21 +53,33 @@ pub enum Seen {
     End,
 }
 
+/// A text that is to be written: bytes, or the lines of refusals, whose paths are together too long to stand in memory. All memory that
+/// writing them takes is taken before: `room` is that of the buffer.
+#[derive(Drop)]
+pub enum Text {
+    Whole(Vec<u8>),
+    Lines {
+        names: Vec<Word>,
+        faults: Vec<Fault>,
+        room: Vec<u8>,
+    },
+}
+
 /// A text that is to be written, with its status and the report of its run.
 #[derive(Drop)]
 pub struct Answer {
     pub status: u8,
-    pub text: Vec<u8>,
+    pub text: Text,
     pub report: Option<Report>,
 }
 
 /// An answer without a run.
 pub fn plain(status: u8, text: Vec<u8>) -> Answer
-    ensures { result ≡ record { status = status; text = text; report = None } }
+    ensures { result ≡ record { status = status; text = Whole text; report = None } }
 {
     Answer {
         status,
-        text,
+        text: Text::Whole(text),
         report: None,
     }
 }

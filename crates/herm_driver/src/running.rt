@@ -10,8 +10,9 @@ ghost use Rattle.herm_claim.specs.Claim.{Runs};
 ghost use Rattle.herm_driver.specs.Words.{asked_for, limits_of, options_of};
 ghost use Rattle.herm_driver.specs.Ending.{IsReportOfEnd};
 ghost use Rattle.herm_driver.specs.Due.{told_of};
+ghost use Rattle.herm_driver.specs.Texts.{text_view};
 
-use crate::outcome::Answer;
+use crate::outcome::{Answer, Text};
 use herm_commands::{RunOptions, Shows};
 use herm_compile::Compiled;
 use herm_report::Report;
@@ -58,14 +59,14 @@ fn report_of_run(
 pub fn run(alloc: Global, compiled: &Compiled, options: &RunOptions) -> Result<Answer, AllocError>
     requires text { IsTrue (is_text options.now.arg.now) }
     requires stands { StandsForProgram compiled.now.image.types (program_view compiled.now.image.types.shapes compiled.now.program) compiled.now.image }
-    ensures runs { IfOk result (λ a. (files : List (List ℕ)) → HaveThisProgram files compiled.now.image.types compiled.now.program → Runs (options_of (options_seen options.now)) files a.status a.text.items (told_of a.report a.status a.text.items)) }
+    ensures runs { IfOk result (λ a. (files : List (List ℕ)) → HaveThisProgram files compiled.now.image.types compiled.now.program → Runs (options_of (options_seen options.now)) files a.status (text_view a.text) (told_of a.report a.status (text_view a.text))) }
 {
     let report = report_of_run(alloc, compiled, options)?;
     let names = compiled.image.types().exceptions();
     let text = run_text(alloc, &report, names, asked_for(options.shows))?;
     Ok(Answer {
         status: status(&report),
-        text,
+        text: Text::Whole(text),
         report: Some(report),
     })
 }

@@ -1,11 +1,15 @@
 //! The texts that the program writes.
-ghost use Rattle.std.specs.Prelude.{◌≡◌, ◌∷◌, ◌++◌, [], IfOk, OnOk, codes, map, string_bytes, decimal, get_or};
-ghost use Rattle.herm_driver.specs.Texts.{usage_text, file_text};
-ghost use Rattle.herm_claim.specs.RefusalLines.{place_text, refusal_text, refusals_text};
+ghost use Rattle.std.specs.Prelude.{◌≡◌, IfOk, map};
+ghost use Rattle.herm_refusals.specs.RefusalLines.{refusals_text};
+ghost use Rattle.herm_driver.specs.Texts.{usage_text, file_text, text_view};
 
+use crate::outcome::Text;
 use herm_base::Word;
-use herm_compile::Fault;
+use herm_refusals::Fault;
 use std::alloc::{AllocError, Global};
+
+/// How many bytes of lines are put together before they are written: a text of a MiB or less is one write, as a run's text is.
+const ROOM: usize = 1_048_576;
 
 /// The line that says which words the program takes.
 pub fn usage(alloc: Global) -> Result<Vec<u8>, AllocError>
@@ -29,95 +33,30 @@ pub fn file_line(alloc: Global, name: &[u8], what: &[u8]) -> Result<Vec<u8>, All
     Ok(out)
 }
 
-/// Appends a number in decimal.
-fn push_decimal(alloc: Global, out: &mut Vec<u8>, number: u32) -> Result<(), AllocError>
-    ensures { OnOk result (out.new.items ≡ out.old.items ++ decimal number) }
+/// The names of files.
+fn names_of(alloc: Global, files: &[(Word, Vec<u8>)]) -> Result<Vec<Word>, AllocError>
+    ensures { IfOk result (λ names. names.items ≡ map (λ file. file.0) files.now) }
 {
-    let digits = format!(in alloc; "{number}")?;
-    out.extend_from_slice(digits.as_bytes())
-}
-
-/// The name of the file with this number, or nothing where there is none.
-fn name_of(files: &[(Word, Vec<u8>)], number: usize) -> &[u8]
-    ensures { result.now ≡ get_or (map (λ file. file.0) files.now) number [] }
-{
-    match files.get(number) {
-        Some(file) => file.0.bytes(),
-        None => b"",
+    let mut names = Vec::new(alloc);
+    for file in files {
+        names.push(file.0.clone()?)?;
     }
-}
-
-/// Appends a file, a line and a column.
-fn push_spot(
-    alloc: Global,
-    out: &mut Vec<u8>,
-    files: &[(Word, Vec<u8>)],
-    fault: &Fault,
-) -> Result<(), AllocError>
-    ensures { OnOk result (out.new.items
-        ≡ out.old.items ++ (get_or (map (λ file. file.0) files.now) fault.now.file [] ++ 58 ∷ decimal fault.now.line ++ 58 ∷ decimal fault.now.column)) }
-{
-    out.extend_from_slice(name_of(files, fault.file as usize))?;
-    out.push(b':')?;
-    push_decimal(alloc, out, fault.line)?;
-    out.push(b':')?;
-    push_decimal(alloc, out, fault.column)
-}
-
-/// Appends the place of a refusal. A fault of no file is the program's.
-fn push_place(
-    alloc: Global,
-    out: &mut Vec<u8>,
-    files: &[(Word, Vec<u8>)],
-    fault: &Fault,
-) -> Result<(), AllocError>
-    ensures { OnOk result (out.new.items ≡ out.old.items ++ place_text (map (λ file. file.0) files.now) fault.now) }
-{
-    if fault.line == 0 {
-        out.extend_from_slice(b"hermes")?;
-        return Ok(());
-    }
-    push_spot(alloc, out, files, fault)?;
-    Ok(())
-}
-
-/// Appends the rest of a refusal's line: its code and its words.
-fn push_reason(alloc: Global, out: &mut Vec<u8>, fault: &Fault) -> Result<(), AllocError>
-    ensures { OnOk result (out.new.items
-        ≡ out.old.items ++ (codes ": F" ++ decimal fault.now.code ++ 32 ∷ fault.now.words ++ 10 ∷ [])) }
-{
-    out.extend_from_slice(b": F")?;
-    push_decimal(alloc, out, fault.code as u32)?;
-    out.push(b' ')?;
-    out.extend_from_slice(fault.words.bytes())?;
-    out.push(b'\n')?;
-    Ok(())
-}
-
-/// Appends the line of a refusal.
-fn push_refusal(
-    alloc: Global,
-    out: &mut Vec<u8>,
-    files: &[(Word, Vec<u8>)],
-    fault: &Fault,
-) -> Result<(), AllocError>
-    ensures { OnOk result (out.new.items ≡ out.old.items ++ refusal_text (map (λ file. file.0) files.now) fault.now) }
-{
-    push_place(alloc, out, files, fault)?;
-    push_reason(alloc, out, fault)
+    Ok(names)
 }
 
 /// The lines of refusals, in order.
 pub fn refusals(
     alloc: Global,
     files: &[(Word, Vec<u8>)],
-    faults: &[Fault],
-) -> Result<Vec<u8>, AllocError>
-    ensures { IfOk result (λ v. v.items ≡ refusals_text (map (λ file. file.0) files.now) faults.now) }
+    faults: Vec<Fault>,
+) -> Result<Text, AllocError>
+    ensures { IfOk result (λ text. text_view text ≡ refusals_text (map (λ file. file.0) files.now) faults.items) }
 {
-    let mut out = Vec::new(alloc);
-    for fault in faults {
-        push_refusal(alloc, &mut out, files, fault)?;
-    }
-    Ok(out)
+    let names = names_of(alloc, files)?;
+    let room = vec![in alloc; 0; ROOM]?;
+    Ok(Text::Lines {
+        names,
+        faults,
+        room,
+    })
 }

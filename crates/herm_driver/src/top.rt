@@ -5,23 +5,58 @@ ghost use Rattle.herm_commands.specs.Words.{asked};
 ghost use Rattle.herm_driver.specs.Loads.{FirstAreLoaded};
 ghost use Rattle.herm_driver.specs.Due.{IsAnswered, IsDue, IsChosen, IsWritten, IsUnwritten};
 ghost use Rattle.herm_driver.specs.Words.{names_of, work_of};
-ghost use Rattle.herm_driver.specs.Texts.{usage_text};
+ghost use Rattle.herm_driver.specs.Texts.{usage_text, text_view};
+ghost use Rattle.herm_edge.specs.Buffered.{IsFlushed};
+ghost use Rattle.herm_refusals.specs.RefusalLines.{refusals_text};
 
 use crate::Outcome;
 use crate::answer::answer_to;
-use crate::outcome::Answer;
-use herm_edge::{Gate, Shelf, Sink, write_whole};
+use crate::outcome::{Answer, Text};
+use herm_base::Word;
+use herm_edge::{Gate, Shelf, Sink, Unwritten, WriteBuffer, flush, write_whole};
+use herm_refusals::{Fault, put_refusals};
 use std::alloc::Global;
+
+/// Writes the lines of refusals by way of a buffer.
+fn write_lines<S: Sink>(
+    sink: &mut S,
+    names: &[Word],
+    faults: &[Fault],
+    room: Vec<u8>,
+) -> Result<(), Unwritten>
+    ensures flushed { IsFlushed (S.written sink.old) (S.written sink.new) (S.faults sink.old) (S.faults sink.new) (refusals_text names.now faults.now) result }
+{
+    let mut buffer = WriteBuffer::over(room);
+    put_refusals(sink, &mut buffer, names, faults)?;
+    flush(sink, &mut buffer)
+}
+
+/// Writes a text, whole unless the sink fails.
+fn write_text<S: Sink>(sink: &mut S, text: Text) -> Result<(), Unwritten>
+    ensures flushed { IsFlushed (S.written sink.old) (S.written sink.new) (S.faults sink.old) (S.faults sink.new) (text_view text) result }
+{
+    match text {
+        Text::Whole(bytes) => match write_whole(sink, &bytes) {
+            Ok(()) => Ok(()),
+            Err(_) => Err(Unwritten),
+        },
+        Text::Lines {
+            names,
+            faults,
+            room,
+        } => write_lines(sink, &names, &faults, room),
+    }
+}
 
 /// Writes the text of an answer, whole unless the sink fails.
 fn write<S: Sink>(sink: &mut S, answer: Answer) -> Outcome
     ensures written { IsWritten (S.faults sink.old) (S.faults sink.new) (S.written sink.old) (S.written sink.new)
-        result.status answer.status answer.text.items }
+        result.status answer.status (text_view answer.text) }
     ensures report { result.report ≡ answer.report }
     ensures aside { result.aside ≡ None }
     ensures counted { S.faults sink.old ≤ S.faults sink.new }
 {
-    let status = match write_whole(sink, &answer.text) {
+    let status = match write_text(sink, answer.text) {
         Ok(()) => answer.status,
         Err(_) => 4,
     };

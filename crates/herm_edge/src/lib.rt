@@ -4,6 +4,7 @@
 //! count their faults and tell nothing of what they read and write.
 #![tactic(auto)]
 
+mod buffered;
 mod calls;
 mod counted;
 mod dir_shelf;
@@ -15,6 +16,7 @@ mod sink;
 mod whole;
 mod write_sink;
 
+pub use buffered::{Unwritten, WriteBuffer, flush, put};
 pub use dir_shelf::DirShelf;
 pub use gate::{FreeGate, Gate};
 pub use mem_shelf::MemShelf;

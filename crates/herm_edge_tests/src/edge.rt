@@ -4,7 +4,8 @@ ghost use Rattle.herm_edge.specs.Shelf.{file_at};
 ghost use Rattle.herm_edge.specs.Sink.{written_after};
 
 use herm_edge::{
-    DirShelf, Loaded, MemShelf, MemSink, Shelf, Sink, WriteFault, WriteSink, Wrote, write_whole,
+    DirShelf, Loaded, MemShelf, MemSink, Shelf, Sink, Unwritten, WriteBuffer, WriteFault,
+    WriteSink, Wrote, flush, put, write_whole,
 };
 use std::alloc::{AllocError, Global};
 use std::fs::Permissions;
@@ -272,4 +273,36 @@ fn a_sink_over_a_writer_fails_where_the_writer_does(rt: HostRuntime) {
     let mut sink = WriteSink::new(Breaks { broken: false });
     writes(&rt, &mut sink, b"hi\n", Err(WriteFault { taken: 1 }));
     writes(&rt, &mut sink, b"\n", Err(WriteFault { taken: 0 }));
+}
+
+// Puts each piece, and writes what is held at the end.
+fn puts(sink: &mut MemSink, room: Vec<u8>, pieces: &[&[u8]]) -> Result<(), Unwritten> {
+    let mut buffer = WriteBuffer::over(room);
+    for piece in pieces {
+        put(sink, &mut buffer, piece)?;
+    }
+    flush(sink, &mut buffer)
+}
+
+// A room of 4 bytes: `abc` is held, `de` has no room beside it, `fghijk` none at all, and nothing is left behind. The numbers are those of the
+// writes that fail, and what stands afterwards.
+const PUT: [(usize, u64, &str); 5] = [
+    (4, 0, "abcdefghijkl"),
+    (0, 0, "abcdefghijkl"),
+    (4, 1, ""),
+    (4, 2, "abc"),
+    (4, 3, "abcde"),
+];
+
+#[test]
+fn pieces_are_written_by_way_of_a_buffer(rt: HostRuntime) -> Result<(), Fail> {
+    let alloc = rt.alloc();
+    for (room, failing, want) in PUT {
+        let mut sink = MemSink::new(alloc, 100, vec![in alloc; failing]?)?;
+        let room = vec![in alloc; 0; room]?;
+        let said = puts(&mut sink, room, &[b"abc", b"", b"de", b"fghijk", b"l"]);
+        assert_eq!(rt; said.is_ok(), failing == 0, "{failing}");
+        assert_eq!(rt; sink.written(), want.as_bytes(), "{failing}");
+    }
+    Ok(())
 }

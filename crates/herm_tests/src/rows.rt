@@ -148,6 +148,34 @@ process main(start: main_start) {
 }
 ";
 
+const TWO_PATHS: &str = "definitions d {
+  type r = record { a: integer, b: integer };
+}
+process main(start: main_start) {
+  var m: main_message, x: r, k: integer;
+  receive m from start;
+  new x;
+  x.a := 1;
+  x.b := 1;
+  k := 1;
+  if k < 2 {
+    discard x.a;
+  }
+  if k < 3 {
+    discard x.b;
+  }
+  k := x.a + x.b;
+  k := x.b + x.a;
+}
+";
+
+const TWO_PATHS_SAID: &str =
+    "a.hm:17:3: F13 needs init(x.a) by start 1:ok 2:ok 3:ok 4:ok 5:ok 6:true 7:ok 8:false
+a.hm:17:3: F13 needs init(x.b) by start 1:ok 2:ok 3:ok 4:ok 5:ok 6:false 8:true 9:ok
+a.hm:18:3: F13 needs init(x.b) by start 1:ok 2:ok 3:ok 4:ok 5:ok 6:false 8:true 9:ok 10:ok
+a.hm:18:3: F13 needs init(x.a) by start 1:ok 2:ok 3:ok 4:ok 5:ok 6:true 7:ok 8:false 10:ok
+";
+
 const A_CASE_UNKNOWN: &str = "definitions d {
   type v = variant { a: integer, b: string };
 }
@@ -496,7 +524,8 @@ fn programs_wait_or_are_stopped(rt: HostRuntime) -> Result<(), Fail> {
 
 #[test]
 fn facts_are_missing(rt: HostRuntime) -> Result<(), Fail> {
-    let rows: [(&str, u8, &str); 2] = [
+    let rows: [(&str, u8, &str); 3] = [
+        (TWO_PATHS, 1, TWO_PATHS_SAID),
         (
             AN_ARGUMENT_GONE,
             1,

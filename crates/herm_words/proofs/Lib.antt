@@ -4,3 +4,6 @@ pub mod Joined
 pub mod Variants
 pub mod NumbersSaid
 pub mod NumbersWithin
+pub mod Enough
+pub mod Trails
+pub mod Stretched

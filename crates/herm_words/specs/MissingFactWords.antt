@@ -59,6 +59,10 @@ outcome_text types variant (raised e) = name_at types.exceptions e
 abbrev pub hop_text : NamedTable → List Site → Hop → List ℕ
 hop_text types sites hop = codes " " ++ (decimal hop.number ++ (codes ":" ++ outcome_text types (variant_of sites hop.number) hop.outcome))
 
+-- `needs FACT by start`
+abbrev pub head_text : NamedTable → TypedProcess → Fact → List ℕ
+head_text types p f = codes "needs " ++ (fact_text types p f ++ codes " by start")
+
 -- `needs FACT by start` and the hops of the path
 abbrev pub refusal_words : NamedTable → TypedProcess → Refusal → List ℕ
-refusal_words types p r = codes "needs " ++ (fact_text types p r.fact ++ (codes " by start" ++ flat_map (hop_text types (sites_in p)) r.path))
+refusal_words types p r = head_text types p r.fact ++ flat_map (hop_text types (sites_in p)) r.path

@@ -3,8 +3,13 @@
 
 pub mod laws;
 mod names;
+mod order;
+mod paths;
+mod reason;
 mod refusal;
 mod sites;
+mod told;
 
-pub use refusal::words_of;
+pub use reason::{MissingFact, Reason};
 pub use sites::{Site, sites_of};
+pub use told::{Told, told_of};

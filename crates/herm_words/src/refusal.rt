@@ -1,18 +1,15 @@
-//! The words of a refusal.
-ghost use Rattle.std.specs.Prelude.{◌≡◌, ◌++◌, map, option_map, IfOk, OnOk};
-ghost use Rattle.std.specs.List.{flat_map};
+//! The texts of facts and of hops.
+ghost use Rattle.std.specs.Prelude.{◌≡◌, ◌++◌, option_map, IfOk, OnOk};
 ghost use Rattle.herm_model.specs.Paths.{init, case};
 ghost use Rattle.herm_types.specs.View.{path_view, fact_view};
 ghost use Rattle.herm_typed.specs.View.{outcome_view};
 ghost use Rattle.herm_check.specs.View.{hop_view};
-ghost use Rattle.herm_check.specs.Missing.{refusal_view};
-ghost use Rattle.herm_words.specs.Sites.{sites_in};
-ghost use Rattle.herm_words.specs.MissingFactWords.{steps_text, path_text, fact_text, outcome_text, hop_text, refusal_words};
+ghost use Rattle.herm_words.specs.MissingFactWords.{steps_text, path_text, fact_text, outcome_text, hop_text, head_text};
 
 use crate::names::{name_at, part_name, part_of, type_at, variable_name, variable_type};
 use crate::sites::{Site, variant_of};
-use herm_base::{TypeNo, Word, decimal};
-use herm_check::{Hop, MissingFact};
+use herm_base::{TypeNo, decimal};
+use herm_check::Hop;
 use herm_typed::{Outcome, TypedProcess};
 use herm_types::{Fact, Path, TypeTable};
 use std::alloc::{AllocError, Global};
@@ -150,7 +147,7 @@ fn push_outcome(
 }
 
 /// Appends a hop.
-fn push_hop(
+pub fn push_hop(
     types: &TypeTable,
     sites: &[Site],
     hop: &Hop,
@@ -165,36 +162,18 @@ fn push_hop(
     Ok(())
 }
 
-/// Appends the hops of a path.
-fn push_hops(
-    types: &TypeTable,
-    sites: &[Site],
-    hops: &[Hop],
-    out: &mut Vec<u8>,
-) -> Result<(), AllocError>
-    ensures { OnOk result (out.new.items ≡ out.old.items ++ flat_map (hop_text types.now sites.now) (map hop_view hops.now)) }
-{
-    for hop in hops {
-        push_hop(types, sites, hop, out)?;
-    }
-    Ok(())
-}
-
-/// The words of a refusal: `needs FACT by start`, and each hop of the path on which the fact is missing. `sites` are those of the process.
-pub fn words_of(
+/// The words of refusals for a fact before the hops: `needs FACT by start`.
+pub fn head_of(
     alloc: Global,
     types: &TypeTable,
     p: &TypedProcess,
-    sites: &[Site],
-    missing: &MissingFact,
-) -> Result<Word, AllocError>
-    requires { sites.now ≡ sites_in p.now }
-    ensures { IfOk result (λ words. words ≡ refusal_words types.now p.now (refusal_view missing.now)) }
+    fact: &Fact,
+) -> Result<Vec<u8>, AllocError>
+    ensures { IfOk result (λ head. head.items ≡ head_text types.now p.now (fact_view fact.now)) }
 {
     let mut out = Vec::new(alloc);
     out.extend_from_slice(b"needs ")?;
-    push_fact(types, p, &missing.fact, &mut out)?;
+    push_fact(types, p, fact, &mut out)?;
     out.extend_from_slice(b" by start")?;
-    push_hops(types, sites, missing.by.as_slice(), &mut out)?;
-    Ok(Word::from_vec(out))
+    Ok(out)
 }

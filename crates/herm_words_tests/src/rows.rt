@@ -1,8 +1,9 @@
 //! Missing facts by numbers. A row is a process's number, a fact and hops. A fact is a word of digits, as `4` for `init` of variable 4, `40` for its
 //! part 0, `4=1` for its component 1. A hop is a statement's number and an outcome: `o` for `ok`, `t`, `f`, `u` for `turn`, `d` for `done`, and
-//! `c`, `a` or `e` with the number of a component, an arm or an exception.
+//! `c`, `a` or `e` with the number of a component, an arm or an exception. Each hop leads to a visit, numbered from 1 on, from the visit before it, or from
+//! the one whose digit stands before it, as in `2>4o`; visit 0 is reached by no hop.
 use herm_base::{ExcNo, StmtNo, VarNo};
-use herm_check::{Hop, MissingFact};
+use herm_check::{FactSearch, Hop, Link, Search, Visit};
 use herm_typed::Outcome;
 use herm_types::{Fact, Path};
 use std::alloc::{AllocError, Global};
@@ -72,22 +73,50 @@ fn hop_of(word: &[u8]) -> Hop {
     }
 }
 
-/// The missing fact of a row, behind the process's number.
-pub fn missing_of(alloc: Global, row: &str) -> Result<MissingFact, AllocError> {
+fn link_of(word: &[u8], before: usize) -> Link {
+    match word {
+        [from, b'>', hop @ ..] => Link {
+            from: digit(*from) as usize,
+            hop: hop_of(hop),
+        },
+        _ => Link {
+            from: before,
+            hop: hop_of(word),
+        },
+    }
+}
+
+fn visit_by(last: Option<Link>) -> Visit {
+    Visit {
+        point: 0,
+        held: false,
+        depth: 0,
+        last,
+    }
+}
+
+/// The search of a row, behind the process's number. Of its visits only the links count.
+pub fn search_of(alloc: Global, row: &str) -> Result<FactSearch, AllocError> {
     let mut words = row.split_whitespace();
     let first = words.next();
     let fact = match words.next() {
         Some(word) => fact_of(alloc, word.as_bytes())?,
         None => fact_of(alloc, b"0")?,
     };
-    let mut by = Vec::new(alloc);
+    let mut visits = Vec::new(alloc);
+    visits.push(visit_by(None))?;
+    let mut before = 0;
     for word in words {
-        by.push(hop_of(word.as_bytes()))?;
+        let link = link_of(word.as_bytes(), before);
+        before = visits.len();
+        visits.push(visit_by(Some(link)))?;
     }
     let _ = first;
-    Ok(MissingFact {
-        stmt: StmtNo(0),
+    Ok(FactSearch {
         fact,
-        by,
+        search: Search {
+            visits,
+            places: Vec::new(alloc),
+        },
     })
 }

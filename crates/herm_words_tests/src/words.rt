@@ -1,8 +1,10 @@
 //! Words of refusals, written by hand from the rules.
 use crate::program::{Meant, read_program};
-use crate::rows::{digit, missing_of};
-use herm_words::{sites_of, words_of};
+use crate::rows::{digit, search_of};
+use herm_base::StmtNo;
+use herm_words::{MissingFact, Told, sites_of, told_of};
 use std::alloc::{AllocError, Global};
+use std::rc::Rc;
 use std::test::Fail;
 
 /// Processes 0 and 1: a call whose arguments come back or not.
@@ -112,20 +114,86 @@ const FORM_WORDS: [(&str, &str); 13] = [
     ),
 ];
 
-fn said(alloc: Global, meant: &Meant, row: &str) -> Result<String, AllocError> {
+/// Paths that share their beginnings, and parts of their texts.
+const SHARED: &str = "0 8 6t 0>6f 1>7o 2>8o 3>9t 3>9f 5>10o 11u 4>9f 9>7o 12d";
+
+/// The words at each visit, in their order, and at the place behind the last.
+const SHARED_WORDS: &str = "\
+needs init(i) by start
+needs init(i) by start 6:true
+needs init(i) by start 6:false
+needs init(i) by start 6:true 7:ok
+needs init(i) by start 6:false 8:ok
+needs init(i) by start 6:true 7:ok 9:true
+needs init(i) by start 6:true 7:ok 9:false
+needs init(i) by start 6:true 7:ok 9:true 10:ok
+needs init(i) by start 6:true 7:ok 9:true 10:ok 11:turn
+needs init(i) by start 6:false 8:ok 9:false
+needs init(i) by start 6:false 8:ok 9:false 7:ok
+needs init(i) by start 6:false 8:ok 9:false 7:ok 12:done
+needs init(i) by start
+";
+
+/// Links that lead from the same visit, or from one behind it: from nowhere.
+const ASTRAY: &str = "0 8 9>6t 2>7o 1>8o 4>9t";
+
+const ASTRAY_WORDS: &str = "\
+needs init(i) by start
+needs init(i) by start 6:true
+needs init(i) by start 7:ok
+needs init(i) by start 6:true 8:ok
+needs init(i) by start 9:true
+needs init(i) by start
+";
+
+/// What is told of a row; none where there is no process of its number.
+fn told(alloc: Global, meant: &Meant, row: &str) -> Result<Option<Told>, AllocError> {
     let place = match row.as_bytes().first() {
         Some(byte) => digit(*byte) as usize,
         None => 0,
     };
     let Some(process) = meant.program.processes.as_slice().get(place) else {
-        return String::from_str(alloc, "no process");
+        return Ok(None);
     };
     let sites = sites_of(alloc, process)?;
-    let missing = missing_of(alloc, row)?;
-    let words = words_of(alloc, &meant.types, process, sites.as_slice(), &missing)?;
+    let searched = search_of(alloc, row)?;
+    let told = told_of(alloc, &meant.types, process, sites.as_slice(), searched)?;
+    Ok(Some(told))
+}
+
+/// The words of a refusal at a place.
+fn words_at(alloc: Global, told: &Rc<Told>, place: usize) -> Result<String, AllocError> {
+    let missing = MissingFact {
+        stmt: StmtNo(0),
+        told: told.clone()?,
+        place,
+    };
     let mut text = String::new(alloc);
-    for byte in words.bytes() {
+    for byte in missing.words(alloc)?.bytes() {
         text.push(*byte as char)?;
+    }
+    Ok(text)
+}
+
+/// The words of a refusal on the whole path of a row.
+fn said(alloc: Global, meant: &Meant, row: &str) -> Result<String, AllocError> {
+    let Some(told) = told(alloc, meant, row)? else {
+        return String::from_str(alloc, "no process");
+    };
+    let hops = told.visits.len().saturating_sub(1);
+    words_at(alloc, &Rc::new(alloc, told)?, hops)
+}
+
+/// The words at each place of a row, and at the place behind the last, each in a line.
+fn said_at_each(alloc: Global, meant: &Meant, row: &str) -> Result<String, AllocError> {
+    let Some(told) = told(alloc, meant, row)? else {
+        return String::from_str(alloc, "no process");
+    };
+    let told = Rc::new(alloc, told)?;
+    let mut text = String::new(alloc);
+    for place in 0..=told.visits.len() {
+        text.push_str(words_at(alloc, &told, place)?.as_str())?;
+        text.push('\n')?;
     }
     Ok(text)
 }
@@ -154,6 +222,20 @@ fn outcomes_have_their_names(rt: HostRuntime) -> Result<(), Fail> {
     for (row, want) in FORM_WORDS {
         let said = said(alloc, &meant, row)?;
         assert_eq!(rt; said.as_str(), want, "{row}");
+    }
+    Ok(())
+}
+
+#[test]
+fn paths_share_their_texts(rt: HostRuntime) -> Result<(), Fail> {
+    let alloc = rt.alloc();
+    let Some(meant) = read_program(alloc, FORMS)? else {
+        assert!(rt; false, "no program");
+        return Ok(());
+    };
+    for (row, wants) in [(SHARED, SHARED_WORDS), (ASTRAY, ASTRAY_WORDS)] {
+        let said = said_at_each(alloc, &meant, row)?;
+        assert_eq!(rt; said.as_str(), wants, "{row}");
     }
     Ok(())
 }

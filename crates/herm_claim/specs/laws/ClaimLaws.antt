@@ -4,7 +4,7 @@ use Rattle.herm_edge.specs.Shelf.{File}
 use Rattle.herm_journal.specs.Entries.{Text}
 use Rattle.herm_system.specs.Reports.{Report}
 use Rattle.herm_compile.specs.Refused.{AreRefused}
-use Rattle.herm_compile.specs.declared.fault.Fault.{Fault}
+use Rattle.herm_refusals.specs.declared.fault.Fault.{Fault}
 use Rattle.herm_claim.specs.Claim.{bytes_of, AreAccepted, Claim}
 use Rattle.herm_claim.specs.Purposes.{Purpose}
 

@@ -12,5 +12,8 @@ returns-in-Ok c =
 pub returns-in-Err-Missing : goal.returns-in-Err-Missing
 returns-in-Err-Missing c =
     let fault = subst (IsFault (flow_view c.in_ok-flow.flow)) c.in-Err-Missing.field-0-is c.in-Err-Missing.ensures.missing in
-    judged_refused c.args.types.now c.args.number c.args.p.now c.in_ok-flow.flow c.in-Err-Missing.all.items c.args.accepted.now c.args.lacks.now.items _
-    c.in_ok-flow.ensures fault.0 fault.1 c.in_ok-add_lacks-in-Err-Missing.ensures
+    judged_refused c.args.types.now c.args.number c.args.p.now c.in_ok-flow.flow c.in-Err-Missing.all c.args.accepted.now c.args.lacks.now.items _
+    c.in_ok-flow.ensures fault.0 fault.2 c.in_ok-add_lacks-in-Err-Missing.ensures
+
+pub add_lacks-requires : goal.add_lacks-requires
+add_lacks-requires c = (subst (IsFault (flow_view c.in_ok-flow.flow)) c.in-Err-Missing.field-0-is c.in-Err-Missing.ensures.missing).1

@@ -1,4 +1,4 @@
-use Rattle.std.proofs.Common.{◌≡◌, sym, ◌∙◌, arith}
+use Rattle.std.proofs.Common.{sym, ◌∙◌, arith}
 use Rattle.herm_model.proofs.Equality.{same_numbers-is}
 use Rattle.herm_types.specs.View.{path_view}
 use Rattle.herm_check.proofs.SameEdges.{same-more}

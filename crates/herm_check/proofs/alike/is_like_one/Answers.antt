@@ -1,4 +1,4 @@
-use Rattle.std.proofs.Common.{◌≡◌, ◌<◌, length, arith}
+use Rattle.std.proofs.Common.{arith}
 use Rattle.herm_check.proofs.SameEdges.{like-one}
 use Rattle.herm_check.proofs.alike.is_like_one.Goals as goal
 

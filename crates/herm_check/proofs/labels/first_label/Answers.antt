@@ -1,4 +1,4 @@
-use Rattle.std.proofs.Common.{◌≡◌, ◌∙◌, ◌||◌, ◌∷◌, [], Bool, true, false, ap, ap₂, refl}
+use Rattle.std.proofs.Common.{◌≡◌, ◌∙◌, ◌||◌, ◌∷◌, [], Bool, true, false, ap₂, refl}
 use Rattle.herm_model.specs.Paths.{init, same_fact}
 use Rattle.herm_check.proofs.labels.first_label.Goals as goal
 

@@ -1,17 +1,27 @@
 use Rattle.std.proofs.Common.{◌≡◌, ◌+◌, ◌<◌, ◌++◌, ◌∷◌, [], length, map, flat_map, take, get_or, true, false, ◌↔◌, refl, sym, ◌∙◌, ap, subst, arith}
 use Rattle.std.proofs.lemmas.List.{map_more, take_all, length-take-le}
 use Rattle.std.proofs.lemmas.Option.{slice_get_read}
-use Rattle.herm_model.specs.Lists.{map_or, numbered}
+use Rattle.herm_model.specs.Lists.{IsIn, map_or, numbered}
 use Rattle.herm_model.specs.ControlPaths.{Holds}
 use Rattle.herm_model.specs.MissingFacts.{demands_at}
 use Rattle.herm_model.proofs.Lists.{length-map}
 use Rattle.herm_typestate.specs.declared.state.State.{State}
 use Rattle.herm_typestate.specs.Facts.{has_fact}
 use Rattle.herm_flow.specs.View.{point_view, flow_view}
-use Rattle.herm_check.specs.Shortest.{AreReported, none}
-use Rattle.herm_check.specs.Missing.{refusal_view}
-use Rattle.herm_check.proofs.Reported.{demands-more}
+use Rattle.herm_check.specs.declared.missing.Missing.{Missing}
+use Rattle.herm_check.specs.Missing.{AreMissing}
+use Rattle.herm_check.proofs.Making.{nothing-known}
+use Rattle.herm_check.proofs.Reported.{demands-more, none-missing}
 use Rattle.herm_check.proofs.missing.lacking.Goals as goal
+
+pub loop-i-init : goal.loop-i-init
+loop-i-init c =
+    let begun : Missing = record { searches = c.new.result; facts = c.new-2.result } in
+    record {
+      known = nothing-known (flow_view c.args.flow.now) c.new-known.result.items c.new-known.ensures.items;
+      searched = λ s member. absurd (subst (IsIn s) c.new.ensures.items member);
+      missing = none-missing (flow_view c.args.flow.now) begun c.new-2.ensures.items;
+    }
 
 pub push_point-requires-clause-exact : goal.push_point-requires-clause-exact
 push_point-requires-clause-exact c f =
@@ -36,15 +46,17 @@ loop-i-preserved c =
     let is = subst (λ xs. point ≡ get_or xs i point) c.as_slice-point-items.ensures.value c.point-item.is in
     let place : i ≡ 0 + length so_far = omega (arith, length-map point_view (take i points), length-take-le i points (omega arith)) in
     let next = map_more point_view points i point within ∙ ap (λ x. so_far ++ point_view x ∷ []) (sym is) in
-    subst (λ ds. AreReported (flow_view c.args.flow.now) ds (map refusal_view c.push_point.new.out.items))
-    (ap (λ n. flat_map demands_at (numbered 0 so_far) ++ demands_at (n, point_view point)) place ∙ (sym (demands-more 0 so_far (point_view point)) ∙ ap (λ ps. flat_map demands_at (numbered 0 ps)) (sym next)))
-    (c.in_ok-push_point.ensures (flat_map demands_at (numbered 0 so_far)) c.loop-i.invariant)
+    record {
+      known = c.in_ok-push_point.ensures.known;
+      searched = c.in_ok-push_point.ensures.searched;
+      missing =
+          subst (λ ds. AreMissing (flow_view c.args.flow.now) ds c.push_point.new.out)
+          (ap (λ n. flat_map demands_at (numbered 0 so_far) ++ demands_at (n, point_view point)) place ∙ (sym (demands-more 0 so_far (point_view point)) ∙ ap (λ ps. flat_map demands_at (numbered 0 ps)) (sym next)))
+          (c.in_ok-push_point.ensures.missing (flat_map demands_at (numbered 0 so_far)) c.loop-i.invariant.missing);
+    }
 
 pub returns : goal.returns
 returns c =
     let points = c.args.flow.now.points.items in
     let many : length c.as_slice-point-items.result.now ≡ length points = ap length c.as_slice-point-items.ensures.value in
-    subst (λ ps. AreReported (flow_view c.args.flow.now) (flat_map demands_at (numbered 0 (map point_view ps))) (map refusal_view c.loop-i.out.items)) (take_all c.loop-i.i points (omega (arith, c.loop-i-test.false, many))) c.loop-i.invariant
-
-pub loop-i-init : goal.loop-i-init
-loop-i-init c = subst (λ xs. AreReported (flow_view c.args.flow.now) [] (map refusal_view xs)) (sym c.new-out.ensures.items) none
+    subst (λ ps. AreMissing (flow_view c.args.flow.now) (flat_map demands_at (numbered 0 (map point_view ps))) c.loop-i.out) (take_all c.loop-i.i points (omega (arith, c.loop-i-test.false, many))) c.loop-i.invariant.missing

@@ -14,7 +14,7 @@ pub add-requires : goal.add-requires
 add-requires c = record { within = c.requires.within c.in-Point.t (ap target_view c.in-Point.is) }
 
 pub returns-in_ok-add-in-Point : goal.returns-in_ok-add-in-Point
-returns-in_ok-add-in-Point c = leads _ _ _ _ (ap target_view c.in-Point.is) c.is_held_behind-held.ensures refl refl refl refl c.in_ok-add-in-Point.ensures
+returns-in_ok-add-in-Point c = leads _ _ _ _ (ap target_view c.in-Point.is) c.is_held_beyond-held.ensures refl refl refl refl c.in_ok-add-in-Point.ensures
 
 pub returns-in-End : goal.returns-in-End
 returns-in-End c = ends (λ k e. end-no_node _ k (ap target_view c.in-End.is) e)

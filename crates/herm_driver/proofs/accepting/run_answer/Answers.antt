@@ -4,11 +4,12 @@ use Rattle.std.specs.declared.alloc.Global.{Global}
 use Rattle.herm_claim.specs.Purposes as claim
 use Rattle.herm_commands.specs.Words.{options_seen}
 use Rattle.herm_driver.specs.Words.{options_of}
+use Rattle.herm_driver.specs.Texts.{text_view}
 use Rattle.herm_driver.proofs.Claimed.{accepted-answer}
 use Rattle.herm_driver.proofs.accepting.run_answer.Goals as goal
 
 pub returns-in_ok-answer-in-Ok : goal.returns-in_ok-answer-in-Ok
 returns-in_ok-answer-in-Ok c = record {
-  claim = accepted-answer (claim.run (options_of (options_seen c.args.options.now))) c.args.files.now c.in_ok-answer-in-Ok.answer.status c.in_ok-answer-in-Ok.answer.text.items c.in_ok-answer-in-Ok.answer.report
+  claim = accepted-answer (claim.run (options_of (options_seen c.args.options.now))) c.args.files.now c.in_ok-answer-in-Ok.answer.status (text_view c.in_ok-answer-in-Ok.answer.text) c.in_ok-answer-in-Ok.answer.report
       (c.in_ok-answer-in-Ok.ensures.runs (map (λ (f : List ℕ × Vec ℕ Global). f.1.items) c.args.files.now) c.in-Ok.ensures.program);
 }
