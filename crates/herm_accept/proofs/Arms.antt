@@ -15,7 +15,8 @@ use Rattle.herm_check.specs.Missing.{refusal_of, refusals_of}
 use Rattle.herm_check.specs.Shortest.{AreShortest}
 use Rattle.herm_check.specs.declared.missing.Missing.{Missing}
 use Rattle.herm_check.specs.declared.missing.MissingAt.{MissingAt}
-use Rattle.herm_check.specs.declared.search.FactSearch.{FactSearch}
+use Rattle.herm_check.specs.declared.search.Search.{Search}
+use Rattle.herm_types.specs.declared.fact.Fact.{Fact}
 use Rattle.herm_coerce.specs.View.{coercions_view}
 use Rattle.herm_coerce.specs.Coerced.{AreCoercions}
 use Rattle.herm_accept.specs.declared.accepting.Accepted.{Accepted}
@@ -37,11 +38,11 @@ judged_accepted types number p flow labels before after lacks ready many exact f
     })
     added.flows_are added.labels_are added.coercions_are
 
-some_refusal : (ss : List FactSearch) (facts : List MissingAt) → 0 < length facts → map (refusal_of ss) facts ≢ []
-some_refusal ss [] some e = absurd (omega (arith, some))
-some_refusal ss (m ∷ facts) some e = cc
+some_refusal : (lost : List Fact) (ss : List Search) (facts : List MissingAt) → 0 < length facts → map (refusal_of lost ss) facts ≢ []
+some_refusal lost ss [] some e = absurd (omega (arith, some))
+some_refusal lost ss (m ∷ facts) some e = cc
 
 pub judged_refused : (types : NamedTable) (number : ℕ) (p : TypedProcess) (flow : FlowOf) (all : Missing) (before : Accepted) (lacks more : List Lack)
     → IsReady types.shapes (typed_process_view p) flow → 0 < length all.facts.items → AreShortest (flow_view flow) (refusals_of all) → map lack_view more ≡ map lack_view lacks ++ map (lacking types number p) (refusals_of all) → IsJudged types number p before lacks before more
 judged_refused types number p flow all before lacks more ready some are e =
-    refuses (refusals_of all) more (some_refusal all.searches.items all.facts.items some) (subst (λ (f : Flow). AreShortest f (refusals_of all)) ready.flow are) e
+    refuses (refusals_of all) more (some_refusal all.lost.items all.searches.items all.facts.items some) (subst (λ (f : Flow). AreShortest f (refusals_of all)) ready.flow are) e

@@ -4,5 +4,6 @@ pub mod Readiness
 pub mod Telling
 pub mod Arms
 pub mod Begins
+pub mod Unrepeated
 pub mod OnwardPaths
 pub mod OnwardReady

@@ -1,256 +1,250 @@
--- Without its edges to ends a flow has the same control paths to statements, so the same facts are held and the same are missing.
+-- The onward flow of a flow leads to the same statements by as many hops, with the same held, so the same facts hold, the same are missing, and the shortest paths to them are as long.
 use Rattle.std.specs.Option.{option_and_then, option_map}
-use Rattle.std.proofs.Common.{◌≡◌, ℕ, zero, suc, ◌≤◌, ◌*◌, List, [], ◌∷◌, ◌++◌, map, flat_map, filter, find, length, slice_get, Bool, true, false, cond, nat_eq, Option, Some, None, refl, sym, ap, ap₂, ◌∙◌, subst, inl, inr, true≢false}
+use Rattle.std.proofs.Common.{◌≡◌, ℕ, zero, suc, ◌≤◌, ◌*◌, List, [], ◌∷◌, ◌++◌, map, flat_map, find, length, slice_get, Bool, true, false, cond, nat_eq, IsTrue, Option, Some, None, refl, sym, ap, ◌∙◌, subst, inl, inr, arith}
 use Rattle.std.proofs.lemmas.Option.{slice_get-map}
-use Rattle.std.proofs.lemmas.Bool.{eqb-true}
 use Rattle.herm_model.specs.Lists.{IsIn, numbered}
-use Rattle.herm_model.proofs.Lists.{in-map, length-map}
+use Rattle.herm_model.proofs.Lists.{found-in, in-map_from, length-map}
 use Rattle.herm_model.specs.Paths.{Fact, init}
 use Rattle.herm_model.specs.Statements.{Differ}
-use Rattle.herm_model.specs.Outcomes.{Outcome, ok, is_true, is_false, turn, done, component, arm, raised, same_outcome}
+use Rattle.herm_model.specs.Outcomes.{same_outcome}
 use Rattle.herm_model.specs.Targets.{Target, node, end, end_by}
-use Rattle.herm_model.specs.ControlPaths.{Edge, Point, Flow, Hop, Standing, edge_at, edge_from, held_after_edge, held_at_start, walk, IsControlPath, IsReached, Holds, LacksBy}
+use Rattle.herm_model.specs.ControlPaths.{Edge, Point, Flow, Hop, Standing, edge_at, held_after_edge, held_at_start, walk, IsControlPath, IsReached, Holds}
 use Rattle.herm_model.specs.MissingFacts.{Demand, demands_at, demands, Refusal, AreRefusals, none, missing, holds}
 use Rattle.herm_model.specs.laws.FlowLaws.{EdgesDiffer, IsThere}
 use Rattle.herm_flow.specs.Onward.{is_node, leads_on, onward, onward_flow}
 use Rattle.herm_check.specs.Shortest.{AreShortest, AreNoLonger}
+use Rattle.herm_accept.proofs.Unrepeated.{outcome_self, outcomes_of, found-by_outcome, AreAlike, alike-held, kept-within, kept-alike, kept-differ}
 
--- ---- edges
+-- ---- points
 
-outcomes-same : (a b : Outcome) → same_outcome a b ≡ true → a ≡ b
-outcomes-same ok ok h = refl
-outcomes-same is_true is_true h = refl
-outcomes-same is_false is_false h = refl
-outcomes-same turn turn h = refl
-outcomes-same done done h = refl
-outcomes-same (component c) (component d) h = ap component (eqb-true c d h)
-outcomes-same (arm m) (arm n) h = ap arm (eqb-true m n h)
-outcomes-same (raised e) (raised f) h = ap raised (eqb-true e f h)
-outcomes-same _ _ h = absurd (true≢false (sym h))
+got-in : {X : Type 0} (xs : List X) (i : ℕ) (x : X) → slice_get xs i ≡ Some x → IsIn x xs
+got-in [] i x h = cc
+got-in (y ∷ xs) zero x h = inl cc
+got-in (y ∷ xs) (suc i) x h = inr (got-in xs i x h)
 
-kept-in : (e : Edge) (es : List Edge) → IsIn e (filter leads_on es) → IsIn e es
-kept-in e [] h = absurd h
-kept-in e (d ∷ es) h = go (leads_on d) h (kept-in e es)
+-- no outcome comes twice at a point of the onward flow
+pub differ-onward : (flow : Flow) → EdgesDiffer flow → EdgesDiffer (onward_flow flow)
+differ-onward flow differ q h =
+    let k = in-map_from onward q flow.points h in
+    subst (λ (p : Point). Differ (outcomes_of p.edges)) (sym k.2) (kept-differ k.0.edges (differ k.0 k.1))
+
+-- each edge of the onward flow leads to a point that is there
+pub there-onward : (flow : Flow) → ((q : Point) (e : Edge) → IsIn q flow.points → IsIn e q.edges → IsThere (length flow.points) e.target)
+    → (q : Point) (e : Edge) → IsIn q (onward_flow flow).points → IsIn e q.edges → IsThere (length (onward_flow flow).points) e.target
+there-onward flow there q e h member =
+    let k = in-map_from onward q flow.points h in
+    subst (λ n. IsThere n e.target) (sym (length-map onward flow.points)) (there k.0 e k.1 (kept-within e k.0.edges (subst (λ (p : Point). IsIn e p.edges) k.2 member)))
+
+-- ---- hops
+
+-- a hop takes this edge at a point
+record Takes (hop : Hop) (o : Option Point) (e : Edge) : Type 0 where
+  pub point : Point
+  pub here : o ≡ Some point
+  pub numbered : IsTrue (nat_eq point.number hop.number)
+  pub member : IsIn e point.edges
+  pub named : IsTrue (same_outcome e.outcome hop.outcome)
+
+takes-edge : (hop : Hop) (o : Option Point) (e : Edge) → edge_at hop o ≡ Some e → Takes hop o e
+takes-edge hop None e h = cc
+takes-edge hop (Some p) e h = go (nat_eq p.number hop.number) refl h
   where
-    go : (b : Bool) → IsIn e (cond b (d ∷ filter leads_on es) (filter leads_on es)) → (IsIn e (filter leads_on es) → IsIn e es) → IsIn e (d ∷ es)
-    go true (inl r) again = inl r
-    go true (inr r) again = inr (again r)
-    go false r again = inr (again r)
+    go : (b : Bool) → nat_eq p.number hop.number ≡ b → cond b (find (λ (e : Edge). same_outcome e.outcome hop.outcome) p.edges) None ≡ Some e → Takes hop (Some p) e
+    go true numbered found =
+        let k = found-in (λ (e : Edge). same_outcome e.outcome hop.outcome) e p.edges found in
+        record { point = p; here = refl; numbered = numbered; member = k.0; named = k.1 }
+    go false numbered found = cc
 
-abbrev names : Hop → Edge → Bool
-names hop e = same_outcome e.outcome hop.outcome
+edge-taken : (hop : Hop) (o : Option Point) (e : Edge) → ((p : Point) → o ≡ Some p → Differ (outcomes_of p.edges)) → Takes hop o e → edge_at hop o ≡ Some e
+edge-taken hop o e differ takes =
+    ap (edge_at hop) takes.here
+    ∙ ap (λ b. cond b (find (λ (e : Edge). same_outcome e.outcome hop.outcome) takes.point.edges) None) takes.numbered
+    ∙ found-by_outcome hop.outcome e takes.point.edges (differ takes.point takes.here) takes.member takes.named
 
--- an edge that leads on is found among those that do
-find-onward : (hop : Hop) (es : List Edge) (e : Edge) → leads_on e ≡ true → find (names hop) es ≡ Some e → find (names hop) (filter leads_on es) ≡ Some e
-find-onward hop [] e h f = cc
-find-onward hop (d ∷ es) e h f = go (names hop d) refl f (find-onward hop es e h)
-  where
-    later : (b : Bool) → names hop d ≡ false → find (names hop) (filter leads_on es) ≡ Some e → find (names hop) (cond b (d ∷ filter leads_on es) (filter leads_on es)) ≡ Some e
-    later true n r = ap (λ b. cond b (Some d) (find (names hop) (filter leads_on es))) n ∙ r
-    later false n r = r
+-- what the onward flow takes at a point, the flow takes
+takes-all : (hop : Hop) (o : Option Point) (e : Edge) → Takes hop (option_map onward o) e → Takes hop o e
+takes-all hop None e takes = let k : ⊥ = cc takes.here in absurd k
+takes-all hop (Some p) e takes =
+    let same : takes.point ≡ onward p = cc takes.here in
+    record {
+      point = p;
+      here = refl;
+      numbered = subst (λ (q : Point). IsTrue (nat_eq q.number hop.number)) same takes.numbered;
+      member = kept-within e p.edges (subst (λ (q : Point). IsIn e q.edges) same takes.member);
+      named = takes.named;
+    }
 
-    first : (b : Bool) → leads_on d ≡ b → names hop d ≡ true → d ≡ e → find (names hop) (cond b (d ∷ filter leads_on es) (filter leads_on es)) ≡ Some e
-    first true l n r = ap (λ b. cond b (Some d) (find (names hop) (filter leads_on es))) n ∙ ap Some r
-    first false l n r = absurd (true≢false (sym (subst (λ x. leads_on x ≡ true) (sym r) h) ∙ l))
+-- an edge like this one is taken at a point
+record TakesAlike (o : Option Point) (e : Edge) : Type 0 where
+  pub hop : Hop
+  pub edge : Edge
+  pub takes : Takes hop o edge
+  pub alike : AreAlike edge e
 
-    some : {x y : Edge} → Some x ≡ Some y → x ≡ y
-    some r = cc
-
-    go : (b : Bool) → names hop d ≡ b → cond b (Some d) (find (names hop) es) ≡ Some e → (find (names hop) es ≡ Some e → find (names hop) (filter leads_on es) ≡ Some e) → find (names hop) (cond (leads_on d) (d ∷ filter leads_on es) (filter leads_on es)) ≡ Some e
-    go true n r again = first (leads_on d) refl n (some r)
-    go false n r again = later (leads_on d) n (again r)
-
-found-in : (hop : Hop) (es : List Edge) (e : Edge) → find (names hop) es ≡ Some e → IsIn e es × (names hop e ≡ true)
-found-in hop [] e f = let k : ⊥ = cc in absurd k
-found-in hop (d ∷ es) e f = go (names hop d) refl f (found-in hop es e)
-  where
-    some : {x y : Edge} → Some x ≡ Some y → x ≡ y
-    some r = cc
-
-    go : (b : Bool) → names hop d ≡ b → cond b (Some d) (find (names hop) es) ≡ Some e → (find (names hop) es ≡ Some e → IsIn e es × (names hop e ≡ true)) → IsIn e (d ∷ es) × (names hop e ≡ true)
-    go true n r again = (inl (sym (some r)), subst (λ x. names hop x ≡ true) (some r) n)
-    go false n r again = let k = again r in (inr k.0, k.1)
-
--- and one that is found among those is found among all, where outcomes differ
-find-all : (hop : Hop) (es : List Edge) (e : Edge) → Differ (map (λ (e : Edge). e.outcome) es) → find (names hop) (filter leads_on es) ≡ Some e → find (names hop) es ≡ Some e
-find-all hop [] e h f = f
-find-all hop (d ∷ es) e h f = go (names hop d) (leads_on d) refl f (find-all hop es e h.1)
-  where
-    twice : names hop d ≡ true → find (names hop) (filter leads_on es) ≡ Some e → ⊥
-    twice n r =
-        let k = found-in hop (filter leads_on es) e r in
-        let same : d.outcome ≡ e.outcome = outcomes-same d.outcome hop.outcome n ∙ sym (outcomes-same e.outcome hop.outcome k.1) in
-        h.0 (subst (λ o. IsIn o (map (λ (e : Edge). e.outcome) es)) (sym same) (in-map (λ (e : Edge). e.outcome) e es (kept-in e es k.0)))
-
-    go : (b c : Bool) → names hop d ≡ b → find (names hop) (cond c (d ∷ filter leads_on es) (filter leads_on es)) ≡ Some e → (find (names hop) (filter leads_on es) ≡ Some e → find (names hop) es ≡ Some e) → cond b (Some d) (find (names hop) es) ≡ Some e
-    go true true n r again = sym (ap (λ b. cond b (Some d) (find (names hop) (filter leads_on es))) n) ∙ r
-    go true false n r again = absurd (twice n r)
-    go false true n r again = again (sym (ap (λ b. cond b (Some d) (find (names hop) (filter leads_on es))) n) ∙ r)
-    go false false n r again = again r
+-- and where the flow takes an edge to a statement, the onward flow takes one that is like it
+takes-onward : (hop : Hop) (o : Option Point) (e : Edge) → IsTrue (leads_on e) → Takes hop o e → TakesAlike (option_map onward o) e
+takes-onward hop o e leads takes =
+    let has = kept-alike e takes.point.edges takes.member leads in
+    record {
+      hop = record { number = hop.number; outcome = has.other.outcome };
+      edge = has.other;
+      takes = record {
+        point = onward takes.point;
+        here = ap (option_map onward) takes.here;
+        numbered = takes.numbered;
+        member = has.member;
+        named = outcome_self has.other.outcome;
+      };
+      alike = has.alike;
+    }
 
 -- ---- walks
 
-abbrev lands : Target → Bool → Option Standing
-lands t held = Some (record { here = t; held = held })
+-- The first hop of a walk takes an edge, and the others go on behind it.
+record Begins (flow : Flow) (f : Fact) (hop : Hop) (hops : List Hop) (j : ℕ) (held : Bool) (s : Standing) : Type 0 where
+  pub edge : Edge
+  pub takes : Takes hop (slice_get flow.points j) edge
+  pub behind : walk flow f hops edge.target (held_after_edge edge f held) ≡ Some s
 
-abbrev lands_on : Option Standing → Bool
-lands_on None = false
-lands_on (Some s) = is_node s.here
+walk-begins : (flow : Flow) (f : Fact) (hop : Hop) (hops : List Hop) (j : ℕ) (held : Bool) (s : Standing) → walk flow f (hop ∷ hops) (node j) held ≡ Some s → Begins flow f hop hops j held s
+walk-begins flow f hop hops j held s h = go (edge_at hop (slice_get flow.points j)) refl h
+  where
+    go : (o : Option Edge) → edge_at hop (slice_get flow.points j) ≡ o → option_and_then (λ (e : Edge). walk flow f hops e.target (held_after_edge e f held)) o ≡ Some s → Begins flow f hop hops j held s
+    go None found r = cc
+    go (Some e) found r = record { edge = e; takes = takes-edge hop (slice_get flow.points j) e found; behind = r }
+
+begun-walk : (flow : Flow) → EdgesDiffer flow → (f : Fact) (hop : Hop) (hops : List Hop) (j : ℕ) (held : Bool) (s : Standing) → Begins flow f hop hops j held s → walk flow f (hop ∷ hops) (node j) held ≡ Some s
+begun-walk flow differ f hop hops j held s begins =
+    ap (option_and_then (λ (e : Edge). walk flow f hops e.target (held_after_edge e f held)))
+    (edge-taken hop (slice_get flow.points j) begins.edge (λ p is. differ p (got-in flow.points j p is)) begins.takes)
+    ∙ begins.behind
+
+abbrev leads : Option Standing → Bool
+leads None = false
+leads (Some s) = is_node s.here
 
 -- nothing leads on from an end
-walked-node : (flow : Flow) (f : Fact) (hops : List Hop) (t : Target) (held last : Bool) (i : ℕ) → walk flow f hops t held ≡ lands (node i) last → is_node t ≡ true
+walked-node : (flow : Flow) (f : Fact) (hops : List Hop) (t : Target) (held last : Bool) (i : ℕ) → walk flow f hops t held ≡ Some (record { here = node i; held = last }) → is_node t ≡ true
 walked-node flow f hops (node j) held last i h = refl
-walked-node flow f [] end held last i h = ap lands_on h
-walked-node flow f (hop ∷ hops) end held last i h = let k : ⊥ = cc in absurd k
-walked-node flow f [] (end_by e) held last i h = ap lands_on h
-walked-node flow f (hop ∷ hops) (end_by e) held last i h = let k : ⊥ = cc in absurd k
+walked-node flow f [] end held last i h = ap leads h
+walked-node flow f (hop ∷ hops) end held last i h = cc
+walked-node flow f [] (end_by e) held last i h = ap leads h
+walked-node flow f (hop ∷ hops) (end_by e) held last i h = cc
 
-module _ (flow : Flow) (f : Fact) (i : ℕ) (last : Bool) where
-  abbrev onwards : List Hop → Option Edge → Bool → Option Standing
-  onwards hops o held = option_and_then (λ (e : Edge). walk (onward_flow flow) f hops e.target (held_after_edge e f held)) o
+-- a walk of the onward flow is one of the flow
+walks-all : (flow : Flow) → EdgesDiffer flow → (f : Fact) (hops : List Hop) (t : Target) (held : Bool) (s : Standing) → walk (onward_flow flow) f hops t held ≡ Some s → walk flow f hops t held ≡ Some s
+walks-all flow differ f [] t held s h = h
+walks-all flow differ f (hop ∷ hops) (node j) held s h =
+    let k = walk-begins (onward_flow flow) f hop hops j held s h in
+    begun-walk flow differ f hop hops j held s (record {
+      edge = k.edge;
+      takes = takes-all hop (slice_get flow.points j) k.edge (subst (λ o. Takes hop o k.edge) (slice_get-map onward flow.points j) k.takes);
+      behind = walks-all flow differ f hops k.edge.target (held_after_edge k.edge f held) s k.behind;
+    })
+walks-all flow differ f (hop ∷ hops) end held s h = cc
+walks-all flow differ f (hop ∷ hops) (end_by e) held s h = cc
 
-  abbrev goes : List Hop → Option Edge → Bool → Option Standing
-  goes hops o held = option_and_then (λ (e : Edge). walk flow f hops e.target (held_after_edge e f held)) o
+-- as many hops that walk from a target to where this is held
+record Walks (flow : Flow) (f : Fact) (many : ℕ) (t : Target) (held : Bool) (s : Standing) : Type 0 where
+  pub hops : List Hop
+  pub many_is : length hops ≡ many
+  pub walked : walk flow f hops t held ≡ Some s
 
-  -- by what is found at a point
-  there : (hop : Hop) (hops : List Hop) (held : Bool) (es : List Edge) (o : Option Edge) → find (names hop) es ≡ o
-      → ((t : Target) (b : Bool) → walk flow f hops t b ≡ lands (node i) last → walk (onward_flow flow) f hops t b ≡ lands (node i) last)
-      → goes hops o held ≡ lands (node i) last → onwards hops (find (names hop) (filter leads_on es)) held ≡ lands (node i) last
-  there hop hops held es None n again h = let k : ⊥ = cc in absurd k
-  there hop hops held es (Some e) n again h =
-      ap (λ o. onwards hops o held) (find-onward hop es e (walked-node flow f hops e.target (held_after_edge e f held) last i h) n) ∙ again e.target (held_after_edge e f held) h
-
-  back : (hop : Hop) (hops : List Hop) (held : Bool) (es : List Edge) (o : Option Edge) → Differ (map (λ (e : Edge). e.outcome) es) → find (names hop) (filter leads_on es) ≡ o
-      → ((t : Target) (b : Bool) → walk (onward_flow flow) f hops t b ≡ lands (node i) last → walk flow f hops t b ≡ lands (node i) last)
-      → onwards hops o held ≡ lands (node i) last → goes hops (find (names hop) es) held ≡ lands (node i) last
-  back hop hops held es None differ n again h = let k : ⊥ = cc in absurd k
-  back hop hops held es (Some e) differ n again h =
-      ap (λ o. goes hops o held) (find-all hop es e differ n) ∙ again e.target (held_after_edge e f held) h
-
-  at-point : (hop : Hop) (hops : List Hop) (held : Bool) (o : Option Point)
-      → ((t : Target) (b : Bool) → walk flow f hops t b ≡ lands (node i) last → walk (onward_flow flow) f hops t b ≡ lands (node i) last)
-      → goes hops (edge_at hop o) held ≡ lands (node i) last → onwards hops (edge_at hop (option_map onward o)) held ≡ lands (node i) last
-  at-point hop hops held None again h = let k : ⊥ = cc in absurd k
-  at-point hop hops held (Some p) again h = go (nat_eq p.number hop.number) h
-    where
-      go : (b : Bool) → goes hops (cond b (find (names hop) p.edges) None) held ≡ lands (node i) last → onwards hops (cond b (find (names hop) (filter leads_on p.edges)) None) held ≡ lands (node i) last
-      go true r = there hop hops held p.edges (find (names hop) p.edges) refl again r
-      go false r = let k : ⊥ = cc in absurd k
-
-  from-point : (hop : Hop) (hops : List Hop) (held : Bool) (o : Option Point) → ((p : Point) → o ≡ Some p → Differ (map (λ (e : Edge). e.outcome) p.edges))
-      → ((t : Target) (b : Bool) → walk (onward_flow flow) f hops t b ≡ lands (node i) last → walk flow f hops t b ≡ lands (node i) last)
-      → onwards hops (edge_at hop (option_map onward o)) held ≡ lands (node i) last → goes hops (edge_at hop o) held ≡ lands (node i) last
-  from-point hop hops held None differ again h = let k : ⊥ = cc in absurd k
-  from-point hop hops held (Some p) differ again h = go (nat_eq p.number hop.number) h
-    where
-      go : (b : Bool) → onwards hops (cond b (find (names hop) (filter leads_on p.edges)) None) held ≡ lands (node i) last → goes hops (cond b (find (names hop) p.edges) None) held ≡ lands (node i) last
-      go true r = back hop hops held p.edges (find (names hop) (filter leads_on p.edges)) (differ p refl) refl again r
-      go false r = let k : ⊥ = cc in absurd k
-
-  walks-onward : (hops : List Hop) (t : Target) (held : Bool) → walk flow f hops t held ≡ lands (node i) last → walk (onward_flow flow) f hops t held ≡ lands (node i) last
-  walks-onward [] t held h = h
-  walks-onward (hop ∷ hops) (node j) held h =
-      ap (λ o. onwards hops (edge_at hop o) held) (slice_get-map onward flow.points j)
-      ∙ at-point hop hops held (slice_get flow.points j) (λ t b r. walks-onward hops t b r) h
-  walks-onward (hop ∷ hops) end held h = let k : ⊥ = cc in absurd k
-  walks-onward (hop ∷ hops) (end_by e) held h = let k : ⊥ = cc in absurd k
-
-  walks-all : ((j : ℕ) (p : Point) → slice_get flow.points j ≡ Some p → Differ (map (λ (e : Edge). e.outcome) p.edges))
-      → (hops : List Hop) (t : Target) (held : Bool) → walk (onward_flow flow) f hops t held ≡ lands (node i) last → walk flow f hops t held ≡ lands (node i) last
-  walks-all differ [] t held h = h
-  walks-all differ (hop ∷ hops) (node j) held h =
-      from-point hop hops held (slice_get flow.points j) (λ p e. differ j p e) (λ t b r. walks-all differ hops t b r)
-      (sym (ap (λ o. onwards hops (edge_at hop o) held) (slice_get-map onward flow.points j)) ∙ h)
-  walks-all differ (hop ∷ hops) end held h = let k : ⊥ = cc in absurd k
-  walks-all differ (hop ∷ hops) (end_by e) held h = let k : ⊥ = cc in absurd k
+-- and where the flow walks to a statement, the onward flow does by as many hops
+walks-onward : (flow : Flow) → EdgesDiffer flow → (f : Fact) (hops : List Hop) (t : Target) (held last : Bool) (i : ℕ) → walk flow f hops t held ≡ Some (record { here = node i; held = last })
+    → Walks (onward_flow flow) f (length hops) t held (record { here = node i; held = last })
+walks-onward flow differ f [] t held last i h = record { hops = []; many_is = refl; walked = h }
+walks-onward flow differ f (hop ∷ hops) (node j) held last i h =
+    let s : Standing = record { here = node i; held = last } in
+    let k = walk-begins flow f hop hops j held s h in
+    let leads = walked-node flow f hops k.edge.target (held_after_edge k.edge f held) last i k.behind in
+    let other = takes-onward hop (slice_get flow.points j) k.edge leads k.takes in
+    let again = walks-onward flow differ f hops k.edge.target (held_after_edge k.edge f held) last i k.behind in
+    record {
+      hops = other.hop ∷ again.hops;
+      many_is = ap suc again.many_is;
+      walked = begun-walk (onward_flow flow) (differ-onward flow differ) f other.hop again.hops j held s (record {
+        edge = other.edge;
+        takes = subst (λ o. Takes other.hop o other.edge) (sym (slice_get-map onward flow.points j)) other.takes;
+        behind = rw other.alike.target (rw (alike-held other.edge k.edge f held other.alike) again.walked);
+      });
+    }
+walks-onward flow differ f (hop ∷ hops) end held last i h = cc
+walks-onward flow differ f (hop ∷ hops) (end_by e) held last i h = cc
 
 -- ---- what is held, and what is missing
-
-got-in : {X : Type 0} (xs : List X) (i : ℕ) (x : X) → slice_get xs i ≡ Some x → IsIn x xs
-got-in [] i x h = let k : ⊥ = cc in absurd k
-got-in (y ∷ xs) zero x h = inl cc
-got-in (y ∷ xs) (suc i) x h = inr (got-in xs i x h)
 
 demands-from : (i : ℕ) (ps : List Point) → flat_map demands_at (numbered i (map onward ps)) ≡ flat_map demands_at (numbered i ps)
 demands-from i [] = refl
 demands-from i (p ∷ ps) = ap (λ ds. demands_at (i, p) ++ ds) (demands-from (suc i) ps)
 
-module _ (flow : Flow) (differ : EdgesDiffer flow) where
-  points-differ : (j : ℕ) (p : Point) → slice_get flow.points j ≡ Some p → Differ (map (λ (e : Edge). e.outcome) p.edges)
-  points-differ j p e = differ p (got-in flow.points j p e)
+no_longer-as : (rs os ps : List Refusal) → AreNoLonger rs os → AreNoLonger os ps → AreNoLonger rs ps
+no_longer-as [] [] [] h k = tt
+no_longer-as [] [] (p ∷ ps) h k = absurd k
+no_longer-as [] (o ∷ os) ps h k = absurd h
+no_longer-as (r ∷ rs) [] ps h k = absurd h
+no_longer-as (r ∷ rs) (o ∷ os) [] h k = absurd k
+no_longer-as (r ∷ rs) (o ∷ os) (p ∷ ps) h k = (omega (arith, h.0, k.0), no_longer-as rs os ps h.1 k.1)
 
-  path-onward : (f : Fact) (hops : List Hop) (i : ℕ) (held : Bool) → IsControlPath flow f hops (node i) held → IsControlPath (onward_flow flow) f hops (node i) held
-  path-onward f hops i held h = walks-onward flow f i held hops flow.entry (held_at_start f) h
+-- refusals of a flow with no longer paths than these
+record HasRefusals (flow : Flow) (ds : List Demand) (rs : List Refusal) : Type 0 where
+  pub others : List Refusal
+  pub are : AreRefusals flow ds others
+  pub no_longer : AreNoLonger others rs
+
+module _ (flow : Flow) (differ : EdgesDiffer flow) where
+  path-onward : (f : Fact) (hops : List Hop) (i : ℕ) (held : Bool) → IsControlPath flow f hops (node i) held
+      → Walks (onward_flow flow) f (length hops) flow.entry (held_at_start f) (record { here = node i; held = held })
+  path-onward f hops i held h = walks-onward flow differ f hops flow.entry (held_at_start f) held i h
 
   path-all : (f : Fact) (hops : List Hop) (i : ℕ) (held : Bool) → IsControlPath (onward_flow flow) f hops (node i) held → IsControlPath flow f hops (node i) held
-  path-all f hops i held h = walks-all flow f i held points-differ hops flow.entry (held_at_start f) h
+  path-all f hops i held h = walks-all flow differ f hops flow.entry (held_at_start f) (record { here = node i; held = held }) h
 
-  -- a point is reached by the same paths
+  -- the onward flow reaches each point that the flow reaches
   pub reached-onward : (i : ℕ) → IsReached flow (node i) → IsReached (onward_flow flow) (node i)
-  reached-onward i (hops, held, path) = (hops, held, path-onward (init (0 ∷ [])) hops i held path)
+  reached-onward i (hops, held, path) = let k = path-onward (init (0 ∷ [])) hops i held path in (k.hops, held, k.walked)
 
   holds-onward : (f : Fact) (i : ℕ) → Holds flow f i → Holds (onward_flow flow) f i
   holds-onward f i h hops held path = h hops held (path-all f hops i held path)
 
   holds-all : (f : Fact) (i : ℕ) → Holds (onward_flow flow) f i → Holds flow f i
-  holds-all f i h hops held path = h hops held (path-onward f hops i held path)
+  holds-all f i h hops held path = let k = path-onward f hops i held path in h k.hops held k.walked
 
   same-demands : demands (onward_flow flow) ≡ demands flow
   same-demands = demands-from 0 flow.points
 
-  refusals-onward : (ds : List Demand) (rs : List Refusal) → AreRefusals flow ds rs → AreRefusals (onward_flow flow) ds rs
-  refusals-onward _ _ none = none
-  refusals-onward _ _ (missing d ds hops rs lacks rest) = missing d ds hops rs (path-onward d.fact hops d.at false lacks) (refusals-onward ds rs rest)
-  refusals-onward _ _ (holds d ds rs held rest) = holds d ds rs (holds-onward d.fact d.at held) (refusals-onward ds rs rest)
+  refusals-onward : (ds : List Demand) (rs : List Refusal) → AreRefusals flow ds rs → HasRefusals (onward_flow flow) ds rs
+  refusals-onward _ _ none = record { others = []; are = none; no_longer = tt }
+  refusals-onward _ _ (missing d ds hops rs lacks rest) =
+      let k = path-onward d.fact hops d.at false lacks in
+      let again = refusals-onward ds rs rest in
+      record {
+        others = record { number = d.number; fact = d.fact; path = k.hops } ∷ again.others;
+        are = missing d ds k.hops again.others k.walked again.are;
+        no_longer = (omega (arith, k.many_is), again.no_longer);
+      }
+  refusals-onward _ _ (holds d ds rs held rest) =
+      let again = refusals-onward ds rs rest in
+      record { others = again.others; are = holds d ds again.others (holds-onward d.fact d.at held) again.are; no_longer = again.no_longer }
 
   refusals-all : (ds : List Demand) (rs : List Refusal) → AreRefusals (onward_flow flow) ds rs → AreRefusals flow ds rs
   refusals-all _ _ none = none
   refusals-all _ _ (missing d ds hops rs lacks rest) = missing d ds hops rs (path-all d.fact hops d.at false lacks) (refusals-all ds rs rest)
   refusals-all _ _ (holds d ds rs held rest) = holds d ds rs (holds-all d.fact d.at held) (refusals-all ds rs rest)
 
-  -- the shortest paths are the same
+  least-all : (rs : List Refusal) → AreShortest (onward_flow flow) rs → (others : List Refusal) → AreRefusals flow (demands flow) others → AreNoLonger rs others
+  least-all rs are others more =
+      let k = refusals-onward (demands flow) others more in
+      no_longer-as rs k.others others (are.least k.others (subst (λ ds. AreRefusals (onward_flow flow) ds k.others) (sym same-demands) k.are)) k.no_longer
+
+  -- refusals of the onward flow with shortest paths are refusals of the flow with shortest paths
   pub shortest-onward : (rs : List Refusal) → AreShortest (onward_flow flow) rs → AreShortest flow rs
   shortest-onward rs are = record {
     refusals = refusals-all (demands flow) rs (subst (λ ds. AreRefusals (onward_flow flow) ds rs) same-demands are.refusals);
-    least = λ others more. are.least others (subst (λ ds. AreRefusals (onward_flow flow) ds others) (sym same-demands) (refusals-onward (demands flow) others more));
+    least = least-all rs are;
     few = λ r member. subst (λ n. length r.path ≤ 2 * n) (length-map onward flow.points) (are.few r member);
   }
 
-  -- and what holds at each point
+  -- what is needed holds at each point where it holds in the onward flow
   pub faultless-onward : ((d : Demand) → IsIn d (demands (onward_flow flow)) → Holds (onward_flow flow) d.fact d.at) → (d : Demand) → IsIn d (demands flow) → Holds flow d.fact d.at
   faultless-onward faultless d member = holds-all d.fact d.at (faultless d (subst (λ ds. IsIn d ds) (sym same-demands) member))
-
--- ---- what the check asks
-
-onward-from : (q : Point) (ps : List Point) → IsIn q (map onward ps) → (p : Point) × IsIn p ps × (q ≡ onward p)
-onward-from q [] h = absurd h
-onward-from q (p ∷ ps) (inl e) = (p, inl refl, e)
-onward-from q (p ∷ ps) (inr r) = let k = onward-from q ps r in (k.0, inr k.1, k.2)
-
-outcome-kept : (o : Outcome) (es : List Edge) → IsIn o (map (λ (e : Edge). e.outcome) (filter leads_on es)) → IsIn o (map (λ (e : Edge). e.outcome) es)
-outcome-kept o [] h = absurd h
-outcome-kept o (e ∷ es) h = go (leads_on e) h (outcome-kept o es)
-  where
-    go : (b : Bool) → IsIn o (map (λ (e : Edge). e.outcome) (cond b (e ∷ filter leads_on es) (filter leads_on es))) → (IsIn o (map (λ (e : Edge). e.outcome) (filter leads_on es)) → IsIn o (map (λ (e : Edge). e.outcome) es)) → IsIn o (map (λ (e : Edge). e.outcome) (e ∷ es))
-    go true (inl r) again = inl r
-    go true (inr r) again = inr (again r)
-    go false r again = inr (again r)
-
-kept-differ : (es : List Edge) → Differ (map (λ (e : Edge). e.outcome) es) → Differ (map (λ (e : Edge). e.outcome) (filter leads_on es))
-kept-differ [] h = tt
-kept-differ (e ∷ es) h = go (leads_on e) (kept-differ es h.1)
-  where
-    go : (b : Bool) → Differ (map (λ (e : Edge). e.outcome) (filter leads_on es)) → Differ (map (λ (e : Edge). e.outcome) (cond b (e ∷ filter leads_on es) (filter leads_on es)))
-    go true again = ((λ r. h.0 (outcome-kept e.outcome es r)), again)
-    go false again = again
-
-pub differ-onward : (flow : Flow) → EdgesDiffer flow → EdgesDiffer (onward_flow flow)
-differ-onward flow differ q h =
-    let k = onward-from q flow.points h in
-    subst (λ (p : Point). Differ (map (λ (e : Edge). e.outcome) p.edges)) (sym k.2) (kept-differ k.0.edges (differ k.0 k.1))
-
-pub there-onward : (flow : Flow) → ((q : Point) (e : Edge) → IsIn q flow.points → IsIn e q.edges → IsThere (length flow.points) e.target)
-    → (q : Point) (e : Edge) → IsIn q (onward_flow flow).points → IsIn e q.edges → IsThere (length (onward_flow flow).points) e.target
-there-onward flow there q e h member =
-    let k = onward-from q flow.points h in
-    subst (λ n. IsThere n e.target) (sym (length-map onward flow.points)) (there k.0 e k.1 (kept-in e k.0.edges (subst (λ (p : Point). IsIn e p.edges) k.2 member)))

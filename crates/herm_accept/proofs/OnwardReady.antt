@@ -1,4 +1,4 @@
--- The flow of a process without its edges to ends is ready for the check.
+-- The flow of a process without its edges to ends and without repeats is ready for the check.
 use Rattle.std.proofs.Common.{◌≡◌, ℕ, ◌<◌, List, map, length, sym, ap, ◌∙◌, subst}
 use Rattle.herm_model.specs.Lists.{IsIn}
 use Rattle.herm_model.proofs.Lists.{length-map}

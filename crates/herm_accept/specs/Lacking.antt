@@ -9,12 +9,13 @@ use Rattle.herm_typed.specs.View.{typed_process_view}
 use Rattle.herm_check.specs.Shortest.{AreShortest}
 use Rattle.herm_words.specs.declared.sites.Site.{Site}
 use Rattle.herm_words.specs.Sites.{sites_in, site_at}
-use Rattle.herm_words.specs.MissingFactWords.{refusal_words}
-use Rattle.herm_words.specs.ToldWords.{refusal_view, missing_words, told_words}
-use Rattle.herm_words.specs.declared.told.Told.{Told}
+use Rattle.herm_words.specs.MissingFactWords.{head_text, refusal_words}
+use Rattle.herm_words.specs.ToldWords.{refusal_view, missing_words, hops_text, trail_text}
+use Rattle.herm_words.specs.declared.lost.LostFact.{LostFact}
+use Rattle.herm_words.specs.declared.paths.Paths.{Paths}
+use Rattle.herm_types.specs.declared.fact.Fact.{Fact}
 use Rattle.herm_types.specs.View.{fact_view}
-use Rattle.herm_check.specs.Trails.{trail}
-use Rattle.herm_check.specs.declared.search.FactSearch.{FactSearch}
+use Rattle.herm_check.specs.declared.search.Search.{Search}
 use Rattle.herm_accept.specs.declared.accepting.Lack.{Lack}
 use Rattle.herm_accept.specs.declared.accepting.AcceptFault.{AcceptFault}
 use Rattle.herm_accept.specs.declared.accepting.AcceptFault.TheVariants.{Missing, Memory}
@@ -36,17 +37,22 @@ lack_view l = record { process = l.process; start = l.start; words = missing_wor
 abbrev pub lacking : NamedTable → ℕ → TypedProcess → Refusal → Lacking
 lacking types number p r = record { process = number; start = start_in (sites_in p) r.number; words = refusal_words types p r; refusal = r }
 
--- What is told of a search: its fact, its visits, and at each place the words of the refusal with the path to it.
-pub record IsTold (types : NamedTable) (p : TypedProcess) (s : FactSearch) (told : Told) : Type 0 where
-  pub fact : fact_view told.fact ≡ fact_view s.fact
-  pub visits : told.visits.items ≡ s.search.visits.items
-  pub words : (number place : ℕ) → told_words told place ≡ refusal_words types p (record { number = number; fact = fact_view s.fact; path = trail s.search.visits.items place })
+-- What is told of a fact that is missing somewhere: the fact, and the words of its refusals before the hops.
+pub record IsLost (types : NamedTable) (p : TypedProcess) (f : Fact) (lost : LostFact) : Type 0 where
+  pub fact : fact_view lost.fact ≡ fact_view f
+  pub head : lost.head.items ≡ head_text types p (fact_view f)
 
--- so it is of each search, in order
-abbrev pub AreTold : NamedTable → TypedProcess → List FactSearch → List Told → Type 0
-AreTold types p [] [] = ⊤
-AreTold types p (s ∷ ss) (t ∷ ts) = IsTold types p s t × AreTold types p ss ts
-AreTold types p _ _ = ⊥
+-- What is told of a search: its visits, and at each place the texts of the hops that lead to it.
+pub record IsTold (types : NamedTable) (sites : List Site) (s : Search) (paths : Paths) : Type 0 where
+  pub visits : paths.visits.items ≡ s.visits.items
+  pub text : (place : ℕ) → trail_text paths place ≡ hops_text types sites s.visits.items place
+
+-- so it is of each, in order
+abbrev pub EachOf : {X Y : Type 0} → (X → Y → Type 0) → List X → List Y → Type 0
+EachOf R [] [] = ⊤
+EachOf R [] (y ∷ ys) = ⊥
+EachOf R (x ∷ xs) [] = ⊥
+EachOf R (x ∷ xs) (y ∷ ys) = R x y × EachOf R xs ys
 
 -- The processes, which are numbered from this one on, lack these facts, by process, by statement and then in the order of
 -- needs, each with a control path that none is shorter than.

@@ -1,4 +1,4 @@
--- What the check asks of the flow of a process without its edges to ends.
+-- What the check asks of the flow of a process without its edges to ends and without repeats.
 use Rattle.std.specs.Prelude.{◌≡◌, ℕ, ◌<◌, length}
 use Rattle.herm_model.specs.Lists.{IsIn}
 use Rattle.herm_model.specs.Types.{TypeTable}
@@ -11,7 +11,7 @@ use Rattle.herm_flow.specs.declared.flow.Flow.{Flow}
 use Rattle.herm_flow.specs.View.{flow_view}
 use Rattle.herm_flow.specs.Onward.{onward_flow}
 
--- The flow is that of the process without its edges to ends. No outcome comes twice at a point of either, each edge leads to a point
+-- The flow is that of the process without its edges to ends and without repeats. No outcome comes twice at a point of either, each edge leads to a point
 -- that is there, and control reaches each point.
 pub record IsOnward (types : TypeTable) (p : Process) (f : Flow) : Type 0 where
   pub flow : flow_view f ≡ onward_flow (flow_of types p)

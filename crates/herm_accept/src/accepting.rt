@@ -8,21 +8,22 @@ ghost use Rattle.herm_typed.specs.Beside.{KnowTypes};
 ghost use Rattle.herm_meaning.specs.Names.{NamedTable};
 ghost use Rattle.herm_typed.specs.declared.statements.TypedProcess.{TypedProcess as Typed};
 ghost use Rattle.herm_check.specs.Missing.{ArePlaced, refusal_of, refusals_of};
-ghost use Rattle.herm_check.specs.declared.search.FactSearch.{FactSearch as Searched};
+ghost use Rattle.herm_check.specs.declared.search.Search.{Search as SearchOf};
+ghost use Rattle.herm_types.specs.declared.fact.Fact.{Fact as FactOf};
 ghost use Rattle.herm_words.specs.Sites.{sites_in};
 ghost use Rattle.herm_accept.specs.Accepted.{AreAccepted};
 ghost use Rattle.herm_accept.specs.Judged.{IsKnown, IsAdded, IsJudged};
 ghost use Rattle.herm_flow.specs.Ready.{IsReady};
-ghost use Rattle.herm_accept.specs.Lacking.{start_in, lack_view, lacking, AreTold, IsFaultOf};
+ghost use Rattle.herm_accept.specs.Lacking.{start_in, lack_view, lacking, EachOf, IsLost, IsTold, IsFaultOf};
 
 use herm_base::StmtNo;
-use herm_check::{CheckFault, FactSearch, Missing, MissingAt, check};
+use herm_check::{CheckFault, Missing, MissingAt, Search, check};
 use herm_coerce::{Coercions, coerce};
 use herm_flow::{Flow, flow_of};
 use herm_typed::TypedProcess;
-use herm_types::TypeTable;
+use herm_types::{Fact, TypeTable};
 use herm_typestate::Labels;
-use herm_words::{MissingFact, Site, Told, sites_of, told_of};
+use herm_words::{LostFact, MissingFact, Paths, Site, lost_of, paths_of, sites_of};
 use std::alloc::{AllocError, Global};
 use std::rc::Rc;
 
@@ -74,21 +75,36 @@ fn start_of(sites: &[Site], number: StmtNo) -> u32
     }
 }
 
-/// What is told of the facts that a process lacks somewhere, by the numbers of their searches.
-fn tell_all(
+/// What is told of the facts that a process lacks somewhere, by their numbers.
+fn tell_facts(
     alloc: Global,
     types: &TypeTable,
     p: &TypedProcess,
-    sites: &[Site],
-    searches: Vec<FactSearch>,
-) -> Result<Vec<Rc<Told>>, AllocError>
-    requires { sites.now ≡ sites_in p.now }
-    ensures { IfOk result (λ all. AreTold types.now p.now searches.items (map (λ told. told.value) all.items)) }
+    facts: Vec<Fact>,
+) -> Result<Vec<Rc<LostFact>>, AllocError>
+    ensures { IfOk result (λ all. EachOf (IsLost types.now p.now) facts.items (map (λ lost. lost.value) all.items)) }
 {
     let mut all = Vec::new(alloc);
-    'searches: for searched in searches {
-        let told = told_of(alloc, types, p, sites, searched)?;
-        all.push(Rc::new(alloc, told)?)?;
+    'facts: for fact in facts {
+        let lost = lost_of(alloc, types, p, fact)?;
+        all.push(Rc::new(alloc, lost)?)?;
+    }
+    Ok(all)
+}
+
+/// What is told of the searches for these facts, by their numbers.
+fn tell_searches(
+    alloc: Global,
+    types: &TypeTable,
+    sites: &[Site],
+    searches: Vec<Search>,
+) -> Result<Vec<Rc<Paths>>, AllocError>
+    ensures { IfOk result (λ all. EachOf (IsTold types.now sites.now) searches.items (map (λ paths. paths.value) all.items)) }
+{
+    let mut all = Vec::new(alloc);
+    'searches: for search in searches {
+        let paths = paths_of(alloc, types, sites, search)?;
+        all.push(Rc::new(alloc, paths)?)?;
     }
     Ok(all)
 }
@@ -97,20 +113,24 @@ fn tell_all(
 fn lack_of(
     number: usize,
     sites: &[Site],
-    all: &[Rc<Told>],
+    facts: &[Rc<LostFact>],
+    searches: &[Rc<Paths>],
     missing: MissingAt,
 ) -> Result<Lack, AllocError>
-    requires { missing.search < length all.now }
-    ensures { IfOk result (λ l. (types : NamedTable) (p : Typed) (searches : List Searched) → sites.now ≡ sites_in p → AreTold types p searches (map (λ told. told.value) all.now) → lack_view l ≡ lacking types number p (refusal_of searches missing)) }
+    requires fact { missing.fact < length facts.now }
+    requires search { missing.search < length searches.now }
+    ensures { IfOk result (λ l. (types : NamedTable) (p : Typed) (lost : List FactOf) (found : List SearchOf) → sites.now ≡ sites_in p → EachOf (IsLost types p) lost (map (λ lost. lost.value) facts.now) → EachOf (IsTold types sites.now) found (map (λ paths. paths.value) searches.now) → lack_view l ≡ lacking types number p (refusal_of lost found missing)) }
 {
     let start = start_of(sites, missing.stmt);
-    let told = all[missing.search].clone()?;
+    let lost = facts[missing.fact].clone()?;
+    let paths = searches[missing.search].clone()?;
     Ok(Lack {
         process: number,
         start,
         missing: MissingFact {
             stmt: missing.stmt,
-            told,
+            lost,
+            paths,
             place: missing.place,
         },
     })
@@ -129,9 +149,17 @@ pub fn add_lacks(
     ensures { OnOk result (map lack_view lacks.new.items ≡ map lack_view lacks.old.items ++ map (lacking types.now number p.now) (refusals_of all)) }
 {
     let sites = sites_of(alloc, p)?;
-    let told = tell_all(alloc, types, p, sites.as_slice(), all.searches)?;
+    let facts = tell_facts(alloc, types, p, all.lost)?;
+    let searches = tell_searches(alloc, types, sites.as_slice(), all.searches)?;
     'missing: for missing in all.facts {
-        lacks.push(lack_of(number, sites.as_slice(), told.as_slice(), missing)?)?;
+        let lack = lack_of(
+            number,
+            sites.as_slice(),
+            facts.as_slice(),
+            searches.as_slice(),
+            missing,
+        )?;
+        lacks.push(lack)?;
     }
     Ok(())
 }

@@ -3,10 +3,10 @@ use crate::answer::put_bytes;
 use crate::meant::{Meant, acceptance_of, meaning_of};
 use herm_accept::{AcceptFault, Accepted};
 use herm_base::StmtNo;
-use herm_check::{FactSearch, Hop, Link, Search, Visit};
+use herm_check::{FactSet, Hop, Link, Search, Visit};
 use herm_flow::{Edge, Point};
 use herm_types::{Fact, Path};
-use herm_words::{MissingFact, sites_of, told_of};
+use herm_words::{MissingFact, lost_of, paths_of, sites_of};
 use std::alloc::{AllocError, Global};
 use std::rc::Rc;
 
@@ -30,28 +30,32 @@ fn visit_by(last: Option<Link>) -> Visit {
     Visit {
         point: 0,
         held: false,
+        facts: FactSet::none(),
         depth: 0,
         last,
     }
 }
 
-/// A search for the fact that a path has a value, with a visit where the process begins, and one behind a hop.
-fn search_of(alloc: Global, path: &Path, by: Option<Hop>) -> Result<FactSearch, AllocError> {
+/// The fact that a path has a value.
+fn value_of(alloc: Global, path: &Path) -> Result<Fact, AllocError> {
     let parts = Vec::from_slice(alloc, path.parts.as_slice())?;
+    Ok(Fact::Init(Path {
+        var: path.var,
+        parts,
+    }))
+}
+
+/// A search with a visit where the process begins, and one behind a hop.
+fn search_of(alloc: Global, by: Option<Hop>) -> Result<Search, AllocError> {
     let mut visits = Vec::new(alloc);
     visits.push(visit_by(None))?;
     if let Some(hop) = by {
         visits.push(visit_by(Some(Link { from: 0, hop })))?;
     }
-    Ok(FactSearch {
-        fact: Fact::Init(Path {
-            var: path.var,
-            parts,
-        }),
-        search: Search {
-            visits,
-            places: Vec::new(alloc),
-        },
+    Ok(Search {
+        visits,
+        seen: Vec::new(alloc),
+        places: Vec::new(alloc),
     })
 }
 
@@ -60,14 +64,15 @@ fn put_drop(alloc: Global, meant: &Meant, path: &Path, by: Option<Hop>, out: &mu
     let Some(process) = meant.program.processes.first() else {
         return Ok(());
     };
-    let searched = search_of(alloc, path, by)?;
     let sites = sites_of(alloc, process)?;
-    let told = told_of(alloc, &meant.types, process, sites.as_slice(), searched)?;
-    let place = usize::from(by.is_some());
+    let lost = lost_of(alloc, &meant.types, process, value_of(alloc, path)?)?;
+    let search = search_of(alloc, by)?;
+    let paths = paths_of(alloc, &meant.types, sites.as_slice(), search)?;
     let dropped = MissingFact {
         stmt: StmtNo(0),
-        told: Rc::new(alloc, told)?,
-        place,
+        lost: Rc::new(alloc, lost)?,
+        paths: Rc::new(alloc, paths)?,
+        place: usize::from(by.is_some()),
     };
     put_words(out, dropped.words(alloc)?.bytes())
 }

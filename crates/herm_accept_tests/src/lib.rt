@@ -22,6 +22,8 @@ mod programs;
 #[cfg(test)]
 mod rows;
 #[cfg(test)]
+mod searches;
+#[cfg(test)]
 mod tables;
 #[cfg(test)]
 mod targets;

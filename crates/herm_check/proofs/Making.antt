@@ -1,65 +1,39 @@
--- What is known of the edges of points.
-use Rattle.std.proofs.Common.{◌≡◌, ◌⊎◌, inl, inr, ℕ, zero, suc, ◌<◌, List, [], ◌∷◌, ◌++◌, map, take, length, get_or, Bool, true, false, Option, Some, None, slice_get, ◌||◌, refl, sym, ◌∙◌, ap, subst, arith, true≢false}
-use Rattle.herm_model.specs.Lists.{IsIn, any_pass, map_or}
-use Rattle.herm_model.specs.Paths.{Fact, same_fact}
-use Rattle.herm_model.specs.ControlPaths.{Edge, Point, Flow}
+-- What is known of the edges of points, and what they do with the facts of a search.
+use Rattle.std.proofs.Common.{◌≡◌, ◌⊎◌, inl, inr, ℕ, zero, suc, ◌+◌, ◌<◌, ◌≤◌, List, [], ◌∷◌, ◌++◌, map, length, get_or, Bool, true, false, Some, slice_get, nat_eq, nat_lt, ◌&&◌, ◌||◌, refl, sym, ◌∙◌, ap, subst, arith, length-append}
+use Rattle.std.proofs.lemmas.Bool.{eqb-true, eq-eqb, lt-ltb, ltb-true, cases_eq}
+use Rattle.std.proofs.lemmas.Option.{slice_get_within}
+use Rattle.herm_model.specs.Lists.{IsIn, any_pass}
+use Rattle.herm_model.specs.Paths.{Fact, Path, same_fact, path_of, is_at_or_below}
+use Rattle.herm_model.specs.ControlPaths.{Edge}
 use Rattle.herm_typestate.specs.declared.state.State.{State}
 use Rattle.herm_typestate.specs.Facts.{has_fact}
-use Rattle.herm_check.specs.Followed.{IsLike}
-use Rattle.herm_check.specs.Made.{HasMade, AreAlike, IsKnown, AreKnown}
-use Rattle.herm_check.specs.declared.made.KnownEdges.{KnownEdges}
-use Rattle.herm_check.proofs.Searched.{one-at}
+use Rattle.herm_check.specs.declared.fact_set.FactSet.{FactSet}
+use Rattle.herm_check.specs.declared.effects.Effect.{Effect}
+use Rattle.herm_check.specs.FactSets.{has}
+use Rattle.herm_check.specs.Known.{HasMade, IsSameChange, IsEffect}
+use Rattle.herm_check.proofs.FactSets.{one-more}
+use Rattle.herm_check.proofs.Searched.{one-at, some-at}
 use Rattle.herm_check.proofs.Following.{old-or-last}
 
-none-there : (i : ℕ) (k : KnownEdges) → slice_get {X = KnownEdges} [] i ≡ Some k → ⊥
-none-there i k h = let g : None ≡ Some k = h in cc
-
--- of no points nothing is known
-pub nothing-known : (flow : Flow) (known : List KnownEdges) → known ≡ [] → AreKnown flow known
-nothing-known flow known none i k p is at = absurd (none-there i k (subst (λ xs. slice_get xs i ≡ Some k) none is))
-
--- a fact that an edge of a point makes may be made there
-pub made-there : (flow : Flow) (known : List KnownEdges) (i : ℕ) (p : Point) (e : Edge) (f : Fact) (may : Bool) → AreKnown flow known → slice_get flow.points i ≡ Some p → IsIn e p.edges
-    → may ≡ map_or true (λ (k : KnownEdges). has_fact k.made f) (slice_get known i) → any_pass (same_fact f) e.makes ≡ true → may ≡ true
-made-there flow known i p e f may are at member is makes = is ∙ by (slice_get known i) refl
-  where
-    by : (o : Option KnownEdges) → slice_get known i ≡ o → map_or true (λ (k : KnownEdges). has_fact k.made f) o ≡ true
-    by None h = refl
-    by (Some k) h = (are i k p h at).made e f member makes
-
--- an edge that is said to be alike is like one before it
-pub alike-there : (flow : Flow) (known : List KnownEdges) (i : ℕ) (p : Point) (j : ℕ) (e : Edge) (alike : Bool) → AreKnown flow known → slice_get flow.points i ≡ Some p → slice_get p.edges j ≡ Some e
-    → alike ≡ map_or false (λ (k : KnownEdges). map_or false (λ b. b) (slice_get k.alike.items j)) (slice_get known i) → alike ≡ true → IsLike e (take j p.edges)
-alike-there flow known i p j e alike are at here is said = by (slice_get known i) refl (sym is ∙ said)
-  where
-    flagged : (k : KnownEdges) (o : Option Bool) → slice_get k.alike.items j ≡ o → map_or false (λ b. b) o ≡ true → slice_get k.alike.items j ≡ Some true
-    flagged k None h b = absurd (true≢false (sym b))
-    flagged k (Some b) h said = h ∙ ap Some said
-
-    by : (o : Option KnownEdges) → slice_get known i ≡ o → map_or false (λ (k : KnownEdges). map_or false (λ b. b) (slice_get k.alike.items j)) o ≡ true → IsLike e (take j p.edges)
-    by None h b = absurd (true≢false (sym b))
-    by (Some k) h b = (are i k p h at).alike j e (flagged k (slice_get k.alike.items j) refl b) here
-
--- one more edge is said to be alike or not
-pub alike-more : (edges : List Edge) (alike : List Bool) (b : Bool) (d : Edge) → AreAlike edges alike → slice_get edges (length alike) ≡ Some d → (b ≡ true → IsLike d (take (length alike) edges)) → AreAlike edges (alike ++ b ∷ [])
-alike-more edges alike b d are here like i e is at = by (old-or-last alike b i true is)
-  where
-    by : (slice_get alike i ≡ Some true) ⊎ ((i ≡ length alike) × (true ≡ b)) → IsLike e (take i edges)
-    by (inl old) = are i e old at
-    by (inr new) =
-        let same : d ≡ e = one-at (slice_get edges (length alike)) d e here (subst (λ n. slice_get edges n ≡ Some e) new.0 at) in
-        subst (λ n. IsLike e (take n edges)) (sym new.0) (subst (λ x. IsLike x (take (length alike) edges)) same (like (sym new.1)))
-
--- elements as they are seen
+-- an element as it is seen
 pub at-seen : {X Y : Type 0} (view : X → Y) (xs : List X) (i : ℕ) (x : X) → i < length xs → x ≡ get_or xs i x → slice_get (map view xs) i ≡ Some (view x)
 at-seen view [] i x below is = absurd (omega (arith, below))
 at-seen view (y ∷ xs) zero x below is = ap (λ z. Some (view z)) (sym is)
 at-seen view (y ∷ xs) (suc i) x below is = at-seen view xs i x (omega (arith, below)) is
 
-pub take-seen : {X Y : Type 0} (view : X → Y) (xs : List X) (i : ℕ) → map view (take i xs) ≡ take i (map view xs)
-take-seen view xs zero = refl
-take-seen view [] (suc i) = refl
-take-seen view (x ∷ xs) (suc i) = ap (λ ys. view x ∷ ys) (take-seen view xs i)
+-- there are so many elements, and each is as it is to be at what stands at its place
+abbrev pub AreEach : {Q X : Type 0} → (Q → X → Type 0) → List Q → List X → ℕ → Type 0
+AreEach P qs xs n = (length xs ≡ n) × ((i : ℕ) (q : _) (x : _) → slice_get qs i ≡ Some q → slice_get xs i ≡ Some x → P q x)
+
+pub each-more : {Q X : Type 0} (P : Q → X → Type 0) (qs : List Q) (xs ys : List X) (n : ℕ) (q : Q) (x : X) → AreEach P qs xs n → slice_get qs n ≡ Some q → P q x → ys ≡ xs ++ x ∷ [] → AreEach P qs ys (n + 1)
+each-more {Q = Q} {X = X} P qs xs ys n q x so_far here new are =
+    (omega (arith, ap length are, length-append xs (x ∷ []), so_far.0), λ i r y there at. by i r y there (old-or-last xs x i y (subst (λ zs. slice_get zs i ≡ Some y) are at)))
+  where
+    by : (i : ℕ) (r : Q) (y : X) → slice_get qs i ≡ Some r → (slice_get xs i ≡ Some y) ⊎ ((i ≡ length xs) × (y ≡ x)) → P r y
+    by i r y there (inl old) = so_far.1 i r y there old
+    by i r y there (inr last) =
+        let same : q ≡ r = one-at (slice_get qs n) q r here (subst (λ k. slice_get qs k ≡ Some r) (last.0 ∙ so_far.0) there) in
+        subst (P r) (sym last.1) (subst (λ z. P z x) same new)
 
 -- one edge more
 pub made-more : (edges : List Edge) (e : Edge) (s t : State) → HasMade edges s → ((f : Fact) → has_fact t f ≡ (any_pass (same_fact f) e.makes || has_fact s f)) → HasMade (edges ++ e ∷ []) t
@@ -77,12 +51,65 @@ made-more edges e s t have is d f member makes = is f ∙ by edges have member
     by (x ∷ xs) known (inl same) = either (any_pass (same_fact f) e.makes) (has_fact s f) (inr (known d f (inl same) makes))
     by (x ∷ xs) known (inr m) = by xs (λ y g n h. known y g (inr n) h) m
 
--- what is known of one point more
-pub known-more : (flow : Flow) (known : List KnownEdges) (k : KnownEdges) (p : Point) → AreKnown flow known → slice_get flow.points (length known) ≡ Some p → IsKnown p.edges k → AreKnown flow (known ++ k ∷ [])
-known-more flow known k p are here new i l q is at = by (old-or-last known k i l is)
-  where
-    by : (slice_get known i ≡ Some l) ⊎ ((i ≡ length known) × (l ≡ k)) → IsKnown q.edges l
-    by (inl old) = are i l q old at
-    by (inr last) =
-        let same : p ≡ q = one-at (slice_get flow.points (length known)) p q here (subst (λ n. slice_get flow.points n ≡ Some q) last.0 at) in
-        subst (λ x. IsKnown q.edges x) (sym last.1) (subst (λ (x : Point). IsKnown x.edges k) same new)
+-- an edge that makes and takes away what another does has its effect
+pub effect-like : (facts : List Fact) (edges : List Edge) (m n : ℕ) (effect : Effect) → IsSameChange edges m n → m < length edges → ((d : Edge) → slice_get edges m ≡ Some d → IsEffect facts d effect) → (e : Edge) → slice_get edges n ≡ Some e → IsEffect facts e effect
+effect-like facts edges m n effect same within is e at j f there =
+    let d = some-at edges m within in
+    let alike = same d.0 e d.1 at in
+    let here = is d.0 d.1 j f there in
+    (here.0 ∙ ap (any_pass (same_fact f)) alike.0, here.1 ∙ ap (any_pass (λ (p : Path). is_at_or_below p (path_of f))) alike.1)
+
+-- Of the facts of a list those before a place that pass a test, by their numbers.
+abbrev pub ArePicked : (Fact → Bool) → List Fact → ℕ → FactSet → Type 0
+ArePicked test facts n s = (j : ℕ) (f : Fact) → slice_get facts j ≡ Some f → has s j ≡ (nat_lt j n && test f)
+
+module _ (test : Fact → Bool) (facts : List Fact) where
+  pub picked-none : (s : FactSet) → ((j : ℕ) → has s j ≡ false) → ArePicked test facts 0 s
+  picked-none s none j f at = none j ∙ sym (before j)
+    where
+      before : (k : ℕ) → (nat_lt k 0 && test f) ≡ false
+      before k = by (nat_lt k 0) refl
+        where
+          by : (b : Bool) → nat_lt k 0 ≡ b → (b && test f) ≡ false
+          by true e = absurd (omega (arith, ltb-true k 0 e))
+          by false e = refl
+
+  module _ (n : ℕ) (s : FactSet) (g : Fact) (so_far : ArePicked test facts n s) (here : slice_get facts n ≡ Some g) where
+    unequal : (j : ℕ) → (j ≡ n → ⊥) → nat_eq j n ≡ false
+    unequal j other = by (nat_eq j n) refl
+      where
+        by : (b : Bool) → nat_eq j n ≡ b → b ≡ false
+        by true e = absurd (other (eqb-true j n e))
+        by false e = refl
+
+    apart : (j : ℕ) → (j ≡ n → ⊥) → nat_lt j n ≡ nat_lt j (n + 1)
+    apart j other = ap (λ b. b || nat_lt j n) (sym (unequal j other)) ∙ one-more j n
+
+    pub picked-one : (t : FactSet) → ((j : ℕ) → has t j ≡ (nat_eq j n || has s j)) → test g ≡ true → ArePicked test facts (n + 1) t
+    picked-one t more passes j f at = more j ∙ by (cases_eq j n)
+      where
+        by : (j ≡ n) ⊎ (j ≡ n → ⊥) → (nat_eq j n || has s j) ≡ (nat_lt j (n + 1) && test f)
+        by (inl same) =
+            let fact : g ≡ f = one-at (slice_get facts n) g f here (subst (λ k. slice_get facts k ≡ Some f) same at) in
+            let within : j < n + 1 = omega (arith, same) in
+            ap (λ b. b || has s j) (eq-eqb j n same) ∙ sym (ap (λ b. b && test f) (lt-ltb j (n + 1) within) ∙ (ap test (sym fact) ∙ passes))
+        by (inr other) = ap (λ b. b || has s j) (unequal j other) ∙ (so_far j f at ∙ ap (λ b. b && test f) (apart j other))
+
+    pub picked-not : test g ≡ false → ArePicked test facts (n + 1) s
+    picked-not fails j f at = so_far j f at ∙ by (cases_eq j n)
+      where
+        neither : (b : Bool) → (b && false) ≡ false
+        neither true = refl
+        neither false = refl
+
+        by : (j ≡ n) ⊎ (j ≡ n → ⊥) → (nat_lt j n && test f) ≡ (nat_lt j (n + 1) && test f)
+        by (inl same) =
+            let fact : g ≡ f = one-at (slice_get facts n) g f here (subst (λ k. slice_get facts k ≡ Some f) same at) in
+            let none : test f ≡ false = ap test (sym fact) ∙ fails in
+            ap (λ b. nat_lt j n && b) none ∙ (neither (nat_lt j n) ∙ sym (ap (λ b. nat_lt j (n + 1) && b) none ∙ neither (nat_lt j (n + 1))))
+        by (inr other) = ap (λ b. b && test f) (apart j other)
+
+  pub picked-all : (n : ℕ) (s : FactSet) → ArePicked test facts n s → length facts ≤ n → (j : ℕ) (f : Fact) → slice_get facts j ≡ Some f → has s j ≡ test f
+  picked-all n s picked all j f at =
+      let within : j < n = omega (arith, slice_get_within facts j f at, all) in
+      picked j f at ∙ ap (λ b. b && test f) (lt-ltb j n within)

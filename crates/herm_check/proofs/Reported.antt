@@ -1,19 +1,19 @@
 -- What is reported of one list of demands after another.
-use Rattle.std.proofs.Common.{◌≡◌, ℕ, suc, ◌+◌, ◌<◌, ◌≤◌, ◌*◌, List, [], ◌∷◌, ◌++◌, map, flat_map, length, Option, Some, slice_get, false, refl, sym, ◌∙◌, ap, ap₂, arith, append_assoc, append-nil, inl, inr, subst, true≢false}
-use Rattle.std.proofs.lemmas.Option.{slice_get_within}
+use Rattle.std.proofs.Common.{◌≡◌, ℕ, suc, ◌+◌, ◌<◌, ◌≤◌, ◌*◌, List, [], ◌∷◌, ◌++◌, map, flat_map, length, Option, Some, None, option_map, slice_get, false, refl, sym, ◌∙◌, ap, ap₂, arith, append_assoc, append-nil, inl, inr, subst, true≢false}
+use Rattle.std.proofs.lemmas.Option.{slice_get_within, slice_get-map}
 use Rattle.herm_model.specs.Lists.{IsIn, numbered, map_or, list_of}
-use Rattle.herm_model.specs.Paths.{init}
+use Rattle.herm_model.specs.Paths.{Fact, init}
 use Rattle.herm_model.specs.ControlPaths.{Point, Flow, Hop, Holds}
 use Rattle.herm_model.specs.MissingFacts as model
 use Rattle.herm_model.specs.MissingFacts.{Demand, demands_at, demands, Refusal, AreRefusals}
-use Rattle.herm_model.proofs.Lists.{each-joined}
+use Rattle.herm_model.proofs.Lists.{each-joined, length-map}
 use Rattle.herm_types.specs.View.{fact_view}
-use Rattle.herm_check.specs.declared.search.FactSearch.{FactSearch}
+use Rattle.herm_types.specs.declared.fact.Fact.{Fact as FactHere}
+use Rattle.herm_check.specs.declared.search.Search.{Search}
 use Rattle.herm_check.specs.declared.missing.MissingAt.{MissingAt}
 use Rattle.herm_check.specs.declared.missing.Missing.{Missing}
 use Rattle.herm_check.specs.Trails.{trail}
-use Rattle.herm_check.specs.Missing.{refusal_of, refusals_of, AreKept, AreMissing}
-use Rattle.herm_check.proofs.Searched.{some-at}
+use Rattle.herm_check.specs.Missing.{refusal_of, refusals_of, IsNumberOf, AreMissing}
 use Rattle.herm_check.specs.Shortest.{IsShortest, AreReported, none, missing, holds, AreNoLonger, AreShortest}
 
 pub reported-append : (flow : Flow) (ds es : List Demand) (rs ss : List Refusal) → AreReported flow ds rs → AreReported flow es ss → AreReported flow (ds ++ es) (rs ++ ss)
@@ -66,40 +66,42 @@ all-few flow _ _ (holds d ds rs held g) r member = all-few flow ds rs g r member
 pub all-shortest : (flow : Flow) (rs : List Refusal) → AreReported flow (demands flow) rs → AreShortest flow rs
 all-shortest flow rs h = record { refusals = are-refusals flow (demands flow) rs h; least = λ others k. no-longer flow (demands flow) rs others h k; few = all-few flow (demands flow) rs h }
 
--- the refusal of a missing fact whose search is there
-pub refusal-at : (ss : List FactSearch) (m : MissingAt) (s : FactSearch) → slice_get ss m.search ≡ Some s → refusal_of ss m ≡ record { number = m.stmt.0; fact = fact_view s.fact; path = trail s.search.visits.items m.place }
-refusal-at ss m s is = ap (λ (o : Option FactSearch). record { number = m.stmt.0; fact = map_or (init []) (λ (x : FactSearch). fact_view x.fact) o; path = list_of (λ (x : FactSearch). trail x.search.visits.items m.place) o }) is
-
--- where searches stay where they are, the refusals that were reported stay as they are
-refusals-kept : (old new : List FactSearch) → AreKept old new → (ms : List MissingAt) → ((m : MissingAt) → IsIn m ms → m.search < length old) → map (refusal_of new) ms ≡ map (refusal_of old) ms
-refusals-kept old new kept [] placed = refl
-refusals-kept old new kept (m ∷ ms) placed =
-    let s = some-at old m.search (placed m (inl refl)) in
-    ap₂ (λ r rs. r ∷ rs) (refusal-at new m s.0 (kept m.search s.0 s.1) ∙ sym (refusal-at old m s.0 s.1)) (refusals-kept old new kept ms (λ x h. placed x (inr h)))
+-- the refusal of a missing fact whose fact and search are there
+pub refusal-at : (lost : List FactHere) (ss : List Search) (m : MissingAt) (f : Fact) (s : Search) → IsNumberOf lost f m.fact → slice_get ss m.search ≡ Some s → refusal_of lost ss m ≡ record { number = m.stmt.0; fact = f; path = trail s.visits.items m.place }
+refusal-at lost ss m f s fact search =
+    ap₂ (λ (g : Fact) (hops : List Hop). record { number = m.stmt.0; fact = g; path = hops })
+    (sym (mapped (slice_get lost m.fact)) ∙ ap (λ (o : Option Fact). map_or (init []) (λ x. x) o) (sym (slice_get-map fact_view lost m.fact) ∙ fact))
+    (ap (λ (o : Option Search). list_of (λ (x : Search). trail x.visits.items m.place) o) search)
+  where
+    mapped : (o : Option FactHere) → map_or (init []) (λ x. x) (option_map fact_view o) ≡ map_or (init []) fact_view o
+    mapped None = refl
+    mapped (Some x) = refl
 
 module _ (flow : Flow) (d : Demand) (ds : List Demand) (old : Missing) (h : AreMissing flow ds old) where
   pub missing-held : Holds flow d.fact d.at → AreMissing flow (ds ++ d ∷ []) old
   missing-held held = record { placed = h.placed; reported = reported-held flow d held ds (refusals_of old) h.reported }
 
-  -- one more is missing: its search is there, for the fact that is needed, and leads there by a shortest path
-  pub missing-more : (new : Missing) (m : MissingAt) (s : FactSearch) → AreKept old.searches.items new.searches.items → new.facts.items ≡ old.facts.items ++ m ∷ [] → slice_get new.searches.items m.search ≡ Some s → m.stmt.0 ≡ d.number → fact_view s.fact ≡ d.fact
-      → IsShortest flow d.fact d.at (trail s.search.visits.items m.place) → AreMissing flow (ds ++ d ∷ []) new
-  missing-more new m s kept facts is number fact short = record {
-    placed = λ f member. each-joined (λ x. x.search < length new.searches.items) old.facts.items (m ∷ []) still (λ x one. last x one) f (subst (IsIn f) facts member);
-    reported = subst (AreReported flow (ds ++ d ∷ [])) (sym (ap (map (refusal_of new.searches.items)) facts ∙ (map-last (refusal_of new.searches.items) old.facts.items m ∙ ap₂ (λ rs r. rs ++ r ∷ []) (refusals-kept old.searches.items new.searches.items kept old.facts.items h.placed) told)))
-        (reported-missing flow d (trail s.search.visits.items m.place) short ds (refusals_of old) h.reported);
+  -- one more is missing: its fact and its search are there, and a shortest path leads to its place
+  pub missing-more : (new : Missing) (m : MissingAt) (s : Search) → new.lost.items ≡ old.lost.items → new.searches.items ≡ old.searches.items → new.facts.items ≡ old.facts.items ++ m ∷ [] → IsNumberOf old.lost.items d.fact m.fact → slice_get old.searches.items m.search ≡ Some s → m.stmt.0 ≡ d.number
+      → IsShortest flow d.fact d.at (trail s.visits.items m.place) → AreMissing flow (ds ++ d ∷ []) new
+  missing-more new m s lost searches facts fact is number short = record {
+    placed = λ f member. subst (λ (xs : List FactHere). (f.fact < length xs) × (f.search < length new.searches.items)) (sym lost)
+        (subst (λ (ss : List Search). (f.fact < length old.lost.items) × (f.search < length ss)) (sym searches)
+        (each-joined (λ x. (x.fact < length old.lost.items) × (x.search < length old.searches.items)) old.facts.items (m ∷ []) h.placed (λ x one. last x one) f (subst (IsIn f) facts member)));
+    reported = subst (AreReported flow (ds ++ d ∷ [])) (sym (ap₂ (λ (xs : List FactHere) (ss : List Search). map (refusal_of xs ss) new.facts.items) lost searches ∙ (ap (map (refusal_of old.lost.items old.searches.items)) facts ∙ (map-last (refusal_of old.lost.items old.searches.items) old.facts.items m ∙ ap (λ r. refusals_of old ++ r ∷ []) told))))
+        (reported-missing flow d (trail s.visits.items m.place) short ds (refusals_of old) h.reported);
   }
     where
-      told : refusal_of new.searches.items m ≡ record { number = d.number; fact = d.fact; path = trail s.search.visits.items m.place }
-      told = refusal-at new.searches.items m s is ∙ ap₂ (λ n g. record { number = n; fact = g; path = trail s.search.visits.items m.place }) number fact
+      told : refusal_of old.lost.items old.searches.items m ≡ record { number = d.number; fact = d.fact; path = trail s.visits.items m.place }
+      told = refusal-at old.lost.items old.searches.items m d.fact s fact is ∙ ap (λ n. record { number = n; fact = d.fact; path = trail s.visits.items m.place }) number
 
-      still : (x : MissingAt) → IsIn x old.facts.items → x.search < length new.searches.items
-      still x member = let o = some-at old.searches.items x.search (h.placed x member) in slice_get_within new.searches.items x.search o.0 (kept x.search o.0 o.1)
-
-      last : (x : MissingAt) → IsIn x (m ∷ []) → x.search < length new.searches.items
-      last x (inl e) = subst (λ y. y.search < length new.searches.items) (sym e) (slice_get_within new.searches.items m.search s is)
+      last : (x : MissingAt) → IsIn x (m ∷ []) → (x.fact < length old.lost.items) × (x.search < length old.searches.items)
+      last x (inl e) = subst (λ y. (y.fact < length old.lost.items) × (y.search < length old.searches.items)) (sym e) (
+        let many = length-map fact_view old.lost.items in let within = slice_get_within (map fact_view old.lost.items) m.fact d.fact fact in omega (arith, many, within),
+        slice_get_within old.searches.items m.search s is,
+      )
       last x (inr never) = absurd never
 
 -- no statement was asked of yet
 pub none-missing : (flow : Flow) (m : Missing) → m.facts.items ≡ [] → AreMissing flow [] m
-none-missing flow m empty = record { placed = λ f member. absurd (subst (IsIn f) empty member); reported = subst (λ fs. AreReported flow [] (map (refusal_of m.searches.items) fs)) (sym empty) none }
+none-missing flow m empty = record { placed = λ f member. absurd (subst (IsIn f) empty member); reported = subst (λ fs. AreReported flow [] (map (refusal_of m.lost.items m.searches.items) fs)) (sym empty) none }

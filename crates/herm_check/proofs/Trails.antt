@@ -3,18 +3,18 @@ use Rattle.std.proofs.Common.{◌≡◌, ℕ, suc, zero, ◌<◌, List, [], ◌�
 use Rattle.std.proofs.lemmas.Bool.{lt-ltb, ltb-true}
 use Rattle.std.proofs.lemmas.Option.{slice_get_within}
 use Rattle.herm_model.specs.Lists.{list_of}
+use Rattle.herm_model.specs.Paths.{Fact}
 use Rattle.herm_model.specs.Targets.{node}
 use Rattle.herm_model.specs.ControlPaths.{Flow, Hop}
 use Rattle.herm_model.specs.laws.FlowLaws.{EdgesDiffer}
-use Rattle.herm_types.specs.View.{fact_view}
 use Rattle.herm_check.specs.View.{hop_view}
 use Rattle.herm_check.specs.declared.search.Link.{Link}
 use Rattle.herm_check.specs.declared.search.Visit.{Visit}
 use Rattle.herm_check.specs.Trails.{trail_by, trail}
-use Rattle.herm_check.specs.declared.search.FactSearch.{FactSearch}
+use Rattle.herm_check.specs.declared.search.Search.{Search}
 use Rattle.herm_check.specs.Searched.{IsNearest, IsSearched}
 use Rattle.herm_check.specs.Shortest.{IsShortest}
-use Rattle.herm_check.proofs.Searched.{LeadBack, IsTrail, first, more, some-at, leads-back, nearest-shortest}
+use Rattle.herm_check.proofs.Searched.{LeadBack, IsTrail, first, more, some-at, nearest-shortest}
 
 -- the hops by a link, those before it first
 abbrev pub by_link : ℕ → List Visit → ℕ → Link → List Hop
@@ -75,9 +75,7 @@ fewer-left k m o = by (nat_lt m k) refl o
     by false e o = omega arith
 
 -- the trail to the nearest visit of a point with the fact not held is a shortest path
-pub nearest-trail : (flow : Flow) → EdgesDiffer flow → flow.entry ≡ node 0 → (s : FactSearch) → IsSearched flow s → (i k : ℕ) → IsNearest flow (fact_view s.fact) i s.search.visits.items k → IsShortest flow (fact_view s.fact) i (trail s.search.visits.items k)
-nearest-trail flow differ entry s searched i k near =
-    let f = fact_view s.fact in
-    let vs = s.search.visits.items in
-    let places = s.search.places.items in
-    nearest-shortest flow f vs places searched.search differ entry i k (trail vs k) near (trail-is vs (leads-back flow f vs places searched.search) (suc k) k (omega arith) (slice_get_within vs k near.visit near.is))
+pub nearest-trail : (flow : Flow) → EdgesDiffer flow → flow.entry ≡ node 0 → (f : Fact) (j : ℕ) (s : Search) → IsSearched flow f j s → (i k : ℕ) → IsNearest flow f j i s.visits.items k → IsShortest flow f i (trail s.visits.items k)
+nearest-trail flow differ entry f j s searched i k near =
+    let vs = s.visits.items in
+    nearest-shortest flow f j vs s.seen.items searched.search differ entry i k (trail vs k) near (trail-is vs searched.visits.back (suc k) k (omega arith) (slice_get_within vs k near.visit near.is))

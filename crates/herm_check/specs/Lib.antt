@@ -4,7 +4,8 @@ pub mod Weights
 pub mod Labelled
 pub mod Followed
 pub mod Shortest
-pub mod Made
+pub mod FactSets
+pub mod Known
 pub mod Searched
 pub mod Trails
 pub mod Missing

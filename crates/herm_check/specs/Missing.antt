@@ -1,42 +1,52 @@
 -- What missing facts stand for.
-use Rattle.std.specs.Prelude.{◌≡◌, ℕ, ◌<◌, List, [], map, length, Some, slice_get}
+use Rattle.std.specs.Prelude.{◌≡◌, ℕ, ◌<◌, List, [], false, map, length, Some, slice_get}
 use Rattle.herm_model.specs.Lists.{IsIn, map_or, list_of}
 use Rattle.herm_model.specs.Paths.{Fact, init}
-use Rattle.herm_model.specs.ControlPaths.{Flow}
+use Rattle.herm_model.specs.ControlPaths.{Point, Flow}
 use Rattle.herm_model.specs.MissingFacts.{Demand, Refusal}
+use Rattle.herm_types.specs.declared.fact.Fact.{Fact as FactHere}
 use Rattle.herm_types.specs.View.{fact_view}
+use Rattle.herm_typestate.specs.declared.labels.Labels.{Labels}
+use Rattle.herm_typestate.specs.declared.state.State.{State}
+use Rattle.herm_typestate.specs.Facts.{has_fact}
 use Rattle.herm_check.specs.Trails.{trail}
 use Rattle.herm_check.specs.Shortest.{AreReported}
-use Rattle.herm_check.specs.declared.search.FactSearch.{FactSearch}
+use Rattle.herm_check.specs.declared.search.Search.{Search}
 use Rattle.herm_check.specs.declared.missing.MissingAt.{MissingAt}
 use Rattle.herm_check.specs.declared.missing.Missing.{Missing}
 
--- A missing fact: the number of its statement, the fact that its search is for, and the hops that lead to its place there.
-abbrev pub refusal_of : List FactSearch → MissingAt → Refusal
-refusal_of ss m = record {
+-- A missing fact: the number of its statement, the fact with its number among those that are missing somewhere, and the hops that lead to its place in its search.
+abbrev pub refusal_of : List FactHere → List Search → MissingAt → Refusal
+refusal_of lost ss m = record {
   number = m.stmt.0;
-  fact = map_or (init []) (λ (s : FactSearch). fact_view s.fact) (slice_get ss m.search);
-  path = list_of (λ (s : FactSearch). trail s.search.visits.items m.place) (slice_get ss m.search);
+  fact = map_or (init []) fact_view (slice_get lost m.fact);
+  path = list_of (λ (s : Search). trail s.visits.items m.place) (slice_get ss m.search);
 }
 
 abbrev pub refusals_of : Missing → List Refusal
-refusals_of m = map (refusal_of m.searches.items) m.facts.items
+refusals_of m = map (refusal_of m.lost.items m.searches.items) m.facts.items
 
--- the search of each missing fact is there
+-- the fact and the search of each missing fact are there
 abbrev pub ArePlaced : Missing → Type 0
-ArePlaced m = (f : MissingAt) → IsIn f m.facts.items → f.search < length m.searches.items
+ArePlaced m = (f : MissingAt) → IsIn f m.facts.items → (f.fact < length m.lost.items) × (f.search < length m.searches.items)
 
--- the search with a number is for the fact
-pub record IsNumberOf (ss : List FactSearch) (f : Fact) (n : ℕ) : Type 0 where
-  pub searched : FactSearch
-  pub is : slice_get ss n ≡ Some searched
-  pub fact : fact_view searched.fact ≡ f
+-- the fact has this number
+abbrev pub IsNumberOf : List FactHere → Fact → ℕ → Type 0
+IsNumberOf facts f n = slice_get (map fact_view facts) n ≡ Some f
 
--- searches stay where they are
-abbrev pub AreKept : List FactSearch → List FactSearch → Type 0
-AreKept old new = (n : ℕ) (s : FactSearch) → slice_get old n ≡ Some s → slice_get new n ≡ Some s
+-- the fact has a number
+abbrev pub IsNoted : List FactHere → Fact → Type 0
+IsNoted facts f = (n : ℕ) × IsNumberOf facts f n
 
--- What is missing of a list of demands: each has its search, and a shortest path.
+-- facts keep their numbers
+abbrev pub AreKept : List FactHere → List FactHere → Type 0
+AreKept old new = (f : Fact) (n : ℕ) → IsNumberOf old f n → IsNumberOf new f n
+
+-- each fact that a point needs and its label lacks has a number
+abbrev pub AreNoted : Flow → Labels → List FactHere → Type 0
+AreNoted flow labels facts = (i : ℕ) (p : Point) (s : State) (f : Fact) → slice_get flow.points i ≡ Some p → slice_get labels.at.items i ≡ Some s → IsIn f p.needs → has_fact s f ≡ false → IsNoted facts f
+
+-- What is missing of a list of demands: each has its fact and its search, and a shortest path.
 pub record AreMissing (flow : Flow) (ds : List Demand) (m : Missing) : Type 0 where
   pub placed : ArePlaced m
   pub reported : AreReported flow ds (refusals_of m)

@@ -1,17 +1,17 @@
 //! Edges of a point that lead to one place and make and take away the same.
-ghost use Rattle.std.specs.Prelude.{◌≡◌, IsTrue, map};
+ghost use Rattle.std.specs.Prelude.{◌≡◌, ◌<◌, IsTrue, IfSome, map, length};
 ghost use Rattle.herm_types.specs.View.{path_view, fact_view};
 ghost use Rattle.herm_flow.specs.View.{target_view, edge_view};
 ghost use Rattle.herm_check.specs.Followed.{IsLike};
+ghost use Rattle.herm_check.specs.Known.{IsSameChange};
 
 use crate::held::is_same_path;
 use herm_flow::{Edge, Target};
 use herm_types::{Fact, Path};
 use herm_typestate::same_fact;
-use std::rc::Rc;
 
 /// How many of the edges before it an edge is compared with.
-const NEAR: usize = 64;
+const NEAR: usize = 1_024;
 
 fn are_same_facts(a: &[Fact], b: &[Fact]) -> bool
     ensures { IsTrue result → map fact_view a.now ≡ map fact_view b.now }
@@ -41,14 +41,11 @@ fn are_same_paths(a: &[Path], b: &[Path]) -> bool
     true
 }
 
-/// Whether two edges share what they make and take away. Where they do not it may be the same too, but is not compared.
-fn is_shared(a: &Edge, b: &Edge) -> bool
+/// Whether two edges make and take away the same.
+fn is_same_change(a: &Edge, b: &Edge) -> bool
     ensures makes { IsTrue result → (edge_view a.now).makes ≡ (edge_view b.now).makes }
     ensures kills { IsTrue result → (edge_view a.now).kills ≡ (edge_view b.now).kills }
 {
-    if !Rc::ptr_eq(&a.change, &b.change) {
-        return false;
-    }
     are_same_facts(a.makes(), b.makes()) && are_same_paths(a.kills(), b.kills())
 }
 
@@ -63,16 +60,30 @@ fn is_same_target(a: Target, b: Target) -> bool
     }
 }
 
-/// Whether an edge is found to lead where one of these leads, and to make and take away the same.
+/// Whether an edge is found to lead where one of the last of these leads, and to make and take away the same.
 pub fn is_like_one(edge: &Edge, others: &[Edge]) -> bool
     ensures { IsTrue result → IsLike (edge_view edge.now) (map edge_view others.now) }
 {
     let first = others.len().saturating_sub(NEAR);
     for i in first..others.len() {
         let other = &others[i];
-        if is_same_target(other.to, edge.to) && is_shared(other, edge) {
+        if is_same_target(other.to, edge.to) && is_same_change(other, edge) {
             return true;
         }
     }
     false
+}
+
+/// The number of one of the last edges before the one with this number that is found to make and take away the same.
+pub fn same_before(edges: &[Edge], number: usize) -> Option<usize>
+    requires { number < length edges.now }
+    ensures { IfSome result (λ other. (other < number) × IsSameChange (map edge_view edges.now) other number) }
+{
+    let first = number.saturating_sub(NEAR);
+    for other in first..number {
+        if is_same_change(&edges[other], &edges[number]) {
+            return Some(other);
+        }
+    }
+    None
 }

@@ -1,5 +1,5 @@
 //! Whether one fact is held behind an edge.
-ghost use Rattle.std.specs.Prelude.{◌≡◌, true, map};
+ghost use Rattle.std.specs.Prelude.{◌≡◌, map};
 ghost use Rattle.herm_model.specs.Lists.{any_pass};
 ghost use Rattle.herm_model.specs.Paths as model;
 ghost use Rattle.herm_model.specs.ControlPaths.{held_after_edge};
@@ -33,7 +33,7 @@ fn is_at_or_below(top: &Path, path: &Path) -> bool
     top.var == path.var && begins(top.parts.as_slice(), path.parts.as_slice())
 }
 
-fn path_of(fact: &Fact) -> &Path
+pub fn path_of(fact: &Fact) -> &Path
     ensures { path_view result.now ≡ model.path_of (fact_view fact.now) }
 {
     match fact {
@@ -42,7 +42,7 @@ fn path_of(fact: &Fact) -> &Path
     }
 }
 
-fn is_made(makes: &[Fact], fact: &Fact) -> bool
+pub fn is_made(makes: &[Fact], fact: &Fact) -> bool
     ensures { result ≡ any_pass (model.same_fact (fact_view fact.now)) (map fact_view makes.now) }
 {
     for made in makes {
@@ -53,7 +53,7 @@ fn is_made(makes: &[Fact], fact: &Fact) -> bool
     false
 }
 
-fn is_killed(kills: &[Path], path: &Path) -> bool
+pub fn is_killed(kills: &[Path], path: &Path) -> bool
     ensures { result ≡ any_pass (λ p. model.is_at_or_below p (path_view path.now)) (map path_view kills.now) }
 {
     for killed in kills {
@@ -93,35 +93,6 @@ pub fn is_value_held_behind(edge: &Edge, path: &Path, held: bool) -> bool
         return true;
     }
     let killed = is_killed(edge.kills(), path);
-    if killed {
-        return false;
-    }
-    held
-}
-
-/// Whether the fact is held behind the edge, where it is held before it or not.
-pub fn is_held_behind(edge: &Edge, fact: &Fact, held: bool) -> bool
-    ensures { result ≡ held_after_edge (edge_view edge.now) (fact_view fact.now) held }
-{
-    if is_made(edge.makes(), fact) {
-        return true;
-    }
-    let killed = is_killed(edge.kills(), path_of(fact));
-    if killed {
-        return false;
-    }
-    held
-}
-
-/// The same, where an edge that may not make the fact does not make it.
-pub fn is_held_beyond(edge: &Edge, fact: &Fact, may_make: bool, held: bool) -> bool
-    requires { any_pass (model.same_fact (fact_view fact.now)) (edge_view edge.now).makes ≡ true → may_make ≡ true }
-    ensures { result ≡ held_after_edge (edge_view edge.now) (fact_view fact.now) held }
-{
-    if may_make {
-        return is_held_behind(edge, fact, held);
-    }
-    let killed = is_killed(edge.kills(), path_of(fact));
     if killed {
         return false;
     }

@@ -1,5 +1,6 @@
 //! Which needed facts a label lacks, each with a shortest control path.
-ghost use Rattle.std.specs.Prelude.{◌≡◌, ◌↔◌, ◌++◌, [], ◌∷◌, ◌<◌, ◌≤◌, ℕ, List, true, length, IfOk, OnOk, IfSome};
+ghost use Rattle.std.specs.Prelude.{◌≡◌, ◌↔◌, ◌+◌, ◌++◌, [], ◌∷◌, ◌<◌, ◌≤◌, ℕ, List, Some, true, false, map, length, slice_get, IfOk, OnOk, IfSome, IfNone};
+ghost use Rattle.herm_model.specs.Lists.{IsIn};
 ghost use Rattle.herm_model.specs.Paths.{Fact as FactOf};
 ghost use Rattle.herm_model.specs.Targets.{node};
 ghost use Rattle.herm_model.specs.ControlPaths.{Holds, IsReached};
@@ -11,31 +12,36 @@ ghost use Rattle.herm_typestate.specs.Facts.{has_fact};
 ghost use Rattle.herm_flow.specs.View.{point_view, flow_view};
 ghost use Rattle.herm_check.specs.View.{labels_view};
 ghost use Rattle.herm_check.specs.Labelled.{LeadThere};
-ghost use Rattle.herm_check.specs.Made.{AreKnown};
 ghost use Rattle.herm_check.specs.Searched.{AreSearched};
-ghost use Rattle.herm_check.specs.Missing.{demand, IsNumberOf, AreKept, AreMissing};
+ghost use Rattle.herm_check.specs.Missing.{demand, IsNumberOf, IsNoted, AreNoted, AreKept, AreMissing};
 
-use crate::made::{KnownEdges, known_in};
-use crate::search::{FactSearch, lost_place, search_for};
+use crate::known::known_in;
+use crate::numbers::Asked;
+use crate::search::{Search, lost_place, search_for};
 use herm_base::StmtNo;
 use herm_flow::{Flow, Point};
 use herm_types::{Fact, Path};
-use herm_typestate::{Labels, State, same_fact};
+use herm_typestate::{Labels, State};
 use std::alloc::{AllocError, Global};
 
-/// A fact that a statement needs and that is not held on some path to it: the statement, the number of the search for the fact, and the place in it
-/// to which a shortest such path leads.
+/// How many facts share a search.
+const SHARED: usize = 64;
+
+/// A fact that a statement needs and that is not held on some path to it: the statement; the number of the fact among those that are missing somewhere, and that of
+/// the search for it; and the place in the search to which a shortest such path leads.
 #[derive(Clone, Copy)]
 pub struct MissingAt {
     pub stmt: StmtNo,
+    pub fact: usize,
     pub search: usize,
     pub place: usize,
 }
 
-/// The facts that are missing, by statement and then in the order of needs; and for each fact that is missing somewhere the one search for it.
+/// The facts that are missing, by statement and then in the order of needs; the different ones among them; and the searches for these, several of which share one.
 #[derive(Drop)]
 pub struct Missing {
-    pub searches: Vec<FactSearch>,
+    pub lost: Vec<Fact>,
+    pub searches: Vec<Search>,
     pub facts: Vec<MissingAt>,
 }
 
@@ -64,132 +70,171 @@ fn copy_fact(alloc: Global, fact: &Fact) -> Result<Fact, AllocError>
     }
 }
 
-/// The number of a search for the fact among those from one number up to another.
-fn number_between(searches: &[FactSearch], start: usize, end: usize, fact: &Fact) -> Option<usize>
-    requires { end ≤ length searches.now }
-    ensures { IfSome result (IsNumberOf searches.now (fact_view fact.now)) }
+/// Adds the fact where it is not there.
+fn note(
+    alloc: Global,
+    fact: &Fact,
+    asked: &mut Asked,
+    lost: &mut Vec<Fact>,
+) -> Result<(), AllocError>
+    ensures noted { OnOk result (IsNoted lost.new.items (fact_view fact.now)) }
+    ensures kept { OnOk result (AreKept lost.old.items lost.new.items) }
 {
-    for number in start..end {
-        if same_fact(fact, &searches[number].fact) {
-            return Some(number);
-        }
+    if let Some(number) = asked.number_of(lost.as_slice(), fact) {
+        asked.ask(number);
+        return Ok(());
     }
-    None
+    let number = lost.len();
+    lost.push(copy_fact(alloc, fact)?)?;
+    asked.add()?;
+    asked.ask(number);
+    Ok(())
 }
 
-/// The number of the search for the fact, where there was one. It is looked for behind this number first: statements need facts
-/// in the same order mostly.
-fn number_near(searches: &[FactSearch], near: usize, fact: &Fact) -> Option<usize>
-    ensures { IfSome result (IsNumberOf searches.now (fact_view fact.now)) }
+/// Adds the fact where a label lacks it and it is not there.
+fn note_lacking(
+    alloc: Global,
+    fact: &Fact,
+    state: &State,
+    asked: &mut Asked,
+    lost: &mut Vec<Fact>,
+) -> Result<(), AllocError>
+    ensures noted { OnOk result (has_fact state.now (fact_view fact.now) ≡ false → IsNoted lost.new.items (fact_view fact.now)) }
+    ensures kept { OnOk result (AreKept lost.old.items lost.new.items) }
 {
-    let count = searches.len();
-    let near = near.min(count);
-    match number_between(searches, near, count, fact) {
-        Some(number) => Some(number),
-        None => number_between(searches, 0, near, fact),
+    if state.holds(fact) {
+        return Ok(());
     }
+    note(alloc, fact, asked, lost)?;
+    Ok(())
 }
 
-/// The number of the last search that was of use.
-fn last_number(facts: &[MissingAt]) -> usize {
-    match facts.last() {
-        Some(last) => last.search,
-        None => 0,
+/// Adds the facts that a label lacks of the needs of its point.
+fn note_point(
+    alloc: Global,
+    point: &Point,
+    state: &State,
+    asked: &mut Asked,
+    lost: &mut Vec<Fact>,
+) -> Result<(), AllocError>
+    ensures noted { OnOk result ((f : FactOf) → IsIn f (point_view point.now).needs → has_fact state.now f ≡ false → IsNoted lost.new.items f) }
+    ensures kept { OnOk result (AreKept lost.old.items lost.new.items) }
+{
+    for fact in &point.needs {
+        note_lacking(alloc, fact, state, asked, lost)?;
     }
+    Ok(())
 }
 
-/// The number of the search for the fact, which is made where there was none. What there is to know of edges is found where the first one is made.
-fn number_of(
+/// The different facts that labels lack of the needs of their points.
+fn lost_in(
     alloc: Global,
     flow: &Flow,
-    fact: &Fact,
-    known: &mut Vec<KnownEdges>,
-    out: &mut Missing,
-) -> Result<usize, AllocError>
-    requires there { LeadThere (flow_view flow.now) }
-    requires known { AreKnown (flow_view flow.now) known.old.items }
-    requires some { 0 < length flow.now.points.items }
-    requires searched { AreSearched (flow_view flow.now) out.old.searches.items }
-    ensures known { OnOk result (AreKnown (flow_view flow.now) known.new.items) }
-    ensures number { IfOk result (IsNumberOf out.new.searches.items (fact_view fact.now)) }
-    ensures searched { OnOk result (AreSearched (flow_view flow.now) out.new.searches.items) }
-    ensures kept { OnOk result (AreKept out.old.searches.items out.new.searches.items) }
-    ensures facts { OnOk result (out.new.facts.items ≡ out.old.facts.items) }
+    labels: &Labels,
+    asked: &mut Asked,
+) -> Result<Vec<Fact>, AllocError>
+    requires { length labels.now.at.items ≡ length flow.now.points.items }
+    ensures noted { IfOk result (λ lost. AreNoted (flow_view flow.now) labels.now lost.items) }
+    ensures some { IfOk result (λ lost. 0 < length lost.items → 0 < length flow.now.points.items) }
 {
-    let near = last_number(out.facts.as_slice());
-    if let Some(number) = number_near(out.searches.as_slice(), near, fact) {
-        return Ok(number);
+    let mut lost = Vec::new(alloc);
+    for (i, point) in flow.points.as_slice().iter().enumerate() {
+        note_point(alloc, point, &labels.at[i], asked, &mut lost)?;
     }
-    if known.is_empty() {
-        *known = known_in(alloc, flow)?;
+    Ok(lost)
+}
+
+/// The facts from a number on that share a search.
+fn shared_from(lost: &[Fact], first: usize) -> &[Fact]
+    requires { first < length lost.now }
+    ensures few { length result.now ≤ 64 }
+    ensures facts { (j : ℕ) (f : FactOf) → j < 64 → slice_get (map fact_view lost.now) (first + j) ≡ Some f → slice_get (map fact_view result.now) j ≡ Some f }
+{
+    let count = SHARED.min(lost.len() - first);
+    &lost[first..first + count]
+}
+
+/// The searches for these facts.
+fn searches_for(alloc: Global, flow: &Flow, lost: &[Fact]) -> Result<Vec<Search>, AllocError>
+    requires there { LeadThere (flow_view flow.now) }
+    requires some { 0 < length lost.now → 0 < length flow.now.points.items }
+    ensures { IfOk result (λ searches. AreSearched (flow_view flow.now) (map fact_view lost.now) searches.items) }
+{
+    let mut searches = Vec::new(alloc);
+    if lost.is_empty() {
+        return Ok(searches);
     }
-    let number = out.searches.len();
-    let fact = copy_fact(alloc, fact)?;
-    out.searches
-        .push(search_for(alloc, flow, known.as_slice(), fact)?)?;
-    Ok(number)
+    let known = known_in(alloc, flow)?;
+    let mut first = 0;
+    while first < lost.len() {
+        let facts = shared_from(lost, first);
+        searches.push(search_for(alloc, flow, known.as_slice(), facts)?)?;
+        first += SHARED;
+    }
+    Ok(searches)
 }
 
 /// Appends the fact with its path, where the label of its point lacks it.
 fn push_lacking(
-    alloc: Global,
     flow: &Flow,
     at: usize,
     stmt: StmtNo,
     fact: &Fact,
     state: &State,
-    known: &mut Vec<KnownEdges>,
+    asked: &mut Asked,
     out: &mut Missing,
 ) -> Result<(), AllocError>
     requires differ { EdgesDiffer (flow_view flow.now) }
     requires there { LeadThere (flow_view flow.now) }
     requires within { at < length flow.now.points.items }
     requires exact { (f : FactOf) → (has_fact state.now f ≡ true) ↔ Holds (flow_view flow.now) f at }
-    requires known { AreKnown (flow_view flow.now) known.old.items }
-    requires searched { AreSearched (flow_view flow.now) out.old.searches.items }
-    ensures known { OnOk result (AreKnown (flow_view flow.now) known.new.items) }
-    ensures searched { OnOk result (AreSearched (flow_view flow.now) out.new.searches.items) }
+    requires noted { has_fact state.now (fact_view fact.now) ≡ false → IsNoted out.old.lost.items (fact_view fact.now) }
+    requires searched { AreSearched (flow_view flow.now) (map fact_view out.old.lost.items) out.old.searches.items }
+    ensures lost { OnOk result (out.new.lost.items ≡ out.old.lost.items) }
+    ensures searches { OnOk result (out.new.searches.items ≡ out.old.searches.items) }
     ensures missing { OnOk result ((ds : List Demand) → AreMissing (flow_view flow.now) ds out.old → AreMissing (flow_view flow.now) (ds ++ demand at stmt.0 (fact_view fact.now) ∷ []) out.new) }
 {
     if state.holds(fact) {
         return Ok(());
     }
-    let search = number_of(alloc, flow, fact, known, out)?;
-    match lost_place(flow, &out.searches[search], at) {
-        Some(place) => {
-            out.facts.push(MissingAt {
-                stmt,
-                search,
-                place,
-            })?;
-            Ok(())
-        }
-        None => unreachable!(),
-    }
+    let Some(number) = asked.number_of(out.lost.as_slice(), fact) else {
+        unreachable!()
+    };
+    asked.ask(number);
+    let search = number / SHARED;
+    let Some(place) = lost_place(flow, &out.searches[search], at, number % SHARED) else {
+        unreachable!()
+    };
+    out.facts.push(MissingAt {
+        stmt,
+        fact: number,
+        search,
+        place,
+    })?;
+    Ok(())
 }
 
 /// Appends what the label of a point lacks of its needs, in their order.
 fn push_point(
-    alloc: Global,
     flow: &Flow,
     at: usize,
     point: &Point,
     state: &State,
-    known: &mut Vec<KnownEdges>,
+    asked: &mut Asked,
     out: &mut Missing,
 ) -> Result<(), AllocError>
     requires differ { EdgesDiffer (flow_view flow.now) }
     requires there { LeadThere (flow_view flow.now) }
     requires within { at < length flow.now.points.items }
     requires exact { (f : FactOf) → (has_fact state.now f ≡ true) ↔ Holds (flow_view flow.now) f at }
-    requires known { AreKnown (flow_view flow.now) known.old.items }
-    requires searched { AreSearched (flow_view flow.now) out.old.searches.items }
-    ensures known { OnOk result (AreKnown (flow_view flow.now) known.new.items) }
-    ensures searched { OnOk result (AreSearched (flow_view flow.now) out.new.searches.items) }
+    requires noted { (f : FactOf) → IsIn f (point_view point.now).needs → has_fact state.now f ≡ false → IsNoted out.old.lost.items f }
+    requires searched { AreSearched (flow_view flow.now) (map fact_view out.old.lost.items) out.old.searches.items }
+    ensures lost { OnOk result (out.new.lost.items ≡ out.old.lost.items) }
+    ensures searches { OnOk result (out.new.searches.items ≡ out.old.searches.items) }
     ensures missing { OnOk result ((ds : List Demand) → AreMissing (flow_view flow.now) ds out.old → AreMissing (flow_view flow.now) (ds ++ demands_at (at, point_view point.now)) out.new) }
 {
     for fact in &point.needs {
-        push_lacking(alloc, flow, at, point.stmt, fact, state, known, out)?;
+        push_lacking(flow, at, point.stmt, fact, state, asked, out)?;
     }
     Ok(())
 }
@@ -203,14 +248,16 @@ pub fn lacking(alloc: Global, flow: &Flow, labels: &Labels) -> Result<Missing, A
     requires exact { AreExact (flow_view flow.now) (labels_view labels.now) }
     ensures { IfOk result (AreMissing (flow_view flow.now) (demands (flow_view flow.now))) }
 {
-    let mut known = Vec::new(alloc);
+    let mut asked = Asked::none(alloc);
+    let lost = lost_in(alloc, flow, labels, &mut asked)?;
+    let searches = searches_for(alloc, flow, lost.as_slice())?;
     let mut out = Missing {
-        searches: Vec::new(alloc),
+        lost,
+        searches,
         facts: Vec::new(alloc),
     };
     for (i, point) in flow.points.as_slice().iter().enumerate() {
-        let state = &labels.at[i];
-        push_point(alloc, flow, i, point, state, &mut known, &mut out)?;
+        push_point(flow, i, point, &labels.at[i], &mut asked, &mut out)?;
     }
     Ok(out)
 }

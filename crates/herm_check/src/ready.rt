@@ -134,6 +134,7 @@ pub fn missing_in(alloc: Global, flow: &Flow, vars: usize) -> Option<Missing> {
         Ok(labels) => {
             drop(labels);
             Some(Missing {
+                lost: Vec::new(alloc),
                 searches: Vec::new(alloc),
                 facts: Vec::new(alloc),
             })

@@ -1,20 +1,21 @@
 //! The search for shortest control paths on which a fact is not held.
-ghost use Rattle.std.specs.Prelude.{◌≡◌, ◌+◌, ◌*◌, ◌^◌, ◌<◌, ℕ, true, None, cond, nat_lt, map, reverse, replicate, length, slice_get, option_and_then, IfOk, OnOk, IfSome, IfNone};
-ghost use Rattle.herm_model.specs.Lists.{any_pass};
-ghost use Rattle.herm_model.specs.Paths.{same_fact};
+ghost use Rattle.std.specs.Prelude.{◌≡◌, ◌+◌, ◌*◌, ◌^◌, ◌<◌, ◌≤◌, ℕ, Some, None, cond, nat_lt, map, reverse, length, slice_get, option_and_then, IfOk, OnOk, IfSome, IfNone};
+ghost use Rattle.herm_model.specs.Paths.{Fact as FactOf};
 ghost use Rattle.herm_model.specs.Targets.{node};
-ghost use Rattle.herm_model.specs.ControlPaths.{Holds, held_at_start};
+ghost use Rattle.herm_model.specs.ControlPaths.{Holds};
 ghost use Rattle.herm_types.specs.View.{fact_view};
 ghost use Rattle.herm_flow.specs.View.{edge_view, flow_view};
 ghost use Rattle.herm_check.specs.View.{hop_view};
 ghost use Rattle.herm_check.specs.Labelled.{LeadThere};
-ghost use Rattle.herm_check.specs.Made.{AreKnown};
+ghost use Rattle.herm_check.specs.FactSets.{has};
+ghost use Rattle.herm_check.specs.Known.{AreKnownIn, AreEffectsIn};
 ghost use Rattle.herm_check.specs.Trails.{trail};
 ghost use Rattle.herm_check.specs.declared.search.Visit.{Visit as VisitOf};
-ghost use Rattle.herm_check.specs.Searched.{slot_of, IsVisited, IsFollowedFrom, IsPassedFrom, IsSearch, AreLeft, IsNear, IsKept, IsNearest, IsSearched};
+ghost use Rattle.herm_check.specs.Searched.{slot_of, is_held_beyond, IsUnvisited, IsVisited, IsFollowedFrom, AreVisits, IsSearching, IsKept, IsNearest, IsSearched};
 
-use crate::held::is_held_beyond;
-use crate::made::{KnownEdges, is_alike, may_make};
+use crate::effects::{Effect, effects_in, held_first};
+use crate::fact_set::FactSet;
+use crate::known::KnownEdges;
 use herm_base::StmtNo;
 use herm_flow::{Edge, Flow, Target};
 use herm_typed::Outcome;
@@ -35,30 +36,26 @@ pub struct Link {
     pub hop: Hop,
 }
 
-/// A point that paths of so many hops and no shorter ones reach with the fact held or not.
+/// A point that paths of so many hops and no shorter ones reach with these facts all held, or none of them.
 #[derive(Clone, Copy)]
 pub struct Visit {
     pub point: usize,
     pub held: bool,
+    pub facts: FactSet,
     pub depth: usize,
     pub last: Option<Link>,
 }
 
-/// The visits so far in the order of their depth, and the place among them of each point with the fact held or not.
+/// The visits so far in the order of their depth; and of each point with facts held or not, which facts, and the places of its visits.
 #[derive(Drop)]
 pub struct Search {
     pub visits: Vec<Visit>,
-    pub places: Vec<Option<usize>>,
+    pub seen: Vec<FactSet>,
+    pub places: Vec<Vec<usize>>,
 }
 
-/// The search for one fact, which has come to its end.
-#[derive(Drop)]
-pub struct FactSearch {
-    pub fact: Fact,
-    pub search: Search,
-}
-
-/// The place of a point, with the fact held or not, among all of these.
+/// The place of a point, with facts held or not, among all of these.
+#[inline(always)]
 fn slot(point: usize, held: bool) -> usize
     requires { point < 2 ^ 62 }
     ensures { result ≡ slot_of point held }
@@ -69,34 +66,56 @@ fn slot(point: usize, held: bool) -> usize
     2 * point
 }
 
-/// Adds a visit, unless its point was visited with the fact held alike.
+/// Adds a visit of those facts with which its point was not visited alike, if there are any.
+#[inline(always)]
 fn add(search: &mut Search, visit: Visit) -> Result<(), AllocError>
-    requires within { 2 * visit.point + 1 < length search.old.places.items }
-    ensures { OnOk result (IsVisited search.old.visits.items search.old.places.items visit search.new.visits.items search.new.places.items) }
+    requires within { 2 * visit.point + 1 < length search.old.seen.items }
+    requires many { length search.old.places.items ≡ length search.old.seen.items }
+    ensures { OnOk result (IsVisited visit search.old.visits.items search.old.seen.items search.old.places.items search.new.visits.items search.new.seen.items search.new.places.items) }
 {
     let slot = slot(visit.point, visit.held);
-    if search.places[slot].is_some() {
+    let seen = search.seen[slot];
+    let facts = visit.facts.without(seen);
+    if facts.is_empty() {
         return Ok(());
     }
-    search.places[slot] = Some(search.visits.len());
-    search.visits.push(visit)?;
+    search.places[slot].push(search.visits.len())?;
+    search.seen[slot] = seen.either(facts);
+    search.visits.push(Visit {
+        point: visit.point,
+        held: visit.held,
+        facts,
+        depth: visit.depth,
+        last: visit.last,
+    })?;
     Ok(())
+}
+
+/// Of the facts of a visit those that are held behind an edge.
+#[inline(always)]
+fn held_beyond(effect: Effect, visit: &Visit) -> FactSet
+    ensures { (j : ℕ) → has result j ≡ is_held_beyond effect visit.now j }
+{
+    let made = visit.facts.both(effect.made);
+    if !visit.held {
+        return made;
+    }
+    made.either(visit.facts.without(effect.killed))
 }
 
 /// Follows an edge of a statement from a visit, which has this place.
 fn follow(
-    fact: &Fact,
-    may_make: bool,
+    effect: Effect,
     stmt: StmtNo,
     edge: &Edge,
     from: usize,
     visit: &Visit,
     search: &mut Search,
 ) -> Result<(), AllocError>
-    requires within { (t : ℕ) → (edge_view edge.now).target ≡ node t → 2 * t + 1 < length search.old.places.items }
+    requires within { (t : ℕ) → (edge_view edge.now).target ≡ node t → 2 * t + 1 < length search.old.seen.items }
+    requires many { length search.old.places.items ≡ length search.old.seen.items }
     requires few { visit.now.depth < 2 ^ 63 }
-    requires made { any_pass (same_fact (fact_view fact.now)) (edge_view edge.now).makes ≡ true → may_make ≡ true }
-    ensures { OnOk result (IsFollowedFrom stmt.0 (edge_view edge.now) (fact_view fact.now) from visit.now search.old.visits.items search.old.places.items search.new.visits.items search.new.places.items) }
+    ensures { OnOk result (IsFollowedFrom stmt.0 (edge_view edge.now) effect from visit.now search.old.visits.items search.old.seen.items search.old.places.items search.new.visits.items search.new.seen.items search.new.places.items) }
 {
     match edge.to {
         Target::Point(t) => {
@@ -104,10 +123,20 @@ fn follow(
                 stmt,
                 outcome: edge.outcome,
             };
-            let held = is_held_beyond(edge, fact, may_make, visit.held);
+            let held = held_beyond(effect, visit);
+            let lost = visit.facts.without(held);
             let next = Visit {
                 point: t as usize,
-                held,
+                held: true,
+                facts: held,
+                depth: visit.depth + 1,
+                last: Some(Link { from, hop }),
+            };
+            add(search, next)?;
+            let next = Visit {
+                point: t as usize,
+                held: false,
+                facts: lost,
                 depth: visit.depth + 1,
                 last: Some(Link { from, hop }),
             };
@@ -119,90 +148,67 @@ fn follow(
     }
 }
 
-/// Follows an edge from a visit, which has this place, unless it is like one before it: that one led where it leads.
-fn pass(
-    fact: &Fact,
-    may_make: bool,
-    alike: bool,
-    stmt: StmtNo,
-    edge: &Edge,
-    from: usize,
-    visit: &Visit,
-    search: &mut Search,
-) -> Result<(), AllocError>
-    requires within { (t : ℕ) → (edge_view edge.now).target ≡ node t → 2 * t + 1 < length search.old.places.items }
-    requires few { visit.now.depth < 2 ^ 63 }
-    requires made { any_pass (same_fact (fact_view fact.now)) (edge_view edge.now).makes ≡ true → may_make ≡ true }
-    ensures { OnOk result (IsPassedFrom alike stmt.0 (edge_view edge.now) (fact_view fact.now) from visit.now search.old.visits.items search.old.places.items search.new.visits.items search.new.places.items) }
-{
-    if alike {
-        return Ok(());
-    }
-    follow(fact, may_make, stmt, edge, from, visit, search)?;
-    Ok(())
-}
-
 /// Follows each edge from the visit at a place.
 fn leave(
     flow: &Flow,
-    known: &[KnownEdges],
-    fact: &Fact,
+    effects: &[Vec<Effect>],
+    _facts: &[Fact],
     k: usize,
     search: &mut Search,
 ) -> Result<(), AllocError>
     requires there { LeadThere (flow_view flow.now) }
-    requires known { AreKnown (flow_view flow.now) known.now }
-    requires search { IsSearch (flow_view flow.now) (fact_view fact.now) search.old.visits.items search.old.places.items }
+    requires effects { AreEffectsIn (flow_view flow.now) (map fact_view _facts.now) effects.now }
+    requires search { IsSearching (flow_view flow.now) (map fact_view _facts.now) search.old k }
     requires within { k < length search.old.visits.items }
-    requires near { IsNear search.old.visits.items k }
-    requires left { AreLeft (flow_view flow.now) (fact_view fact.now) search.old.visits.items k }
-    ensures search { OnOk result (IsSearch (flow_view flow.now) (fact_view fact.now) search.new.visits.items search.new.places.items) }
-    ensures near { OnOk result (IsNear search.new.visits.items k) }
-    ensures left { OnOk result (AreLeft (flow_view flow.now) (fact_view fact.now) search.new.visits.items (k + 1)) }
+    ensures search { OnOk result (IsSearching (flow_view flow.now) (map fact_view _facts.now) search.new (k + 1)) }
     ensures kept { OnOk result (IsKept search.old.visits.items search.new.visits.items) }
 {
     let visit = search.visits[k];
     let point = &flow.points[visit.point];
-    let may_make = may_make(known, visit.point, fact);
-    let mut at = 0;
-    for edge in &point.edges {
-        let alike = is_alike(known, visit.point, at);
-        pass(fact, may_make, alike, point.stmt, edge, k, &visit, search)?;
-        at += 1;
+    let row = effects[visit.point].as_slice();
+    for number in 0..point.edges.len() {
+        let edge = &point.edges[number];
+        follow(row[number], point.stmt, edge, k, &visit, search)?;
     }
     Ok(())
 }
 
-/// Whether there is a value at the port alone when a process begins.
-fn is_held_at_start(fact: &Fact) -> bool
-    ensures { result ≡ held_at_start (fact_view fact.now) }
+/// So many points, with facts held or not, that were not visited.
+fn none_visited(alloc: Global, count: usize) -> Result<Search, AllocError>
+    ensures { IfOk result (IsUnvisited count) }
 {
-    match fact {
-        Fact::Init(path) => path.var.0 == 0 && path.parts.as_slice().is_empty(),
-        Fact::Case(_, _) => false,
+    let mut places = Vec::new(alloc);
+    for _ in 0..count {
+        places.push(Vec::new(alloc))?;
     }
+    Ok(Search {
+        visits: Vec::new(alloc),
+        seen: vec![in alloc; FactSet::none(); count]?,
+        places,
+    })
 }
 
-/// So many points, with the fact held or not, that were not visited.
-fn none_visited(alloc: Global, count: usize) -> Result<Vec<Option<usize>>, AllocError>
-    ensures { IfOk result (λ places. places.items ≡ replicate count None) }
-{
-    Ok(vec![in alloc; None; count]?)
-}
-
-/// The search as it begins: the first point is visited.
-fn begin(alloc: Global, flow: &Flow, fact: &Fact) -> Result<Search, AllocError>
+/// The search as it begins: the first point is visited, with each fact held or not.
+fn begin(alloc: Global, flow: &Flow, facts: &[Fact]) -> Result<Search, AllocError>
     requires some { 0 < length flow.now.points.items }
-    ensures search { IfOk result (λ search. IsSearch (flow_view flow.now) (fact_view fact.now) search.visits.items search.places.items) }
-    ensures one { IfOk result (λ search. length search.visits.items ≡ 1) }
+    requires few { length facts.now ≤ 64 }
+    ensures { IfOk result (λ search. IsSearching (flow_view flow.now) (map fact_view facts.now) search 0) }
 {
-    let count = flow.points.len();
-    let places = none_visited(alloc, 2 * count)?;
-    let visits = Vec::new(alloc);
-    let mut search = Search { visits, places };
+    let mut search = none_visited(alloc, 2 * flow.points.len())?;
+    let held = held_first(facts);
+    let lost = FactSet::first(facts.len()).without(held);
     let first = Visit {
         point: 0,
-        held: is_held_at_start(fact),
+        held: true,
+        facts: held,
+        depth: 0,
+        last: None,
+    };
+    add(&mut search, first)?;
+    let first = Visit {
+        point: 0,
+        held: false,
+        facts: lost,
         depth: 0,
         last: None,
     };
@@ -213,51 +219,56 @@ fn begin(alloc: Global, flow: &Flow, fact: &Fact) -> Result<Search, AllocError>
 /// Follows each edge from each visit, those that are added by it too.
 fn complete(
     flow: &Flow,
-    known: &[KnownEdges],
-    fact: &Fact,
+    effects: &[Vec<Effect>],
+    facts: &[Fact],
     search: &mut Search,
 ) -> Result<(), AllocError>
     requires there { LeadThere (flow_view flow.now) }
-    requires known { AreKnown (flow_view flow.now) known.now }
-    requires search { IsSearch (flow_view flow.now) (fact_view fact.now) search.old.visits.items search.old.places.items }
-    requires one { length search.old.visits.items ≡ 1 }
-    ensures search { OnOk result (IsSearch (flow_view flow.now) (fact_view fact.now) search.new.visits.items search.new.places.items) }
-    ensures left { OnOk result (AreLeft (flow_view flow.now) (fact_view fact.now) search.new.visits.items (length search.new.visits.items)) }
+    requires effects { AreEffectsIn (flow_view flow.now) (map fact_view facts.now) effects.now }
+    requires search { IsSearching (flow_view flow.now) (map fact_view facts.now) search.old 0 }
+    ensures { OnOk result (IsSearching (flow_view flow.now) (map fact_view facts.now) search.new (length search.new.visits.items)) }
 {
     let mut next = 0;
     while next < search.visits.len() {
-        leave(flow, known, fact, next, search)?;
+        leave(flow, effects, facts, next, search)?;
         next += 1;
     }
     Ok(())
 }
 
-/// Searches for all shortest control paths with the fact held or not.
+/// Searches for all shortest control paths with each of the facts held or not.
 pub fn search_for(
     alloc: Global,
     flow: &Flow,
     known: &[KnownEdges],
-    fact: Fact,
-) -> Result<FactSearch, AllocError>
+    facts: &[Fact],
+) -> Result<Search, AllocError>
     requires there { LeadThere (flow_view flow.now) }
-    requires known { AreKnown (flow_view flow.now) known.now }
+    requires known { AreKnownIn (flow_view flow.now) known.now }
     requires some { 0 < length flow.now.points.items }
-    ensures searched { IfOk result (IsSearched (flow_view flow.now)) }
-    ensures fact { IfOk result (λ s. fact_view s.fact ≡ fact_view fact) }
+    requires few { length facts.now ≤ 64 }
+    ensures { IfOk result (λ search. (j : ℕ) (f : FactOf) → slice_get (map fact_view facts.now) j ≡ Some f → IsSearched (flow_view flow.now) f j search) }
 {
-    let mut search = begin(alloc, flow, &fact)?;
-    complete(flow, known, &fact, &mut search)?;
-    Ok(FactSearch { fact, search })
+    let effects = effects_in(alloc, flow, known, facts)?;
+    let mut search = begin(alloc, flow, facts)?;
+    complete(flow, effects.as_slice(), facts, &mut search)?;
+    Ok(search)
 }
 
-/// The place of the visit of a point with the fact not held: none where it is held on each path to it.
-pub fn lost_place(_flow: &Flow, searched: &FactSearch, at: usize) -> Option<usize>
-    requires searched { IsSearched (flow_view _flow.now) searched.now }
+/// The place of the visit of a point with a fact not held, by the fact's number: none where it is held on each path to it.
+pub fn lost_place(_flow: &Flow, search: &Search, at: usize, number: usize) -> Option<usize>
+    requires visits { AreVisits (flow_view _flow.now) search.now }
     requires within { at < length _flow.now.points.items }
-    ensures some { IfSome result (IsNearest (flow_view _flow.now) (fact_view searched.now.fact) at searched.now.search.visits.items) }
-    ensures none { IfNone result (Holds (flow_view _flow.now) (fact_view searched.now.fact) at) }
+    requires few { number < 64 }
+    ensures some { IfSome result (λ place. (f : FactOf) → IsSearched (flow_view _flow.now) f number search.now → IsNearest (flow_view _flow.now) f number at search.now.visits.items place) }
+    ensures none { IfNone result ((f : FactOf) → IsSearched (flow_view _flow.now) f number search.now → Holds (flow_view _flow.now) f at) }
 {
-    searched.search.places[slot(at, false)]
+    for place in &search.places[slot(at, false)] {
+        if search.visits[*place].facts.holds(number) {
+            return Some(*place);
+        }
+    }
+    None
 }
 
 /// The link by which the visit at a place was reached.

@@ -180,14 +180,15 @@ fn push_outcome(alloc: Global, outcome: Outcome, out: &mut String) -> Result<(),
 
 fn push_missing(
     alloc: Global,
-    by: &FactSearch,
+    fact: &Fact,
+    by: &Search,
     missing: &MissingAt,
     out: &mut String,
 ) -> Result<(), AllocError> {
     let number = format!(in alloc; "{} ", missing.stmt.0)?;
     out.push_str(number.as_str())?;
-    push_fact(alloc, &by.fact, out)?;
-    for hop in &trail(alloc, by.search.visits.as_slice(), missing.place)? {
+    push_fact(alloc, fact, out)?;
+    for hop in &trail(alloc, by.visits.as_slice(), missing.place)? {
         let number = format!(in alloc; " {}", hop.stmt.0)?;
         out.push_str(number.as_str())?;
         push_outcome(alloc, hop.outcome, out)?;
@@ -201,8 +202,10 @@ fn told(alloc: Global, missing: &Missing) -> Result<String, AllocError> {
         if i != 0 {
             out.push_str("; ")?;
         }
-        if let Some(by) = missing.searches.as_slice().get(m.search) {
-            push_missing(alloc, by, m, &mut out)?;
+        let fact = missing.lost.as_slice().get(m.fact);
+        let by = missing.searches.as_slice().get(m.search);
+        if let (Some(fact), Some(by)) = (fact, by) {
+            push_missing(alloc, fact, by, m, &mut out)?;
         }
     }
     Ok(out)

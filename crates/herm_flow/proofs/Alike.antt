@@ -1,14 +1,11 @@
 -- Outcomes that make and take away the same.
-use Rattle.std.proofs.Common.{◌≡◌, ℕ, ◌<◌, List, ◌++◌, map, filter, length, get_or, Vec, Global, refl, sym, ap, subst, ◌∙◌}
+use Rattle.std.proofs.Common.{◌≡◌, ℕ, ◌<◌, List, map, length, get_or, Vec, Global, refl, sym, ap, ◌∙◌}
 use Rattle.std.proofs.lemmas.Option.{slice_get_read}
 use Rattle.herm_model.specs.Lists.{IsIn}
-use Rattle.herm_model.specs.Paths.{Path, Fact}
-use Rattle.herm_model.specs.Types.{TypeTable}
 use Rattle.herm_model.specs.Statements as model
-use Rattle.herm_model.specs.Exits.{Exit}
 use Rattle.herm_model.specs.ControlPaths as paths
 use Rattle.herm_model.specs.FactsOfStatements.{closed, makes, kills, received_at, set_at}
-use Rattle.herm_model.proofs.Lists.{in-map, in-map_from, in-append_left, in-filter_from}
+use Rattle.herm_model.proofs.Lists.{in-map}
 use Rattle.herm_model.proofs.FactTests.{got-IsIn}
 use Rattle.herm_typed.specs.declared.expressions.TypedPath.{TypedPath}
 use Rattle.herm_typed.specs.declared.statements.TypedStmt.{TypedStmt}
@@ -22,10 +19,8 @@ use Rattle.herm_judge.specs.View.{table_of, variables_of}
 use Rattle.herm_effects.specs.Rows.{makes_at, kills_at}
 use Rattle.herm_effects.proofs.Arms.{of_select}
 use Rattle.herm_flow.specs.declared.flow.Edge.{Edge}
-use Rattle.herm_flow.specs.declared.kept.Kept.{Kept}
 use Rattle.herm_flow.specs.View.{edge_view}
-use Rattle.herm_flow.specs.Edges.{an_exit, edge_at, AreEdgesOf}
-use Rattle.herm_flow.specs.Kept.{is_kept}
+use Rattle.herm_flow.specs.Edges.{AreEdgesOf}
 
 -- two arms of a `select` at which the same is received, and by which the same is taken away
 module _ (frame : Frame) (form : TypedForm) (arms : Vec (TypedPath × TypedPath × Vec TypedStmt Global) Global) (list : List (TypedPath × TypedPath × Vec TypedStmt Global)) (is : form ≡ Select arms) (same : list ≡ arms.items)
@@ -56,9 +51,3 @@ module _ (frame : Frame) (form : TypedForm) (edges : List Edge) (of : AreEdgesOf
 
   pub edge-kills : (edge_view e).kills ≡ kills_at frame form e.outcome
   edge-kills = ap (λ (x : paths.Edge). x.kills) (of (edge_view e) among)
-
--- the first of the edges of exits are edges of the form
-pub first-edges : (kept : Kept) (table : TypeTable) (variables : List ℕ) (form : TypedForm) (es rest : List paths.Edge) (xs : List Exit) → es ++ rest ≡ filter (is_kept kept) (map (edge_at table variables form) xs) → AreEdgesOf table variables form es
-first-edges kept table variables form es rest xs h e m =
-    let from = in-map_from (edge_at table variables form) e xs (in-filter_from (is_kept kept) e (map (edge_at table variables form) xs) (subst (IsIn e) h (in-append_left e es rest m))).0 in
-    subst (λ (y : paths.Edge). y ≡ edge_at table variables form (an_exit y.outcome y.target)) (sym from.2) refl

@@ -1,25 +1,23 @@
 -- The edges that are kept.
-use Rattle.std.proofs.Common.{◌≡◌, ℕ, List, [], ◌∷◌, map, filter, Bool, true, false, cond, Vec, Global, refl, sym, ap, ap₂, ◌∙◌}
-use Rattle.herm_model.specs.Types.{TypeTable, Raised}
-use Rattle.herm_model.specs.Calls.{call_raises}
-use Rattle.herm_model.specs.Outcomes.{Outcome, ok, raised, disconnected, rising}
+use Rattle.std.proofs.Common.{◌≡◌, ℕ, suc, ◌+◌, List, [], ◌∷◌, ◌++◌, map, filter, reverse, drop, Bool, true, false, cond, inl, inr, ◌⊎◌, refl, sym, ap, subst, ◌∙◌, append-nil, append_assoc, arith}
+use Rattle.std.proofs.lemmas.List.{reverse-append}
+use Rattle.herm_model.specs.Lists.{IsIn}
+use Rattle.herm_model.specs.Types.{TypeTable}
 use Rattle.herm_model.specs.Targets.{Target}
-use Rattle.herm_model.specs.Handlers.{Catch, caught}
+use Rattle.herm_model.specs.Handlers.{Catch}
 use Rattle.herm_model.specs.Nodes.{Node}
 use Rattle.herm_model.specs.Exits.{Exit}
 use Rattle.herm_model.specs.ControlPaths.{Edge, Point, point}
-use Rattle.herm_typed.specs.declared.expressions.TypedPath.{TypedPath}
-use Rattle.herm_typed.specs.declared.expressions.TypedAtom.{TypedAtom}
-use Rattle.herm_typed.specs.declared.statements.TypedForm.{TypedForm, Call}
-use Rattle.herm_typed.specs.Outcomes.{outcomes_of}
-use Rattle.herm_typed.specs.View.{typed_path_view}
+use Rattle.herm_model.proofs.Lists.{in-append_cases}
+use Rattle.herm_types.proofs.Extended.{map-append}
+use Rattle.herm_typed.specs.declared.statements.TypedForm.{TypedForm}
 use Rattle.herm_flow.specs.declared.kept.Kept.{Kept}
 use Rattle.herm_flow.specs.declared.kept.Kept.TheVariants.{All, Onward}
-use Rattle.herm_flow.specs.Edges.{an_exit, exits_from, edge_at}
-use Rattle.herm_flow.specs.Onward.{onward}
-use Rattle.herm_flow.specs.Kept.{is_kept, is_exit_kept, kept, point_kept, goes_on, rising_of}
-use Rattle.herm_flow.proofs.PointsSeen.{of_exceptions, exits_raised}
-use Rattle.herm_flow.proofs.Rising.{rising_filtered}
+use Rattle.herm_typed.specs.declared.outcome_list.Outcome.{Outcome}
+use Rattle.herm_typed.specs.View.{outcome_view}
+use Rattle.herm_flow.specs.Edges.{an_exit, raised_in, exit_of, left_of, exits_from, edge_at, AreEdgesOf}
+use Rattle.herm_flow.specs.Onward.{onward, unrepeated_behind}
+use Rattle.herm_flow.specs.Kept.{is_kept, is_repeated, pushed, pushed_all, kept_among, kept, point_kept}
 
 -- ---- points
 
@@ -27,17 +25,10 @@ pub points_kept : (k : Kept) (table : TypeTable) (variables : List ℕ) (ns : Li
 points_kept k table variables [] = refl
 points_kept k table variables (n ∷ ns) = ap (point_kept k table variables n ∷◌) (points_kept k table variables ns)
 
-all-edges : (es : List Edge) → filter (is_kept All) es ≡ es
-all-edges [] = refl
-all-edges (e ∷ es) = ap (e ∷◌) (all-edges es)
-
-abbrev with_edges : Point → List Edge → Point
-with_edges p es = record { number = p.number; needs = p.needs; edges = es }
-
 -- a flow of all edges is the whole
 pub all_kept : (ps : List Point) → map (kept All) ps ≡ ps
 all_kept [] = refl
-all_kept (p ∷ ps) = ap₂ (λ (q : Point) (qs : List Point). q ∷ qs) (ap (with_edges p) (all-edges p.edges)) (all_kept ps)
+all_kept (p ∷ ps) = ap (p ∷◌) (all_kept ps)
 
 pub onward_kept : (ps : List Point) → map (kept Onward) ps ≡ map onward ps
 onward_kept [] = refl
@@ -45,64 +36,70 @@ onward_kept (p ∷ ps) = ap (onward p ∷◌) (onward_kept ps)
 
 -- ---- edges
 
-module _ (k : Kept) (table : TypeTable) (variables : List ℕ) (form : TypedForm) where
-  edges-filtered : (es : List Exit) → filter (is_kept k) (map (edge_at table variables form) es) ≡ map (edge_at table variables form) (filter (is_exit_kept k) es)
-  edges-filtered [] = refl
-  edges-filtered (e ∷ es) = go (is_exit_kept k e) (edges-filtered es)
-    where
-      go : (b : Bool) → filter (is_kept k) (map (edge_at table variables form) es) ≡ map (edge_at table variables form) (filter (is_exit_kept k) es) → cond b (edge_at table variables form e ∷ filter (is_kept k) (map (edge_at table variables form) es)) (filter (is_kept k) (map (edge_at table variables form) es)) ≡ map (edge_at table variables form) (cond b (e ∷ filter (is_exit_kept k) es) (filter (is_exit_kept k) es))
-      go true again = ap (edge_at table variables form e ∷◌) again
-      go false again = again
+all-pushed : (more es : List Edge) → pushed_all All es more ≡ es ++ more
+all-pushed [] es = sym (append-nil es)
+all-pushed (e ∷ more) es = all-pushed more (es ++ e ∷ []) ∙ append_assoc es (e ∷ []) more
 
-  -- exits of which the same are kept have the same edges
-  pub same_edges : (es fs : List Exit) → filter (is_exit_kept k) es ≡ filter (is_exit_kept k) fs → filter (is_kept k) (map (edge_at table variables form) es) ≡ filter (is_kept k) (map (edge_at table variables form) fs)
-  same_edges es fs h = edges-filtered es ∙ (ap (map (edge_at table variables form)) h ∙ sym (edges-filtered fs))
-
--- ---- calls
-
-twice : (test : ℕ → Bool) (ns : List ℕ) → filter test (filter test ns) ≡ filter test ns
-twice test [] = refl
-twice test (n ∷ ns) = go (test n) refl (twice test ns)
+onward-pushed : (more es : List Edge) → pushed_all Onward es more ≡ es ++ unrepeated_behind (reverse es) (filter (is_kept Onward) more)
+onward-pushed [] es = sym (append-nil es)
+onward-pushed (e ∷ more) es = go (is_kept Onward e) (onward-pushed more es) (onward-pushed more (es ++ e ∷ []))
   where
-    go : (b : Bool) → test n ≡ b → filter test (filter test ns) ≡ filter test ns → filter test (cond b (n ∷ filter test ns) (filter test ns)) ≡ cond b (n ∷ filter test ns) (filter test ns)
-    go true h again = ap (λ b. cond b (n ∷ filter test (filter test ns)) (filter test (filter test ns))) h ∙ ap (n ∷◌) again
-    go false h again = again
+    next : (b : Bool) → pushed_all Onward es more ≡ es ++ unrepeated_behind (reverse es) (filter (is_kept Onward) more) → pushed_all Onward (es ++ e ∷ []) more ≡ (es ++ e ∷ []) ++ unrepeated_behind (reverse (es ++ e ∷ [])) (filter (is_kept Onward) more)
+        → pushed_all Onward (cond b es (es ++ e ∷ [])) more ≡ es ++ cond b (unrepeated_behind (reverse es) (filter (is_kept Onward) more)) (e ∷ unrepeated_behind (e ∷ reverse es) (filter (is_kept Onward) more))
+    next true same longer = same
+    next false same longer = longer ∙ (ap (λ ds. (es ++ e ∷ []) ++ unrepeated_behind ds (filter (is_kept Onward) more)) (reverse-append es (e ∷ [])) ∙ append_assoc es (e ∷ []) (unrepeated_behind (e ∷ reverse es) (filter (is_kept Onward) more)))
 
-module _ (catches : List Catch) where
-  raised-kept : (es : List ℕ) → filter (is_exit_kept Onward) (of_exceptions es catches) ≡ of_exceptions (filter (goes_on catches) es) catches
-  raised-kept [] = refl
-  raised-kept (e ∷ es) = go (goes_on catches e) (raised-kept es)
+    go : (b : Bool) → pushed_all Onward es more ≡ es ++ unrepeated_behind (reverse es) (filter (is_kept Onward) more) → pushed_all Onward (es ++ e ∷ []) more ≡ (es ++ e ∷ []) ++ unrepeated_behind (reverse (es ++ e ∷ [])) (filter (is_kept Onward) more)
+        → pushed_all Onward (cond b (cond (is_repeated Onward es e) es (es ++ e ∷ [])) es) more ≡ es ++ unrepeated_behind (reverse es) (cond b (e ∷ filter (is_kept Onward) more) (filter (is_kept Onward) more))
+    go false same longer = same
+    go true same longer = next (is_repeated Onward es e) same longer
+
+-- edges that are pushed one after the other are those that are kept
+pub pushed_kept : (k : Kept) (es : List Edge) → pushed_all k [] es ≡ kept_among k es
+pushed_kept All es = all-pushed es []
+pushed_kept Onward es = onward-pushed es []
+
+pub pushed_all-append : (k : Kept) (more rest es : List Edge) → pushed_all k es (more ++ rest) ≡ pushed_all k (pushed_all k es more) rest
+pushed_all-append k [] rest es = refl
+pushed_all-append k (e ∷ more) rest es = pushed_all-append k more rest (pushed k es e)
+
+-- edges of a form with those of exits pushed
+module _ (k : Kept) (table : TypeTable) (variables : List ℕ) (form : TypedForm) where
+  one-more : (es : List Edge) (x : Exit) → AreEdgesOf table variables form es → AreEdgesOf table variables form (pushed k es (edge_at table variables form x))
+  one-more es x of = by (is_kept k (edge_at table variables form x)) (is_repeated k es (edge_at table variables form x))
     where
-      go : (b : Bool) → filter (is_exit_kept Onward) (of_exceptions es catches) ≡ of_exceptions (filter (goes_on catches) es) catches → cond b (an_exit (raised e) (caught catches e) ∷ filter (is_exit_kept Onward) (of_exceptions es catches)) (filter (is_exit_kept Onward) (of_exceptions es catches)) ≡ of_exceptions (cond b (e ∷ filter (goes_on catches) es) (filter (goes_on catches) es)) catches
-      go true again = ap (an_exit (raised e) (caught catches e) ∷◌) again
-      go false again = again
+      pushed : AreEdgesOf table variables form (es ++ edge_at table variables form x ∷ [])
+      pushed e m = from (in-append_cases e es (edge_at table variables form x ∷ []) m)
+        where
+          from : IsIn e es ⊎ IsIn e (edge_at table variables form x ∷ []) → e ≡ edge_at table variables form (an_exit e.outcome e.target)
+          from (inl h) = of e h
+          from (inr (inl h)) = subst (λ (y : Edge). y ≡ edge_at table variables form (an_exit y.outcome y.target)) (sym h) refl
+          from (inr (inr h)) = absurd h
 
-  -- exceptions of which the same lead on
-  raised-same : (es fs : List ℕ) (leads : List Target) → filter (goes_on catches) es ≡ filter (goes_on catches) fs → filter (is_exit_kept Onward) (exits_from (map raised es) leads catches) ≡ filter (is_exit_kept Onward) (exits_from (map raised fs) leads catches)
-  raised-same es fs leads h =
-      ap (filter (is_exit_kept Onward)) (exits_raised es leads catches)
-      ∙ (raised-kept es
-      ∙ (ap (λ ns. of_exceptions ns catches) h
-      ∙ (sym (raised-kept fs)
-      ∙ sym (ap (filter (is_exit_kept Onward)) (exits_raised fs leads catches)))))
+      by : (b c : Bool) → AreEdgesOf table variables form (cond b (cond c es (es ++ edge_at table variables form x ∷ [])) es)
+      by false c = of
+      by true true = of
+      by true false = pushed
 
-  ok-same : (es fs : List ℕ) (leads : List Target) → filter (goes_on catches) es ≡ filter (goes_on catches) fs → filter (is_exit_kept Onward) (exits_from (ok ∷ map raised es) leads catches) ≡ filter (is_exit_kept Onward) (exits_from (ok ∷ map raised fs) leads catches)
-  ok-same es fs [] h = raised-same es fs [] h
-  ok-same es fs (t ∷ leads) h = ap (λ xs. cond (is_exit_kept Onward (an_exit ok t)) (an_exit ok t ∷ xs) xs) (raised-same es fs leads h)
+  pushed_of : (xs : List Exit) (es : List Edge) → AreEdgesOf table variables form es → AreEdgesOf table variables form (pushed_all k es (map (edge_at table variables form) xs))
+  pushed_of [] es of = of
+  pushed_of (x ∷ xs) es of = pushed_of xs (pushed k es (edge_at table variables form x)) (one-more es x of)
 
-  -- the outcomes of a call without the exceptions that do not lead on have the exits that do
-  pub call_kept : (ns : List ℕ) (leads : List Target) → filter (is_exit_kept Onward) (exits_from (ok ∷ map raised (rising_of (goes_on catches) ns)) leads catches) ≡ filter (is_exit_kept Onward) (exits_from (ok ∷ map raised (rising ns)) leads catches)
-  call_kept ns leads =
-      ok-same (rising_of (goes_on catches) ns) (rising ns) leads
-      (ap (filter (goes_on catches)) (rising_filtered (goes_on catches) ns) ∙ twice (goes_on catches) (rising ns))
-
--- so it is at a call
-pub call_outcomes_kept : (k : Kept) (table : TypeTable) (variables : List ℕ) (form : TypedForm) (o : TypedPath) (arguments : Vec TypedAtom Global) (catches : List Catch) (found : List Outcome) → k ≡ Onward → form ≡ Call o arguments
-    → found ≡ ok ∷ map raised (rising_of (goes_on catches) (disconnected ∷ map (λ (r : Raised). r.exception) (call_raises table variables (typed_path_view o))))
-    → (leads : List Target) → filter (is_exit_kept k) (exits_from found leads catches) ≡ filter (is_exit_kept k) (exits_from (outcomes_of table variables form) leads catches)
-call_outcomes_kept k table variables form o arguments catches found b e f leads =
-    ap (λ k. filter (is_exit_kept k) (exits_from found leads catches)) b
-    ∙ (ap (λ os. filter (is_exit_kept Onward) (exits_from os leads catches)) f
-    ∙ (call_kept catches (disconnected ∷ map (λ (r : Raised). r.exception) (call_raises table variables (typed_path_view o))) leads
-    ∙ (ap (λ g. filter (is_exit_kept Onward) (exits_from (outcomes_of table variables g) leads catches)) (sym e)
-    ∙ ap (λ k. filter (is_exit_kept k) (exits_from (outcomes_of table variables form) leads catches)) (sym b))))
+  -- the edge of the next outcome, and the rest
+  pub next-edges : (catches : List Catch) (o : Outcome) (os : List Outcome) (i : ℕ) (old new whole : List Edge) (ts us : List Target) → drop i os ≡ o ∷ drop (suc i) os
+      → new ≡ pushed_all k old (map (edge_at table variables form) (exit_of (outcome_view o) (raised_in (outcome_view o)) ts catches))
+      → us ≡ left_of (raised_in (outcome_view o)) ts
+      → AreEdgesOf table variables form old
+      → pushed_all k old (map (edge_at table variables form) (exits_from (map outcome_view (drop i os)) ts catches)) ≡ whole
+      → AreEdgesOf table variables form new × (pushed_all k new (map (edge_at table variables form) (exits_from (map outcome_view (drop (i + 1) os)) us catches)) ≡ whole)
+  next-edges catches o os i old new whole ts us at pushes left of before =
+      let step : i + 1 ≡ suc i = omega arith in
+      let own = exit_of (outcome_view o) (raised_in (outcome_view o)) ts catches in (
+        subst (AreEdgesOf table variables form) (sym pushes) (pushed_of own old of),
+        ap (λ n. pushed_all k new (map (edge_at table variables form) (exits_from (map outcome_view (drop n os)) us catches))) step
+            ∙ (ap (λ vs. pushed_all k new (map (edge_at table variables form) (exits_from (map outcome_view (drop (suc i) os)) vs catches))) left
+            ∙ (ap (λ es. pushed_all k es (map (edge_at table variables form) (exits_from (map outcome_view (drop (suc i) os)) (left_of (raised_in (outcome_view o)) ts) catches))) pushes
+            ∙ (sym (pushed_all-append k (map (edge_at table variables form) own) (map (edge_at table variables form) (exits_from (map outcome_view (drop (suc i) os)) (left_of (raised_in (outcome_view o)) ts) catches)) old)
+            ∙ (ap (pushed_all k old) (sym (map-append (edge_at table variables form) own (exits_from (map outcome_view (drop (suc i) os)) (left_of (raised_in (outcome_view o)) ts) catches)))
+            ∙ (sym (ap (λ xs. pushed_all k old (map (edge_at table variables form) (exits_from (map outcome_view xs) ts catches))) at) ∙ before))))),
+      )

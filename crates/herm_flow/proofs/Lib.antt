@@ -9,6 +9,11 @@ pub mod WalkedParts
 pub mod Ready
 pub mod KnownTypes
 pub mod Rising
-pub mod Marks
+pub mod NumberTables
+pub mod Apart
+pub mod SameLists
+pub mod NearEdges
+pub mod OnwardNumbers
+pub mod KeptCalls
 pub mod KeptEdges
 pub mod Alike

@@ -1,10 +1,12 @@
 -- Rising numbers of which some are left out.
-use Rattle.std.proofs.Common.{◌≡◌, ℕ, ◌<◌, ◌≤◌, List, [], ◌∷◌, filter, Bool, true, false, cond, nat_lt, nat_eq, refl, sym, ap, ◌∙◌, subst, arith, inl, inr, ◌⊎◌, ltb-true, ltb-false}
+use Rattle.std.proofs.Common.{◌≡◌, ℕ, zero, suc, ◌<◌, ◌≤◌, List, [], ◌∷◌, filter, Bool, true, false, cond, nat_lt, nat_eq, refl, sym, ap, ap₂, ◌∙◌, subst, arith, inl, inr, ◌⊎◌, ltb-true, ltb-false}
 use Rattle.std.proofs.lemmas.Bool.{eqb-false, eqb-true}
-use Rattle.herm_model.specs.Lists.{IsIn}
+use Rattle.herm_model.specs.Lists.{IsIn, range}
 use Rattle.herm_model.specs.Outcomes.{with_number, rising}
 use Rattle.herm_model.specs.laws.FlowLaws.{Rise}
 use Rattle.herm_model.specs.Handlers.{Catch}
+use Rattle.herm_model.proofs.Lists.{in-filter, in-filter_from}
+use Rattle.herm_model.proofs.Deciding.{below-in}
 use Rattle.herm_flow.specs.Kept.{goes_on, rising_of}
 
 -- ---- a number put in its place
@@ -46,22 +48,82 @@ with_number-Rise n (k ∷ ns) h = go (nat_lt n k) (nat_eq n k) refl refl (with_n
         let less : k < n = omega (arith, le, apart) in
         ((λ m r. above less m (with_number-IsIn n m ns r)), again)
 
+in-with_number : (n m : ℕ) (ns : List ℕ) → (m ≡ n) ⊎ IsIn m ns → IsIn m (with_number n ns)
+in-with_number n m [] (inl e) = inl e
+in-with_number n m [] (inr h) = absurd h
+in-with_number n m (k ∷ ns) h = go (nat_lt n k) (nat_eq n k) refl (in-with_number n m ns) h
+  where
+    go : (b c : Bool) → nat_eq n k ≡ c → ((m ≡ n) ⊎ IsIn m ns → IsIn m (with_number n ns)) → (m ≡ n) ⊎ IsIn m (k ∷ ns) → IsIn m (cond b (n ∷ k ∷ ns) (cond c (k ∷ ns) (k ∷ with_number n ns)))
+    go true c e again (inl h) = inl h
+    go true c e again (inr h) = inr h
+    go false true e again (inl h) = inl (h ∙ eqb-true n k e)
+    go false true e again (inr h) = h
+    go false false e again (inl h) = inr (again (inl h))
+    go false false e again (inr (inl h)) = inl h
+    go false false e again (inr (inr h)) = inr (again (inr h))
+
 rising-Rise : (ns : List ℕ) → Rise (rising ns)
 rising-Rise [] = tt
 rising-Rise (n ∷ ns) = with_number-Rise n (rising ns) (rising-Rise ns)
 
+rising-IsIn : (m : ℕ) (ns : List ℕ) → IsIn m (rising ns) → IsIn m ns
+rising-IsIn m [] h = absurd h
+rising-IsIn m (n ∷ ns) h = by (rising-IsIn m ns) (with_number-IsIn n m (rising ns) h)
+  where
+    by : (IsIn m (rising ns) → IsIn m ns) → (m ≡ n) ⊎ IsIn m (rising ns) → IsIn m (n ∷ ns)
+    by again (inl e) = inl e
+    by again (inr r) = inr (again r)
+
+in-rising : (m : ℕ) (ns : List ℕ) → IsIn m ns → IsIn m (rising ns)
+in-rising m [] h = absurd h
+in-rising m (n ∷ ns) (inl e) = in-with_number n m (rising ns) (inl e)
+in-rising m (n ∷ ns) (inr h) = in-with_number n m (rising ns) (inr (in-rising m ns h))
+
+-- ---- rising numbers
+
+-- rising lists of the same numbers are the same
+rise-same : (xs ys : List ℕ) → Rise xs → Rise ys → ((m : ℕ) → IsIn m xs → IsIn m ys) → ((m : ℕ) → IsIn m ys → IsIn m xs) → xs ≡ ys
+rise-same [] [] r q f g = refl
+rise-same [] (y ∷ ys) r q f g = absurd (g y (inl refl))
+rise-same (x ∷ xs) [] r q f g = absurd (f x (inl refl))
+rise-same (x ∷ xs) (y ∷ ys) r q f g = ap₂ ◌∷◌ first (rise-same xs ys r.1 q.1 (λ m h. behind m h (f m (inr h))) (λ m h. before m h (g m (inr h))))
+  where
+    heads : (x ≡ y) ⊎ IsIn x ys → (y ≡ x) ⊎ IsIn y xs → x ≡ y
+    heads (inl e) h = e
+    heads (inr h) (inl e) = sym e
+    heads (inr h) (inr k) = let over = q.0 x h in let under = r.0 y k in absurd (omega (arith, over, under))
+
+    first : x ≡ y
+    first = heads (f x (inl refl)) (g y (inl refl))
+
+    behind : (m : ℕ) → IsIn m xs → (m ≡ y) ⊎ IsIn m ys → IsIn m ys
+    behind m h (inl e) = let over = r.0 m h in let same = first in absurd (omega (arith, over, e, same))
+    behind m h (inr k) = k
+
+    before : (m : ℕ) → IsIn m ys → (m ≡ x) ⊎ IsIn m xs → IsIn m xs
+    before m h (inl e) = let over = q.0 m h in let same = first in absurd (omega (arith, over, e, same))
+    before m h (inr k) = k
+
+filter-Rise : (test : ℕ → Bool) (ns : List ℕ) → Rise ns → Rise (filter test ns)
+filter-Rise test [] h = tt
+filter-Rise test (n ∷ ns) h = go (test n) (filter-Rise test ns h.1)
+  where
+    go : (b : Bool) → Rise (filter test ns) → Rise (cond b (n ∷ filter test ns) (filter test ns))
+    go true again = ((λ m k. h.0 m ((in-filter_from test m ns k).0)), again)
+    go false again = again
+
+from-first : (n k m : ℕ) → IsIn m (range k n) → k ≤ m
+from-first zero k m h = absurd h
+from-first (suc n) k m (inl e) = omega (arith, e)
+from-first (suc n) k m (inr h) = let r = from-first n (suc k) m h in omega (arith, r)
+
+range-Rise : (n k : ℕ) → Rise (range k n)
+range-Rise zero k = tt
+range-Rise (suc n) k = ((λ m h. let r = from-first n (suc k) m h in omega (arith, r)), range-Rise n (suc k))
+
 -- ---- without those that fail a test
 
 module _ (test : ℕ → Bool) where
-  filter-IsIn : (m : ℕ) (ns : List ℕ) → IsIn m (filter test ns) → IsIn m ns
-  filter-IsIn m [] h = absurd h
-  filter-IsIn m (n ∷ ns) h = go (test n) h (filter-IsIn m ns)
-    where
-      go : (b : Bool) → IsIn m (cond b (n ∷ filter test ns) (filter test ns)) → (IsIn m (filter test ns) → IsIn m ns) → IsIn m (n ∷ ns)
-      go true (inl e) again = inl e
-      go true (inr r) again = inr (again r)
-      go false r again = inr (again r)
-
   -- one that fails leaves no trace
   filter-without : (n : ℕ) (ns : List ℕ) → test n ≡ false → filter test (with_number n ns) ≡ filter test ns
   filter-without n [] h = ap (λ b. cond b (n ∷ []) []) h
@@ -108,7 +170,7 @@ module _ (test : ℕ → Bool) where
       go : (b c : Bool) → nat_lt n k ≡ b → nat_eq n k ≡ c → filter test (with_number n ns) ≡ with_number n (filter test ns) → filter test (cond b (n ∷ k ∷ ns) (cond c (k ∷ ns) (k ∷ with_number n ns))) ≡ with_number n (filter test (k ∷ ns))
       go true c lt eq again =
           ap (λ b. cond b (n ∷ filter test (k ∷ ns)) (filter test (k ∷ ns))) h
-          ∙ sym (first-number n (filter test (k ∷ ns)) (λ m r. below (ltb-true n k lt) m (filter-IsIn m (k ∷ ns) r)))
+          ∙ sym (first-number n (filter test (k ∷ ns)) (λ m r. below (ltb-true n k lt) m ((in-filter_from test m (k ∷ ns) r).0)))
       go false true lt eq again = same lt eq
       go false false lt eq again = ap (λ xs. cond (test k) (k ∷ xs) xs) again ∙ passed (test k) lt eq
 
@@ -121,13 +183,6 @@ module _ (test : ℕ → Bool) where
       go true h again = ap (with_number n) again ∙ sym (filter-with n (rising ns) (rising-Rise ns) h)
       go false h again = again ∙ sym (filter-without n (rising ns) h)
 
--- tests that agree leave the same
-pub rising_same : (test other : ℕ → Bool) (ns : List ℕ) → ((n : ℕ) → test n ≡ other n) → rising_of test ns ≡ rising_of other ns
-rising_same test other [] h = refl
-rising_same test other (n ∷ ns) h =
-    ap (λ b. cond b (with_number n (rising_of test ns)) (rising_of test ns)) (h n)
-    ∙ ap (λ xs. cond (other n) (with_number n xs) xs) (rising_same test other ns h)
-
 -- where none passes, nothing is left
 pub none_rising : (test : ℕ → Bool) (ns : List ℕ) → ((n : ℕ) → test n ≡ false) → rising_of test ns ≡ []
 none_rising test [] h = refl
@@ -136,3 +191,11 @@ none_rising test (n ∷ ns) h = ap (λ b. cond b (with_number n (rising_of test 
 -- without a handler nothing leads on
 pub none_caught : (catches : List Catch) (ns : List ℕ) → catches ≡ [] → rising_of (goes_on catches) ns ≡ []
 none_caught catches ns e = ap (λ cs. rising_of (goes_on cs) ns) e ∙ none_rising (goes_on []) ns (λ n. refl)
+
+-- Where one test passes those of some numbers that pass another, and those lie below a bound, the numbers below it that pass the
+-- one are those that pass the other, in order.
+pub passed-rising : (passes test : ℕ → Bool) (n : ℕ) (ns : List ℕ) → ((m : ℕ) → passes m ≡ true → IsIn m ns × (test m ≡ true)) → ((m : ℕ) → IsIn m ns → test m ≡ true → (passes m ≡ true) × (m < n)) → filter passes (range 0 n) ≡ filter test (rising ns)
+passed-rising passes test n ns f g =
+    rise-same (filter passes (range 0 n)) (filter test (rising ns)) (filter-Rise passes (range 0 n) (range-Rise n 0)) (filter-Rise test (rising ns) (rising-Rise ns))
+    (λ m h. let r = f m ((in-filter_from passes m (range 0 n) h).1) in in-filter test m (rising ns) (in-rising m ns r.0) r.1)
+    (λ m h. let from = in-filter_from test m (rising ns) h in let r = g m (rising-IsIn m ns from.0) from.1 in let below = r.1 in in-filter passes m (range 0 n) (below-in 0 n m (omega arith) (omega (arith, below))) r.0)

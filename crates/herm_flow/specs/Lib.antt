@@ -6,5 +6,7 @@ pub mod Edges
 pub mod Around
 pub mod KnownOutcomes
 pub mod Onward
+pub mod Apart
+pub mod NumberTables
 pub mod Kept
 pub mod Ready

@@ -1,5 +1,6 @@
 //! What outcomes make and take away. Those of a statement share it where it is found to be the same.
 ghost use Rattle.std.specs.Prelude.{◌≡◌, IfOk, IfSome, IsTrue, map};
+ghost use Rattle.herm_model.specs.Paths.{same_path};
 ghost use Rattle.herm_model.specs.FactsOfStatements.{received_at, set_at};
 ghost use Rattle.herm_types.specs.View.{path_view, fact_view};
 ghost use Rattle.herm_typed.specs.Blocks.{typed_arm_view};
@@ -17,11 +18,13 @@ use herm_types::Path;
 use std::alloc::{AllocError, Global};
 use std::rc::Rc;
 
-/// How many of the edges before it an outcome is compared with.
-const NEAR: usize = 64;
+/// How many of the edges before it an edge is compared with.
+pub const NEAR: usize = 64;
 
-fn is_same_path(a: &Path, b: &Path) -> bool
-    ensures { IsTrue result → path_view a.now ≡ path_view b.now }
+/// Whether two paths are the same.
+pub fn is_same_path(a: &Path, b: &Path) -> bool
+    ensures same { result ≡ same_path (path_view a.now) (path_view b.now) }
+    ensures equal { IsTrue result → path_view a.now ≡ path_view b.now }
 {
     a.var == b.var && a.parts.as_slice() == b.parts.as_slice()
 }

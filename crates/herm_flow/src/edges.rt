@@ -1,5 +1,5 @@
 //! A statement as a point, and where its outcomes lead.
-ghost use Rattle.std.specs.Prelude.{◌≡◌, ℕ, List, ◌∷◌, [], ◌++◌, IfOk, map, filter, drop, option_map};
+ghost use Rattle.std.specs.Prelude.{◌≡◌, ℕ, List, ◌∷◌, [], ◌++◌, IfOk, map, drop, option_map};
 ghost use Rattle.herm_model.specs.Handlers.{caught};
 ghost use Rattle.herm_typed.specs.declared.statements.TypedStmt.{out-TypedStmt};
 ghost use Rattle.herm_typed.specs.View.{outcome_view};
@@ -7,13 +7,14 @@ ghost use Rattle.herm_typed.specs.Outcomes.{KnowsOutcomes, outcomes_of};
 ghost use Rattle.herm_judge.specs.View.{table_of, variables_of};
 ghost use Rattle.herm_flow.specs.View.{target_view, catch_view, edge_view, point_view};
 ghost use Rattle.herm_flow.specs.Edges.{raised_in, exit_of, left_of, exits_from, an_exit, edge_at, point_at, AreEdgesOf};
-ghost use Rattle.herm_flow.specs.Kept.{is_kept as is_edge_kept, is_exit_kept, kept as kept_of};
+ghost use Rattle.herm_flow.specs.Kept.{pushed, pushed_all, kept_among, kept as kept_of};
 ghost use Rattle.herm_model.specs.Targets.{Target as TargetOf};
 
 use crate::calls::call_outcomes;
 use crate::changes::change_of;
 use crate::flow::{Edge, Point, Target};
 use crate::kept::{Kept, is_kept};
+use crate::repeats::is_left_out;
 use crate::starts::Catch;
 use herm_base::{ExcNo, StmtNo};
 use herm_effects::needs_of;
@@ -49,6 +50,26 @@ fn exception_of(outcome: Outcome) -> Option<ExcNo>
     }
 }
 
+/// The edge of an outcome that leads there. It may share what it makes and takes away with one of these.
+fn edge_of(
+    alloc: Global,
+    frame: &Frame,
+    form: &TypedForm,
+    outcome: Outcome,
+    to: Target,
+    edges: &[Edge],
+) -> Result<Edge, AllocError>
+    requires edges { AreEdgesOf (table_of frame.now) (variables_of frame.now) form.now (map edge_view edges.now) }
+    ensures edge { IfOk result (λ e. edge_view e ≡ edge_at (table_of frame.now) (variables_of frame.now) form.now (an_exit (outcome_view outcome) (target_view to))) }
+{
+    let change = change_of(alloc, frame, form, outcome, edges)?;
+    Ok(Edge {
+        outcome,
+        change,
+        to,
+    })
+}
+
 /// One edge more, where it is kept.
 fn push_edge(
     alloc: Global,
@@ -60,18 +81,18 @@ fn push_edge(
     edges: &mut Vec<Edge>,
 ) -> Result<(), AllocError>
     requires edges { AreEdgesOf (table_of frame.now) (variables_of frame.now) form.now (map edge_view edges.old.items) }
-    ensures edges { IfOk result (λ u. map edge_view edges.new.items ≡ map edge_view edges.old.items ++ filter (is_edge_kept kept) (edge_at (table_of frame.now) (variables_of frame.now) form.now (an_exit (outcome_view outcome) (target_view to)) ∷ [])) }
+    ensures edges { IfOk result (λ u. map edge_view edges.new.items ≡ pushed kept (map edge_view edges.old.items) (edge_at (table_of frame.now) (variables_of frame.now) form.now (an_exit (outcome_view outcome) (target_view to)))) }
 {
     let is_wanted = is_kept(kept, to);
     if !is_wanted {
         return Ok(());
     }
-    let change = change_of(alloc, frame, form, outcome, edges.as_slice())?;
-    edges.push(Edge {
-        outcome,
-        change,
-        to,
-    })?;
+    let edge = edge_of(alloc, frame, form, outcome, to, edges.as_slice())?;
+    let is_repeated = is_left_out(kept, edges.as_slice(), &edge);
+    if is_repeated {
+        return Ok(());
+    }
+    edges.push(edge)?;
     Ok(())
 }
 
@@ -89,7 +110,7 @@ fn follow(
     edges: &mut Vec<Edge>,
 ) -> Result<usize, AllocError>
     requires edges { AreEdgesOf (table_of frame.now) (variables_of frame.now) form.now (map edge_view edges.old.items) }
-    ensures edges { IfOk result (λ n. map edge_view edges.new.items ≡ map edge_view edges.old.items ++ filter (is_edge_kept kept) (map (edge_at (table_of frame.now) (variables_of frame.now) form.now) (exit_of (outcome_view outcome) (raised_in (outcome_view outcome)) (map target_view (drop taken leads.now)) (map catch_view catches.now)))) }
+    ensures edges { IfOk result (λ n. map edge_view edges.new.items ≡ pushed_all kept (map edge_view edges.old.items) (map (edge_at (table_of frame.now) (variables_of frame.now) form.now) (exit_of (outcome_view outcome) (raised_in (outcome_view outcome)) (map target_view (drop taken leads.now)) (map catch_view catches.now)))) }
     ensures left { IfOk result (λ n. map target_view (drop n leads.now) ≡ left_of (raised_in (outcome_view outcome)) (map target_view (drop taken leads.now))) }
 {
     let exception = exception_of(outcome);
@@ -119,7 +140,7 @@ fn edges_of(
     catches: &[Catch],
     kept: Kept,
 ) -> Result<Vec<Edge>, AllocError>
-    ensures edges { IfOk result (λ v. map edge_view v.items ≡ filter (is_edge_kept kept) (map (edge_at (table_of frame.now) (variables_of frame.now) form.now) (exits_from (map outcome_view outcomes.now) (map target_view leads.now) (map catch_view catches.now)))) }
+    ensures edges { IfOk result (λ v. map edge_view v.items ≡ kept_among kept (map (edge_at (table_of frame.now) (variables_of frame.now) form.now) (exits_from (map outcome_view outcomes.now) (map target_view leads.now) (map catch_view catches.now)))) }
 {
     let mut edges = Vec::with_capacity(alloc, outcomes.len())?;
     let mut taken = 0;
@@ -142,8 +163,8 @@ fn outcomes_at(alloc: Global, frame: &Frame, s: &TypedStmt) -> Result<Vec<Outcom
     Ok(found)
 }
 
-/// Those of them from which edges come that are kept, and what others come with them.
-#[tactic(auto, using(crate::proofs::KeptEdges::call_outcomes_kept))]
+/// Those of them from which the edges come that are kept, and what others come with them.
+#[tactic(auto, using(crate::proofs::KeptCalls::call_outcomes_kept))]
 fn kept_outcomes(
     alloc: Global,
     frame: &Frame,
@@ -152,7 +173,7 @@ fn kept_outcomes(
     kept: Kept,
 ) -> Result<Vec<Outcome>, AllocError>
     requires known { KnowsOutcomes (table_of frame.now) (variables_of frame.now) (out-TypedStmt s.now).form }
-    ensures exits { IfOk result (λ v. (leads : List TargetOf) → filter (is_exit_kept kept) (exits_from (map outcome_view v.items) leads (map catch_view catches.now)) ≡ filter (is_exit_kept kept) (exits_from (outcomes_of (table_of frame.now) (variables_of frame.now) (out-TypedStmt s.now).form) leads (map catch_view catches.now))) }
+    ensures edges { IfOk result (λ v. (leads : List TargetOf) → kept_among kept (map (edge_at (table_of frame.now) (variables_of frame.now) (out-TypedStmt s.now).form) (exits_from (map outcome_view v.items) leads (map catch_view catches.now))) ≡ kept_among kept (map (edge_at (table_of frame.now) (variables_of frame.now) (out-TypedStmt s.now).form) (exits_from (outcomes_of (table_of frame.now) (variables_of frame.now) (out-TypedStmt s.now).form) leads (map catch_view catches.now)))) }
 {
     if let Kept::Onward = kept {
         if let TypedForm::Call(o, _) = &s.form {
@@ -174,7 +195,7 @@ fn kept_edges(
     kept: Kept,
 ) -> Result<Vec<Edge>, AllocError>
     requires known { KnowsOutcomes (table_of frame.now) (variables_of frame.now) (out-TypedStmt s.now).form }
-    ensures edges { IfOk result (λ v. map edge_view v.items ≡ filter (is_edge_kept kept) (map (edge_at (table_of frame.now) (variables_of frame.now) (out-TypedStmt s.now).form) (exits_from (outcomes_of (table_of frame.now) (variables_of frame.now) (out-TypedStmt s.now).form) (map target_view leads.now) (map catch_view catches.now)))) }
+    ensures edges { IfOk result (λ v. map edge_view v.items ≡ kept_among kept (map (edge_at (table_of frame.now) (variables_of frame.now) (out-TypedStmt s.now).form) (exits_from (outcomes_of (table_of frame.now) (variables_of frame.now) (out-TypedStmt s.now).form) (map target_view leads.now) (map catch_view catches.now)))) }
 {
     let found = kept_outcomes(alloc, frame, s, catches, kept)?;
     let edges = edges_of(

@@ -6,7 +6,7 @@ ghost use Rattle.herm_flow.specs.Kept.{keeps};
 
 use crate::flow::Target;
 
-/// All edges, or those alone that lead on to points.
+/// All edges, or those alone that lead on to points and do not repeat the one before them.
 #[derive(Clone, Copy)]
 pub enum Kept {
     All,
@@ -24,7 +24,7 @@ pub fn is_point(to: Target) -> bool
     }
 }
 
-/// Whether an edge to a target is kept.
+/// Whether an edge to a target is kept, where it repeats none.
 pub fn is_kept(kept: Kept, to: Target) -> bool
     ensures kept { result ≡ keeps kept (target_view to) }
 {

@@ -9,6 +9,7 @@ mod flow;
 mod kept;
 mod parts;
 mod process;
+mod repeats;
 mod starts;
 mod walk;
 

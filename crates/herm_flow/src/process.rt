@@ -84,9 +84,11 @@ pub fn flow_of(alloc: Global, types: &TypeTable, p: &TypedProcess) -> Result<Flo
     Ok(Flow { points })
 }
 
-/// The flow of a process without its edges to ends, which no control path to a statement takes: what is held at points, what is
-/// missing there and by which paths are the same. Exceptions that no handler catches cost nothing, however many a callmessage declares.
-/// The types beside the paths of the process are those of the values at them.
+/// The flow of a process without its edges to ends, which no control path to a statement takes, and without repeats, in place of
+/// which a path may take the edge that they repeat: what is held at points, what is missing there and how long the paths are that
+/// show it are the same. An edge is left out where it leads where one of the last 64 that are left leads, and makes and takes away
+/// the same. Exceptions that no handler catches cost nothing, however many a callmessage declares. The types beside the paths of
+/// the process are those of the values at them.
 ///
 /// Where control reaches each statement, the flow begins at its first point.
 ///

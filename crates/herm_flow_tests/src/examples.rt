@@ -21,13 +21,19 @@ type vr = record { v: var_t };
 type pair = callmessage (inout a: rec, out b: string, in c: string, out d: rec);
 type pair_in = inport of pair;
 type pair_out = outport of pair_in;
+exception f;
+exception g;
+exception h;
+type many = callmessage (out r: integer, out s: integer) raises (e { full(r) }, g { full(s) }, f { full(r) }, h { full(r) });
+type many_in = inport of many;
+type many_out = outport of many_in;
 }
 ";
 
 /// Stands before the statements of a row.
 pub const BEFORE: &str = "\
 process main(start: main_start) { var i: integer, j: integer, s: string, t: string, b: boolean, c: color, r: rec, k: rec, v: var_t, w: var_t, \
-x: tab, li: li, lo: lo, q: ask, ai: ask_in, ao: ask_out, p: polymorph, o: polymorph, pr: pr, pt: pt, cv: cv, vr: vr, po: pair_out; ";
+x: tab, li: li, lo: lo, q: ask, ai: ask_in, ao: ask_out, p: polymorph, o: polymorph, pr: pr, pt: pt, cv: cv, vr: vr, po: pair_out, mo: many_out, lj: li; ";
 
 /// Stands behind the statements of a row.
 pub const BEHIND: &str = " }\n\

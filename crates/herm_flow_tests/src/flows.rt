@@ -77,7 +77,7 @@ const EXCEPTIONS: [(&str, &str); 10] = [
 ];
 
 /// Without edges to ends: statements, and their flow.
-const ONWARD: [(&str, &str); 4] = [
+const ONWARD: [(&str, &str); 9] = [
     ("i := i + 1;", "1/1"),
     (
         "try { call ao(s, t, i); } on e { i := 1; } j := 1;",
@@ -90,6 +90,26 @@ const ONWARD: [(&str, &str); 4] = [
     (
         "while b { try { try { call ao(s, t, i); } on e { i := 1; } } on Disconnected { } }",
         "1/1 t>1; 4/3 o>0 :6>0 :7>2; 5/0 o>0",
+    ),
+    (
+        "try { call mo(i, j); } on e { } on f { } on g { } on h { } on Disconnected { } b := true;",
+        "2/1 o>1 :6>1 :7>1 :9>1; 3/0",
+    ),
+    (
+        "try { call mo(i, j); } on e { i := 1; } on f { } on g { j := 1; } on h { i := 2; } b := true;",
+        "2/1 o>4 :7>1 :8>4 :9>2 :10>3; 3/0 o>4; 4/0 o>4; 5/0 o>4; 6/0",
+    ),
+    (
+        "try { call mo(i, j); } on h { } on g { i := 1; } on e { } b := true;",
+        "2/1 o>2 :7>2 :9>1; 3/0 o>2; 4/0",
+    ),
+    (
+        "select { when li receive i { } when lj receive i { } } b := true;",
+        "1/2 a0>1; 2/0",
+    ),
+    (
+        "select { when li receive i { } when lj receive j { } } b := true;",
+        "1/2 a0>1 a1>1; 2/0",
     ),
 ];
 
@@ -112,7 +132,7 @@ fn exceptions_lead_to_the_nearest_handlers(rt: HostRuntime) -> Result<(), Fail> 
 }
 
 #[test]
-fn edges_to_ends_are_left_out(rt: HostRuntime) -> Result<(), Fail> {
+fn edges_to_ends_and_repeats_are_left_out(rt: HostRuntime) -> Result<(), Fail> {
     for (statements, flow) in ONWARD {
         let found = line_for(rt.alloc(), statements, Asked::Onward)?;
         assert_eq!(rt; found.as_str(), flow, "{statements}");

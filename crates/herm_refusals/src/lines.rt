@@ -1,13 +1,13 @@
 //! The lines of refusals, written piece by piece.
 ghost use Rattle.std.specs.Prelude.{◌≡◌, ◌∷◌, ◌++◌, [], codes, decimal, get_or};
 ghost use Rattle.herm_edge.specs.Buffered.{held_bytes, IsSound, IsPut};
-ghost use Rattle.herm_words.specs.ToldWords.{told_trail, reason_words};
+ghost use Rattle.herm_words.specs.ToldWords.{trail_text, reason_words};
 ghost use Rattle.herm_refusals.specs.RefusalLines.{place_text, refusal_text, refusals_text};
 
 use crate::fault::Fault;
 use herm_base::Word;
 use herm_edge::{Sink, Unwritten, WriteBuffer, put};
-use herm_words::{Reason, Told};
+use herm_words::{Paths, Reason};
 use itoa::Buffer;
 
 /// Puts a number in decimal.
@@ -64,17 +64,17 @@ fn put_place<S: Sink>(
 fn put_trail<S: Sink>(
     sink: &mut S,
     buffer: &mut WriteBuffer,
-    told: &Told,
+    paths: &Paths,
     place: usize,
 ) -> Result<(), Unwritten>
     requires sound { IsSound buffer.old }
     ensures sound { IsSound buffer.new }
-    ensures put { IsPut (told_trail told.now place) (S.written sink.old) (S.written sink.new) (S.faults sink.old) (S.faults sink.new) (held_bytes buffer.old) (held_bytes buffer.new) result }
+    ensures put { IsPut (trail_text paths.now place) (S.written sink.old) (S.written sink.new) (S.faults sink.old) (S.faults sink.new) (held_bytes buffer.old) (held_bytes buffer.new) result }
 {
-    match told.last_stretch(place) {
+    match paths.last_stretch(place) {
         (None, text) => put(sink, buffer, text),
         (Some(before), text) => {
-            put_trail(sink, buffer, told, before)?;
+            put_trail(sink, buffer, paths, before)?;
             put(sink, buffer, text)
         }
     }
@@ -93,8 +93,8 @@ fn put_words<S: Sink>(
     match reason {
         Reason::Said(words) => put(sink, buffer, words.bytes()),
         Reason::Missing(missing) => {
-            put(sink, buffer, missing.told.head())?;
-            put_trail(sink, buffer, &missing.told, missing.place)
+            put(sink, buffer, missing.lost.head())?;
+            put_trail(sink, buffer, &missing.paths, missing.place)
         }
     }
 }

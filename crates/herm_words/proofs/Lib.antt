@@ -7,3 +7,4 @@ pub mod NumbersWithin
 pub mod Enough
 pub mod Trails
 pub mod Stretched
+pub mod Told

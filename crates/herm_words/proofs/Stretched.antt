@@ -3,11 +3,14 @@ use Rattle.std.proofs.Common.{◌≡◌, ◌≢◌, slice_set, replicate, ℕ, z
 use Rattle.std.proofs.lemmas.List.{reverse-append, take_all, take-append-le, drop-append-le, length-drop}
 use Rattle.std.proofs.Math.Seq.{drop-length}
 use Rattle.herm_model.specs.Lists.{list_of}
+use Rattle.herm_meaning.specs.Names.{NamedTable}
 use Rattle.herm_check.specs.declared.search.Link.{Link}
+use Rattle.herm_check.specs.declared.search.Visit.{Visit}
 use Rattle.herm_words.specs.declared.paths.Stretch.{Stretch}
 use Rattle.herm_words.specs.declared.paths.Paths.{Paths}
-use Rattle.herm_words.specs.ToldWords.{text_within, stretch_in, trail_by, trail_text}
-use Rattle.herm_words.specs.Stretches.{text_before, EndsText, AreTold, IsLaid}
+use Rattle.herm_words.specs.declared.sites.Site.{Site}
+use Rattle.herm_words.specs.ToldWords.{hops_text, text_within, stretch_in, trail_by, trail_text}
+use Rattle.herm_words.specs.Stretches.{text_before, EndsText, AreTold, IsLaid, AreLaid}
 use Rattle.herm_check.proofs.Joined.{same_or_not, set-here, set-elsewhere}
 use Rattle.herm_words.proofs.Enough.{guarded, unfolds}
 
@@ -133,6 +136,12 @@ laid-kept ss k j s within laid = by (same_or_not k j)
     by : (k ≡ j) ⊎ (k ≢ j) → IsLaid (slice_set ss k (Some s)) j
     by (inl e) = subst (IsLaid (slice_set ss k (Some s))) e (laid-here ss k s within)
     by (inr d) = (laid.0, ap (option_and_then (λ o. o)) (set-elsewhere ss k j (Some s) d) ∙ laid.1)
+
+-- the stretches are laid out of the visits that are kept
+pub laid-of : (types : NamedTable) (sites : List Site) (visits : List Visit) (paths : Paths) → paths.visits.items ≡ visits → length paths.stretches.items ≡ length visits
+    → AreTold (hops_text types sites visits) paths.hops.items paths.stretches.items → AreLaid types sites paths
+laid-of types sites visits paths kept many told =
+    record { many = many ∙ sym (ap length kept); told = subst (λ (vs : List Visit). AreTold (hops_text types sites vs) paths.hops.items paths.stretches.items) (sym kept) told }
 
 -- the text of a path by its last stretch, where the texts of the paths before it are given
 abbrev from_stretch : Paths → (ℕ → List ℕ) → ℕ → Option Stretch → List ℕ

@@ -10,7 +10,8 @@ use Rattle.herm_check.specs.declared.search.Link.{Link}
 use Rattle.herm_check.specs.declared.search.Visit.{Visit}
 use Rattle.herm_words.specs.declared.sites.Site.{Site}
 use Rattle.herm_words.specs.MissingFactWords.{hop_text}
-use Rattle.herm_words.specs.Stretches.{hops_text, linked_text}
+use Rattle.herm_words.specs.ToldWords.{hops_text}
+use Rattle.herm_words.specs.Stretches.{linked_text}
 use Rattle.herm_words.proofs.Enough.{guarded, unfolds}
 
 -- the hops by a link, where the hops that lead to each place are given

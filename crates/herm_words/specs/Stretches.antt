@@ -1,21 +1,14 @@
 -- Where the texts of paths lie, beside what these texts are: the text of the path to each place is given.
 use Rattle.std.specs.Prelude.{◌≡◌, ℕ, ◌<◌, ◌≤◌, List, [], ◌++◌, length, cond, nat_lt, Option, Some, None, slice_range}
-use Rattle.std.specs.List.{flat_map}
 use Rattle.herm_model.specs.Lists.{list_of}
 use Rattle.herm_meaning.specs.Names.{NamedTable}
 use Rattle.herm_check.specs.View.{hop_view}
-use Rattle.herm_check.specs.Trails.{trail}
 use Rattle.herm_check.specs.declared.search.Link.{Link}
-use Rattle.herm_check.specs.declared.search.Visit.{Visit}
 use Rattle.herm_words.specs.declared.sites.Site.{Site}
 use Rattle.herm_words.specs.declared.paths.Stretch.{Stretch}
 use Rattle.herm_words.specs.declared.paths.Paths.{Paths}
 use Rattle.herm_words.specs.MissingFactWords.{hop_text}
-use Rattle.herm_words.specs.ToldWords.{stretch_in}
-
--- the texts of the hops that lead to the visit at a place
-abbrev pub hops_text : NamedTable → List Site → List Visit → ℕ → List ℕ
-hops_text types sites visits k = flat_map (hop_text types sites) (trail visits k)
+use Rattle.herm_words.specs.ToldWords.{hops_text, stretch_in}
 
 -- The text of the path from which a link leads to a place. A link that does not lead back leads from nowhere.
 abbrev pub text_before : (ℕ → List ℕ) → ℕ → Link → List ℕ
@@ -43,6 +36,6 @@ abbrev pub IsLaid : List (Option Stretch) → ℕ → Type 0
 IsLaid stretches k = (s : Stretch) × (stretch_in stretches k ≡ Some s)
 
 -- There is room for the stretches of all visits, and those that were laid out are right.
-pub record AreLaid (types : NamedTable) (sites : List Site) (visits : List Visit) (paths : Paths) : Type 0 where
-  pub many : length paths.stretches.items ≡ length visits
-  pub told : AreTold (hops_text types sites visits) paths.hops.items paths.stretches.items
+pub record AreLaid (types : NamedTable) (sites : List Site) (paths : Paths) : Type 0 where
+  pub many : length paths.stretches.items ≡ length paths.visits.items
+  pub told : AreTold (hops_text types sites paths.visits.items) paths.hops.items paths.stretches.items

@@ -1,6 +1,6 @@
 //! Which names the words of refusals have, and whose sites they are.
 ghost use Rattle.herm_words.specs.laws.NodeLaws.{NodesNameVariants, SitesAreAsMany, SitesAreOfNodes};
-ghost use Rattle.herm_words.specs.laws.WordLaws.{ComponentsAreOfVariants};
+ghost use Rattle.herm_words.specs.laws.WordLaws.{ComponentsAreOfVariants, RefusalsAreTold};
 
 /// A component's name in the words of a hop is that of the variant at the path of the hop's `case`, where the types beside the paths of the process
 /// are those of the values there.
@@ -19,4 +19,9 @@ pub fn sites_are_of_nodes()
 /// are those of the values there.
 pub fn nodes_name_variants()
     ensures { NodesNameVariants }
+{}
+
+/// What is told of a fact and of a search are the words of the refusals for the fact at the places of the search.
+pub fn refusals_are_told()
+    ensures { RefusalsAreTold }
 {}

@@ -2,14 +2,16 @@
 #![tactic(auto)]
 
 pub mod laws;
+mod lost;
 mod names;
 mod order;
 mod paths;
+mod reading;
 mod reason;
 mod refusal;
 mod sites;
-mod told;
 
+pub use lost::{LostFact, lost_of};
+pub use paths::{Paths, paths_of};
 pub use reason::{MissingFact, Reason};
 pub use sites::{Site, sites_of};
-pub use told::{Told, told_of};

@@ -1,13 +1,13 @@
-//! Where the texts of control paths lie.
+//! The control paths of a search: its visits, and where the texts of the paths lie.
 ghost use Rattle.std.specs.Prelude.{◌≡◌, ◌<◌, ℕ, List, Some, None, replicate, length, slice_get, option_and_then, IfOk, OnOk};
 ghost use Rattle.herm_check.specs.declared.search.Visit.{Visit as VisitOf};
-ghost use Rattle.herm_words.specs.ToldWords.{trail_text, stretch_in};
-ghost use Rattle.herm_words.specs.Stretches.{hops_text, text_before, linked_text, EndsText, AreTold, IsLaid, AreLaid};
+ghost use Rattle.herm_words.specs.ToldWords.{hops_text, trail_text, stretch_in};
+ghost use Rattle.herm_words.specs.Stretches.{text_before, linked_text, EndsText, AreTold, IsLaid, AreLaid};
 
 use crate::order::order_of;
 use crate::refusal::push_hop;
 use crate::sites::Site;
-use herm_check::{Link, Visit};
+use herm_check::{Link, Search, Visit};
 use herm_types::TypeTable;
 use std::alloc::{AllocError, Global};
 
@@ -20,10 +20,11 @@ pub struct Stretch {
     pub end: usize,
 }
 
-/// The texts of the hops of all visits; and for each visit the last stretch of the path to it, once it is laid out. Hops that follow one another
-/// on a path and here are one stretch.
+/// The visits of a search, and the texts of the hops of all of them; and for each visit the last stretch of the path to it, once it is laid out. Hops that follow one another
+/// on a path and here are one stretch. All facts of the search share them.
 #[derive(Drop)]
 pub struct Paths {
+    pub visits: Vec<Visit>,
     pub hops: Vec<u8>,
     pub stretches: Vec<Option<Stretch>>,
 }
@@ -85,6 +86,7 @@ fn push_link(
     link: Option<Link>,
     paths: &mut Paths,
 ) -> Result<Stretch, AllocError>
+    ensures visits { OnOk result (paths.new.visits.items ≡ paths.old.visits.items) }
     ensures kept { OnOk result (paths.new.stretches.items ≡ paths.old.stretches.items) }
     ensures told { IfOk result (λ stretch. (texts : ℕ → List ℕ) → AreTold texts paths.old.hops.items paths.old.stretches.items → texts place ≡ linked_text types.now sites.now texts place link → AreTold texts paths.new.hops.items paths.old.stretches.items × EndsText texts paths.new.hops.items place (texts place) stretch) }
 {
@@ -101,23 +103,18 @@ fn push_link(
 }
 
 /// Lays out the text of the hop by which a visit was reached, where it was not yet.
-fn lay(
-    types: &TypeTable,
-    sites: &[Site],
-    visits: &[Visit],
-    place: usize,
-    paths: &mut Paths,
-) -> Result<(), AllocError>
-    requires within { place < length visits.now }
-    requires laid { AreLaid types.now sites.now visits.now paths.old }
-    ensures laid { OnOk result (AreLaid types.now sites.now visits.now paths.new) }
+fn lay(types: &TypeTable, sites: &[Site], place: usize, paths: &mut Paths) -> Result<(), AllocError>
+    requires within { place < length paths.old.visits.items }
+    requires laid { AreLaid types.now sites.now paths.old }
+    ensures visits { OnOk result (paths.new.visits.items ≡ paths.old.visits.items) }
+    ensures laid { OnOk result (AreLaid types.now sites.now paths.new) }
     ensures here { OnOk result (IsLaid paths.new.stretches.items place) }
     ensures kept { OnOk result ((k : ℕ) → IsLaid paths.old.stretches.items k → IsLaid paths.new.stretches.items k) }
 {
     if stretch_at(paths, place).is_some() {
         return Ok(());
     }
-    let link = link_at(visits, place);
+    let link = link_at(paths.visits.as_slice(), place);
     let stretch = push_link(types, sites, place, link, paths)?;
     paths.stretches[place] = Some(stretch);
     Ok(())
@@ -127,34 +124,30 @@ fn lay(
 fn lay_in_order(
     types: &TypeTable,
     sites: &[Site],
-    visits: &[Visit],
     order: &[usize],
     paths: &mut Paths,
 ) -> Result<(), AllocError>
-    requires { AreLaid types.now sites.now visits.now paths.old }
-    ensures { OnOk result (AreLaid types.now sites.now visits.now paths.new) }
+    requires { AreLaid types.now sites.now paths.old }
+    ensures visits { OnOk result (paths.new.visits.items ≡ paths.old.visits.items) }
+    ensures laid { OnOk result (AreLaid types.now sites.now paths.new) }
 {
     for place in order {
-        if *place < visits.len() {
-            lay(types, sites, visits, *place, paths)?;
+        if *place < paths.visits.len() {
+            lay(types, sites, *place, paths)?;
         }
     }
     Ok(())
 }
 
 /// Lays out all texts that were not yet.
-fn lay_all(
-    types: &TypeTable,
-    sites: &[Site],
-    visits: &[Visit],
-    paths: &mut Paths,
-) -> Result<(), AllocError>
-    requires laid { AreLaid types.now sites.now visits.now paths.old }
-    ensures laid { OnOk result (AreLaid types.now sites.now visits.now paths.new) }
-    ensures all { OnOk result ((k : ℕ) → k < length visits.now → IsLaid paths.new.stretches.items k) }
+fn lay_all(types: &TypeTable, sites: &[Site], paths: &mut Paths) -> Result<(), AllocError>
+    requires laid { AreLaid types.now sites.now paths.old }
+    ensures visits { OnOk result (paths.new.visits.items ≡ paths.old.visits.items) }
+    ensures laid { OnOk result (AreLaid types.now sites.now paths.new) }
+    ensures all { OnOk result ((k : ℕ) → k < length paths.new.visits.items → IsLaid paths.new.stretches.items k) }
 {
-    for place in 0..visits.len() {
-        lay(types, sites, visits, place, paths)?;
+    for place in 0..paths.visits.len() {
+        lay(types, sites, place, paths)?;
     }
     Ok(())
 }
@@ -166,21 +159,24 @@ fn nothing_laid(alloc: Global, count: usize) -> Result<Vec<Option<Stretch>>, All
     Ok(vec![in alloc; None; count]?)
 }
 
-/// The texts of the paths to all visits.
+/// The paths to the visits of a search, and their texts. `sites` are those of the process.
 pub fn paths_of(
     alloc: Global,
     types: &TypeTable,
     sites: &[Site],
-    visits: &[Visit],
+    search: Search,
 ) -> Result<Paths, AllocError>
-    ensures { IfOk result (λ paths. (place : ℕ) → trail_text paths place ≡ hops_text types.now sites.now visits.now place) }
+    ensures visits { IfOk result (λ paths. paths.visits.items ≡ search.visits.items) }
+    ensures text { IfOk result (λ paths. (place : ℕ) → trail_text paths place ≡ hops_text types.now sites.now search.visits.items place) }
 {
-    let order = order_of(alloc, visits)?;
+    let order = order_of(alloc, search.visits.as_slice())?;
+    let stretches = nothing_laid(alloc, search.visits.len())?;
     let mut paths = Paths {
+        visits: search.visits,
         hops: Vec::new(alloc),
-        stretches: nothing_laid(alloc, visits.len())?,
+        stretches,
     };
-    lay_in_order(types, sites, visits, order.as_slice(), &mut paths)?;
-    lay_all(types, sites, visits, &mut paths)?;
+    lay_in_order(types, sites, order.as_slice(), &mut paths)?;
+    lay_all(types, sites, &mut paths)?;
     Ok(paths)
 }

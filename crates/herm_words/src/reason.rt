@@ -4,18 +4,22 @@ ghost use Rattle.herm_types.specs.View.{fact_view};
 ghost use Rattle.herm_check.specs.View.{hop_view};
 ghost use Rattle.herm_words.specs.ToldWords.{refusal_view, missing_words, reason_words};
 
-use crate::told::{Told, push_told};
+use crate::lost::LostFact;
+use crate::paths::Paths;
+use crate::reading::push_trail;
 use herm_base::{StmtNo, Word};
 use herm_check::{Hop, trail};
 use herm_types::Fact;
 use std::alloc::{AllocError, Global};
 use std::rc::Rc;
 
-/// A fact that a statement needs, and a control path to the statement on which the fact is not held. What is told of the fact is shared by all refusals for it, and `place` is that of the path in it.
+/// A fact that a statement needs, and a control path to the statement on which the fact is not held. What is told of the fact is shared by all refusals for it, and the paths by all
+/// that were found by the search; `place` is that of the path among these.
 #[derive(Drop)]
 pub struct MissingFact {
     pub stmt: StmtNo,
-    pub told: Rc<Told>,
+    pub lost: Rc<LostFact>,
+    pub paths: Rc<Paths>,
     pub place: usize,
 }
 
@@ -23,14 +27,14 @@ impl MissingFact {
     pub fn fact(&self) -> &Fact
         ensures { fact_view result.now ≡ (refusal_view self.now).fact }
     {
-        &self.told.fact
+        &self.lost.fact
     }
 
     /// The hops of the path.
     pub fn path(&self, alloc: Global) -> Result<Vec<Hop>, AllocError>
         ensures { IfOk result (λ hops. map hop_view hops.items ≡ (refusal_view self.now).path) }
     {
-        trail(alloc, self.told.visits.as_slice(), self.place)
+        trail(alloc, self.paths.visits.as_slice(), self.place)
     }
 
     /// The words of the refusal, as one text.
@@ -38,8 +42,8 @@ impl MissingFact {
         ensures { IfOk result (λ words. words ≡ missing_words self.now) }
     {
         let mut out = Vec::new(alloc);
-        out.extend_from_slice(self.told.head())?;
-        push_told(alloc, &self.told, self.place, &mut out)?;
+        out.extend_from_slice(self.lost.head())?;
+        push_trail(alloc, &self.paths, self.place, &mut out)?;
         Ok(Word::from_vec(out))
     }
 }

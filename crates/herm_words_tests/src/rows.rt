@@ -3,7 +3,7 @@
 //! `c`, `a` or `e` with the number of a component, an arm or an exception. Each hop leads to a visit, numbered from 1 on, from the visit before it, or from
 //! the one whose digit stands before it, as in `2>4o`; visit 0 is reached by no hop.
 use herm_base::{ExcNo, StmtNo, VarNo};
-use herm_check::{FactSearch, Hop, Link, Search, Visit};
+use herm_check::{FactSet, Hop, Link, Search, Visit};
 use herm_typed::Outcome;
 use herm_types::{Fact, Path};
 use std::alloc::{AllocError, Global};
@@ -28,7 +28,8 @@ fn path_of(alloc: Global, word: &[u8]) -> Result<Path, AllocError> {
     })
 }
 
-fn fact_of(alloc: Global, word: &[u8]) -> Result<Fact, AllocError> {
+/// The fact of a word.
+pub fn fact_of(alloc: Global, word: &[u8]) -> Result<Fact, AllocError> {
     match word {
         [path @ .., b'=', component] => {
             let path = path_of(alloc, path)?;
@@ -90,13 +91,14 @@ fn visit_by(last: Option<Link>) -> Visit {
     Visit {
         point: 0,
         held: false,
+        facts: FactSet::none(),
         depth: 0,
         last,
     }
 }
 
-/// The search of a row, behind the process's number. Of its visits only the links count.
-pub fn search_of(alloc: Global, row: &str) -> Result<FactSearch, AllocError> {
+/// The fact of a row and a search, behind the process's number. Of the visits only the links count.
+pub fn search_of(alloc: Global, row: &str) -> Result<(Fact, Search), AllocError> {
     let mut words = row.split_whitespace();
     let first = words.next();
     let fact = match words.next() {
@@ -112,11 +114,10 @@ pub fn search_of(alloc: Global, row: &str) -> Result<FactSearch, AllocError> {
         visits.push(visit_by(Some(link)))?;
     }
     let _ = first;
-    Ok(FactSearch {
-        fact,
-        search: Search {
-            visits,
-            places: Vec::new(alloc),
-        },
-    })
+    let search = Search {
+        visits,
+        seen: Vec::new(alloc),
+        places: Vec::new(alloc),
+    };
+    Ok((fact, search))
 }

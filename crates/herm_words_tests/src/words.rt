@@ -1,8 +1,8 @@
 //! Words of refusals, written by hand from the rules.
 use crate::program::{Meant, read_program};
-use crate::rows::{digit, search_of};
+use crate::rows::{digit, fact_of, search_of};
 use herm_base::StmtNo;
-use herm_words::{MissingFact, Told, sites_of, told_of};
+use herm_words::{LostFact, MissingFact, Paths, lost_of, paths_of, sites_of};
 use std::alloc::{AllocError, Global};
 use std::rc::Rc;
 use std::test::Fail;
@@ -146,26 +146,54 @@ needs init(i) by start 9:true
 needs init(i) by start
 ";
 
-/// What is told of a row; none where there is no process of its number.
-fn told(alloc: Global, meant: &Meant, row: &str) -> Result<Option<Told>, AllocError> {
-    let place = match row.as_bytes().first() {
+/// Facts that share the paths of `SHARED`, and their words at the visit with this number.
+const FACTS_WORDS: [(&str, usize, &str); 4] = [
+    ("8", 7, "needs init(i) by start 6:true 7:ok 9:true 10:ok"),
+    (
+        "2=1",
+        7,
+        "needs case(u,pale) by start 6:true 7:ok 9:true 10:ok",
+    ),
+    ("31", 2, "needs init(b.right) by start 6:false"),
+    ("1=0", 0, "needs case(v,red) by start"),
+];
+
+/// What is told of a fact and of a search.
+#[derive(Drop)]
+struct Told {
+    lost: Rc<LostFact>,
+    paths: Rc<Paths>,
+}
+
+/// The number of a row's process.
+fn process_of(row: &str) -> usize {
+    match row.as_bytes().first() {
         Some(byte) => digit(*byte) as usize,
         None => 0,
-    };
-    let Some(process) = meant.program.processes.as_slice().get(place) else {
+    }
+}
+
+/// What is told of a row; none where there is no process of its number.
+fn told_of_row(alloc: Global, meant: &Meant, row: &str) -> Result<Option<Told>, AllocError> {
+    let Some(process) = meant.program.processes.as_slice().get(process_of(row)) else {
         return Ok(None);
     };
     let sites = sites_of(alloc, process)?;
-    let searched = search_of(alloc, row)?;
-    let told = told_of(alloc, &meant.types, process, sites.as_slice(), searched)?;
-    Ok(Some(told))
+    let (fact, search) = search_of(alloc, row)?;
+    let lost = lost_of(alloc, &meant.types, process, fact)?;
+    let paths = paths_of(alloc, &meant.types, sites.as_slice(), search)?;
+    Ok(Some(Told {
+        lost: Rc::new(alloc, lost)?,
+        paths: Rc::new(alloc, paths)?,
+    }))
 }
 
 /// The words of a refusal at a place.
-fn words_at(alloc: Global, told: &Rc<Told>, place: usize) -> Result<String, AllocError> {
+fn words_at(alloc: Global, told: &Told, place: usize) -> Result<String, AllocError> {
     let missing = MissingFact {
         stmt: StmtNo(0),
-        told: told.clone()?,
+        lost: told.lost.clone()?,
+        paths: told.paths.clone()?,
         place,
     };
     let mut text = String::new(alloc);
@@ -177,21 +205,20 @@ fn words_at(alloc: Global, told: &Rc<Told>, place: usize) -> Result<String, Allo
 
 /// The words of a refusal on the whole path of a row.
 fn said(alloc: Global, meant: &Meant, row: &str) -> Result<String, AllocError> {
-    let Some(told) = told(alloc, meant, row)? else {
+    let Some(told) = told_of_row(alloc, meant, row)? else {
         return String::from_str(alloc, "no process");
     };
-    let hops = told.visits.len().saturating_sub(1);
-    words_at(alloc, &Rc::new(alloc, told)?, hops)
+    let hops = told.paths.visits.len().saturating_sub(1);
+    words_at(alloc, &told, hops)
 }
 
 /// The words at each place of a row, and at the place behind the last, each in a line.
 fn said_at_each(alloc: Global, meant: &Meant, row: &str) -> Result<String, AllocError> {
-    let Some(told) = told(alloc, meant, row)? else {
+    let Some(told) = told_of_row(alloc, meant, row)? else {
         return String::from_str(alloc, "no process");
     };
-    let told = Rc::new(alloc, told)?;
     let mut text = String::new(alloc);
-    for place in 0..=told.visits.len() {
+    for place in 0..=told.paths.visits.len() {
         text.push_str(words_at(alloc, &told, place)?.as_str())?;
         text.push('\n')?;
     }
@@ -236,6 +263,40 @@ fn paths_share_their_texts(rt: HostRuntime) -> Result<(), Fail> {
     for (row, wants) in [(SHARED, SHARED_WORDS), (ASTRAY, ASTRAY_WORDS)] {
         let said = said_at_each(alloc, &meant, row)?;
         assert_eq!(rt; said.as_str(), wants, "{row}");
+    }
+    Ok(())
+}
+
+#[test]
+fn facts_share_a_search(rt: HostRuntime) -> Result<(), Fail> {
+    let alloc = rt.alloc();
+    let Some(meant) = read_program(alloc, FORMS)? else {
+        assert!(rt; false, "no program");
+        return Ok(());
+    };
+    let Some(process) = meant.program.processes.as_slice().first() else {
+        assert!(rt; false, "no process");
+        return Ok(());
+    };
+    let sites = sites_of(alloc, process)?;
+    let (_, search) = search_of(alloc, SHARED)?;
+    let paths = Rc::new(
+        alloc,
+        paths_of(alloc, &meant.types, sites.as_slice(), search)?,
+    )?;
+    for (fact, place, want) in FACTS_WORDS {
+        let lost = lost_of(
+            alloc,
+            &meant.types,
+            process,
+            fact_of(alloc, fact.as_bytes())?,
+        )?;
+        let told = Told {
+            lost: Rc::new(alloc, lost)?,
+            paths: paths.clone()?,
+        };
+        let said = words_at(alloc, &told, place)?;
+        assert_eq!(rt; said.as_str(), want, "{fact}");
     }
     Ok(())
 }

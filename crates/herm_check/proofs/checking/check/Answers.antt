@@ -11,7 +11,7 @@ returns-then-count-eq0-clause-accepted c =
     let flow = flow_view c.args.flow.now in
     let missing = c.in_ok-missing.missing in
     let none : length missing.facts.items ≡ 0 = omega (arith, c.len-count.ensures, missing.facts.ok) in
-    none-reported flow (demands flow) (refusals_of missing) c.in_ok-missing.ensures.reported (ap (map (refusal_of missing.searches.items)) (nil_from_length missing.facts.items none))
+    none-reported flow (demands flow) (refusals_of missing) c.in_ok-missing.ensures.reported (ap (map (refusal_of missing.lost.items missing.searches.items)) (nil_from_length missing.facts.items none))
 
 pub returns-clause-missing : goal.returns-clause-missing
 returns-clause-missing c =

@@ -1,38 +1,54 @@
-use Rattle.std.proofs.Common.{◌≡◌, ◌+◌, ◌<◌, ◌++◌, ◌∷◌, [], length, map, flat_map, take, get_or, true, false, ◌↔◌, refl, sym, ◌∙◌, ap, subst, arith}
+use Rattle.std.proofs.Common.{◌≡◌, ◌+◌, ◌<◌, ◌++◌, ◌∷◌, [], length, map, flat_map, take, get_or, true, false, Some, slice_get, ◌↔◌, refl, sym, ◌∙◌, ap, subst, arith}
 use Rattle.std.proofs.lemmas.List.{map_more, take_all, length-take-le}
 use Rattle.std.proofs.lemmas.Option.{slice_get_read}
 use Rattle.herm_model.specs.Lists.{IsIn, map_or, numbered}
 use Rattle.herm_model.specs.ControlPaths.{Holds}
 use Rattle.herm_model.specs.MissingFacts.{demands_at}
 use Rattle.herm_model.proofs.Lists.{length-map}
+use Rattle.herm_types.specs.View.{fact_view}
 use Rattle.herm_typestate.specs.declared.state.State.{State}
 use Rattle.herm_typestate.specs.Facts.{has_fact}
 use Rattle.herm_flow.specs.View.{point_view, flow_view}
 use Rattle.herm_check.specs.declared.missing.Missing.{Missing}
-use Rattle.herm_check.specs.Missing.{AreMissing}
-use Rattle.herm_check.proofs.Making.{nothing-known}
+use Rattle.herm_check.specs.Searched.{AreSearched}
+use Rattle.herm_check.specs.Missing.{AreNoted, AreMissing}
+use Rattle.herm_check.proofs.Places.{point-at}
 use Rattle.herm_check.proofs.Reported.{demands-more, none-missing}
 use Rattle.herm_check.proofs.missing.lacking.Goals as goal
 
 pub loop-i-init : goal.loop-i-init
 loop-i-init c =
-    let begun : Missing = record { searches = c.new.result; facts = c.new-2.result } in
+    let begun : Missing = record { lost = c.in_ok-lost.lost; searches = c.in_ok-searches.searches; facts = c.new.result } in
     record {
-      known = nothing-known (flow_view c.args.flow.now) c.new-known.result.items c.new-known.ensures.items;
-      searched = λ s member. absurd (subst (IsIn s) c.new.ensures.items member);
-      missing = none-missing (flow_view c.args.flow.now) begun c.new-2.ensures.items;
+      noted = c.in_ok-lost.ensures.noted;
+      searched = subst (λ xs. AreSearched (flow_view c.args.flow.now) (map fact_view xs) c.in_ok-searches.searches.items) c.as_slice.ensures.value c.in_ok-searches.ensures;
+      missing = none-missing (flow_view c.args.flow.now) begun c.new.ensures.items;
     }
+
+-- the facts that the label of the point at a place lacks have numbers
+pub push_point-requires-clause-noted : goal.push_point-requires-clause-noted
+push_point-requires-clause-noted c f member lacks =
+    let points = c.args.flow.now.points.items in
+    let states = c.args.labels.now.at.items in
+    let i = c.loop-i.i in
+    let point = c.point-item.result in
+    let state = c.index.result.now in
+    let many : length c.as_slice-point-items.result.now ≡ length points = ap length c.as_slice-point-items.ensures.value in
+    let within : i < length points = omega (arith, many) in
+    let inside : i < length states = omega (arith, c.requires.many, many) in
+    let is = subst (λ xs. point ≡ get_or xs i point) c.as_slice-point-items.ensures.value c.point-item.is in
+    c.loop-i.invariant.noted i (point_view point) state f (point-at points i point within is) (slice_get_read states (length states) i state refl inside c.index.ensures) member lacks
 
 pub push_point-requires-clause-exact : goal.push_point-requires-clause-exact
 push_point-requires-clause-exact c f =
     let points = c.args.flow.now.points.items in
     let states = c.args.labels.now.at.items in
     let i = c.loop-i.i in
-    let state = c.index-state.result.now in
+    let state = c.index.result.now in
     let many : length c.as_slice-point-items.result.now ≡ length points = ap length c.as_slice-point-items.ensures.value in
     let within : i < length points = omega (arith, many) in
     let inside : i < length states = omega (arith, c.requires.many, many) in
-    let is = slice_get_read states (length states) i state refl inside c.index-state.ensures in
+    let is = slice_get_read states (length states) i state refl inside c.index.ensures in
     subst (λ b. (b ≡ true) ↔ Holds (flow_view c.args.flow.now) f i) (ap (map_or false (λ (s : State). has_fact s f)) is) (c.requires.exact i f (c.requires.reached i within))
 
 pub loop-i-preserved : goal.loop-i-preserved
@@ -46,9 +62,11 @@ loop-i-preserved c =
     let is = subst (λ xs. point ≡ get_or xs i point) c.as_slice-point-items.ensures.value c.point-item.is in
     let place : i ≡ 0 + length so_far = omega (arith, length-map point_view (take i points), length-take-le i points (omega arith)) in
     let next = map_more point_view points i point within ∙ ap (λ x. so_far ++ point_view x ∷ []) (sym is) in
+    let lost = c.in_ok-push_point.ensures.lost in
+    let searches = c.in_ok-push_point.ensures.searches in
     record {
-      known = c.in_ok-push_point.ensures.known;
-      searched = c.in_ok-push_point.ensures.searched;
+      noted = subst (AreNoted (flow_view c.args.flow.now) c.args.labels.now) (sym lost) c.loop-i.invariant.noted;
+      searched = subst (λ xs. AreSearched (flow_view c.args.flow.now) (map fact_view xs) c.push_point.new.out.searches.items) (sym lost) (subst (AreSearched (flow_view c.args.flow.now) (map fact_view c.loop-i.out.lost.items)) (sym searches) c.loop-i.invariant.searched);
       missing =
           subst (λ ds. AreMissing (flow_view c.args.flow.now) ds c.push_point.new.out)
           (ap (λ n. flat_map demands_at (numbered 0 so_far) ++ demands_at (n, point_view point)) place ∙ (sym (demands-more 0 so_far (point_view point)) ∙ ap (λ ps. flat_map demands_at (numbered 0 ps)) (sym next)))

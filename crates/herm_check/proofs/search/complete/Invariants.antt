@@ -1,16 +1,11 @@
-use Rattle.std.proofs.Common.{◌*◌, ◌-◌, ◌≤◌, length}
+use Rattle.std.proofs.Common.{◌*◌, ◌-◌, map, length}
 use Rattle.herm_types.specs.View.{fact_view}
 use Rattle.herm_flow.specs.View.{flow_view}
-use Rattle.herm_check.specs.Searched.{IsSearch, IsNear, AreLeft}
+use Rattle.herm_check.specs.Searched.{IsSearching}
 use Rattle.herm_check.proofs.search.complete.Given as goal
 
 abbrev pub invariant-loop-next : goal.invariant-loop-next
-invariant-loop-next l = record {
-  search : IsSearch (flow_view l.flow) (fact_view l.fact) l.search.visits.items l.search.places.items;
-  next : l.next ≤ length l.search.visits.items;
-  near : IsNear l.search.visits.items l.next;
-  left : AreLeft (flow_view l.flow) (fact_view l.fact) l.search.visits.items l.next;
-}
+invariant-loop-next l = IsSearching (flow_view l.flow) (map fact_view l.facts) l.search l.next
 
 abbrev pub decreases-loop-next : goal.decreases-loop-next
-decreases-loop-next l = 2 * length l.flow.points.items - l.next
+decreases-loop-next l = 64 * (2 * length l.flow.points.items) - l.next

@@ -1,118 +1,126 @@
-use Rattle.std.proofs.Common.{◌≡◌, ℕ, ◌+◌, Bool, true, false, ◌<◌, ◌++◌, ◌∷◌, [], List, map, take, length, get_or, Some, slice_get, refl, sym, ap, subst, ◌∙◌, arith}
-use Rattle.std.proofs.lemmas.Option.{slice_get_read}
+use Rattle.std.proofs.Common.{◌≡◌, ℕ, ◌<◌, ◌++◌, ◌∷◌, [], List, Vec, Global, map, take, length, get_or, Some, option_map, slice_get, refl, sym, ap, subst, ◌∙◌, arith}
+use Rattle.std.proofs.lemmas.Option.{slice_get_read, slice_get-get_or, slice_get_within}
 use Rattle.std.proofs.lemmas.List.{map_more, take_all}
+use Rattle.herm_model.specs.Lists.{IsIn}
+use Rattle.herm_model.specs.Paths.{Fact}
 use Rattle.herm_model.specs.laws.FlowLaws.{IsThere}
-use Rattle.herm_model.proofs.Lists.{length-map}
+use Rattle.herm_model.proofs.Lists.{length-map, slice_get-map}
 use Rattle.herm_model.proofs.FactTests.{got-IsIn}
 use Rattle.herm_types.specs.View.{fact_view}
+use Rattle.herm_flow.specs.declared.flow.Edge.{Edge}
+use Rattle.herm_flow.specs.declared.flow.Flow.{Flow}
 use Rattle.herm_flow.specs.declared.flow.Point.{Point}
-use Rattle.herm_check.specs.declared.search.Visit.{Visit}
 use Rattle.herm_flow.specs.View.{edge_view, point_view, flow_view}
-use Rattle.herm_model.specs.Lists.{map_or}
-use Rattle.herm_check.specs.Followed.{IsLike}
-use Rattle.herm_check.specs.declared.made.KnownEdges.{KnownEdges}
-use Rattle.herm_check.proofs.Making.{made-there, alike-there, at-seen, take-seen}
+use Rattle.herm_check.specs.declared.effects.Effect.{Effect}
+use Rattle.herm_check.specs.declared.search.Search.{Search}
+use Rattle.herm_check.specs.declared.search.Visit.{Visit}
+use Rattle.herm_check.specs.Known.{IsEffect, AreEffects, AreEffectsIn}
+use Rattle.herm_check.specs.Searched.{AreVisits, IsNear, AreFollowed}
+use Rattle.herm_check.specs.Labelled.{LeadThere}
 use Rattle.herm_check.proofs.Places.{edge-in, point-at}
-use Rattle.herm_check.proofs.Searched.{one-at, depth-within}
-use Rattle.herm_check.proofs.Following.{IsFollowing, passed, follows, left-more}
+use Rattle.herm_check.proofs.Searched.{one-at}
+use Rattle.herm_check.proofs.Following.{IsFollowing, followed, left-more, near-left}
 use Rattle.herm_check.proofs.search.leave.Goals as goal
 
--- what is said of an edge of a point
-abbrev alike_at : List KnownEdges → ℕ → ℕ → Bool
-alike_at known i j = map_or false (λ (k : KnownEdges). map_or false (λ b. b) (slice_get k.alike.items j)) (slice_get known i)
+-- The visit at a place, its point, and what that point's edges do.
+record IsHere (flow : Flow) (facts : List Fact) (old : List Visit) (k : ℕ) (u : Visit) (p : Point) (row : List Effect) : Type 0 where
+  visit : slice_get old k ≡ Some u
+  point : slice_get (flow_view flow).points u.point ≡ Some (point_view p)
+  effects : AreEffects facts (point_view p).edges row
 
--- the point of a visit
-here : (points : List Point) (u : Visit) (p : Point) → u.point < length (map point_view points) → p ≡ get_or points u.point p → slice_get (map point_view points) u.point ≡ Some (point_view p)
-here points u p within is = point-at points u.point p (subst (λ n. u.point < n) (length-map point_view points) within) is
-
-pub loop-edge-init : goal.loop-edge-init
-loop-edge-init c =
-    let old = c.args.search.now.visits.items in
-    let u = c.index.result.now in
-    let is = slice_get_read old (length old) c.args.k u refl c.requires.within c.index.ensures in
-    record { following = follows (flow_view c.args.flow.now) (fact_view c.args.fact.now) old c.args.search.now.places.items c.args.k u is c.requires.search c.requires.near; at = refl }
-
-pub pass-requires-clause-within : goal.pass-requires-clause-within
-pass-requires-clause-within c t to =
-    let points = c.args.flow.now.points.items in
-    let old = c.args.search.now.visits.items in
-    let u = c.index.result.now in
-    let p = c.index-point.result.now in
-    let e = c.edge-item.result in
-    let is = slice_get_read old (length old) c.args.k u refl c.requires.within c.index.ensures in
-    let at = here points u p (c.requires.search.there c.args.k u is) c.index-point.ensures in
-    let inside : t < length (map point_view points) = subst (IsThere (length (map point_view points))) to (c.requires.there (point_view p) (edge_view e) (got-IsIn (map point_view points) u.point (point_view p) at)
-    (edge-in p c.deref-edge-items.result.now c.loop-edge.edge-index e c.deref-edge-items.ensures.value c.loop-edge-test.true c.edge-item.is)) in
-    omega (arith, inside, c.loop-edge.invariant.following.search.many)
-
-pub pass-requires-clause-few : goal.pass-requires-clause-few
-pass-requires-clause-few c =
-    let old = c.args.search.now.visits.items in
-    let u = c.index.result.now in
-    let is = slice_get_read old (length old) c.args.k u refl c.requires.within c.index.ensures in
-    let deep = depth-within (flow_view c.args.flow.now) (fact_view c.args.fact.now) old c.args.search.now.places.items c.requires.search c.args.k u is in
-    omega (arith, deep, c.requires.within, c.args.search.now.visits.small)
-
-pub pass-requires-clause-made : goal.pass-requires-clause-made
-pass-requires-clause-made c makes =
-    let points = c.args.flow.now.points.items in
-    let old = c.args.search.now.visits.items in
-    let u = c.index.result.now in
-    let p = c.index-point.result.now in
-    let e = c.edge-item.result in
-    let is = slice_get_read old (length old) c.args.k u refl c.requires.within c.index.ensures in
-    let at = here points u p (c.requires.search.there c.args.k u is) c.index-point.ensures in
-    made-there (flow_view c.args.flow.now) c.args.known.now u.point (point_view p) (edge_view e) (fact_view c.args.fact.now) c.may_make-may_make.result c.requires.known at
-    (edge-in p c.deref-edge-items.result.now c.loop-edge.edge-index e c.deref-edge-items.ensures.value c.loop-edge-test.true c.edge-item.is) c.may_make-may_make.ensures makes
-
-pub loop-edge-preserved : goal.loop-edge-preserved
-loop-edge-preserved c =
-    let points = c.args.flow.now.points.items in
-    let flow = flow_view c.args.flow.now in
-    let f = fact_view c.args.fact.now in
-    let old = c.args.search.now.visits.items in
-    let u = c.index.result.now in
-    let p = c.index-point.result.now in
-    let e = c.edge-item.result in
-    let items = c.deref-edge-items.result.now in
-    let k = c.loop-edge.edge-index in
-    let is = slice_get_read old (length old) c.args.k u refl c.requires.within c.index.ensures in
-    let at = here points u p (c.requires.search.there c.args.k u is) c.index-point.ensures in
-    let member = edge-in p items k e c.deref-edge-items.ensures.value c.loop-edge-test.true c.edge-item.is in
-    let inside = c.requires.there (point_view p) (edge_view e) (got-IsIn (map point_view points) u.point (point_view p) at) member in
-    let seen : slice_get (point_view p).edges k ≡ Some (edge_view e) = subst (λ xs. slice_get (map edge_view xs) k ≡ Some (edge_view e)) c.deref-edge-items.ensures.value (at-seen edge_view items k e c.loop-edge-test.true c.edge-item.is) in
-    let like : c.is_alike-alike.result ≡ true → IsLike (edge_view e) (map edge_view (take k items)) = λ yes.
-    subst (IsLike (edge_view e)) (ap (λ xs. take k (map edge_view xs)) (sym c.deref-edge-items.ensures.value) ∙ sym (take-seen edge_view items k))
-    (alike-there flow c.args.known.now u.point (point_view p) k (edge_view e) c.is_alike-alike.result c.requires.known at seen (c.is_alike-alike.ensures ∙ ap (λ n. alike_at c.args.known.now u.point n) c.loop-edge.invariant.at) yes) in
+at-visit : (flow : Flow) (facts : List Fact) (effects : List (Vec Effect Global)) (search : Search) (k : ℕ) (u : Visit) (p : Point) (row : Vec Effect Global) (now : List Effect) → AreVisits (flow_view flow) search → AreEffectsIn (flow_view flow) facts effects
+    → k < length search.visits.items → u ≡ get_or search.visits.items k u → p ≡ get_or flow.points.items u.point p → row ≡ get_or effects u.point row → now ≡ row.items → IsHere flow facts search.visits.items k u p now
+at-visit flow facts effects search k u p row now visits are within is at in_row same =
+    let visit = slice_get_read search.visits.items (length search.visits.items) k u refl within is in
+    let inside : u.point < length (map point_view flow.points.items) = visits.there k u visit in
+    let many = length-map point_view flow.points.items in
+    let point = point-at flow.points.items u.point p (omega (arith, inside, many)) at in
     record {
-      following = subst (λ es. IsFollowing flow f old c.pass.new.search.visits.items c.pass.new.search.places.items u es)
-          (ap (λ x. map edge_view (take k items) ++ edge_view x ∷ []) c.edge-item.is ∙ sym (map_more edge_view items k e c.loop-edge-test.true))
-          (passed flow f old c.args.k u (point_view p) (edge_view e) is at member inside c.loop-edge.search.visits.items c.pass.new.search.visits.items c.loop-edge.search.places.items c.pass.new.search.places.items (map edge_view (take k items)) c.is_alike-alike.result c.loop-edge.invariant.following like c.in_ok-pass.ensures);
-      at = ap (λ n. n + 1) c.loop-edge.invariant.at;
+      visit = visit;
+      point = point;
+      effects = subst (AreEffects facts (point_view p).edges) (sym same) (are.each u.point (point_view p) row point (slice_get_read effects (length effects) u.point row refl (omega (arith, inside, are.many)) in_row));
     }
 
-pub returns-clause-near : goal.returns-clause-near
-returns-clause-near c j u v is at =
-    let old = c.args.search.now.visits.items in
-    let w = c.index.result.now in
-    let before = slice_get_read old (length old) c.args.k w refl c.requires.within c.index.ensures in
-    let same : w ≡ u = one-at (slice_get c.loop-edge.search.visits.items c.args.k) w u (c.loop-edge.invariant.following.kept c.args.k w before) is in
-    let near = c.loop-edge.invariant.following.near j v at in
-    let deep = ap (λ (x : Visit). x.depth) same in
-    omega (arith, near, deep)
+module _ (flow : Flow) (facts : List Fact) (old : List Visit) (k : ℕ) (u : Visit) (p : Point) (row : List Effect) (h : IsHere flow facts old k u p row) (n : ℕ) (inside : n < length p.edges.items) where
+  in-row : n < length row
+  in-row = let many = length-map edge_view p.edges.items in omega (arith, inside, many, h.effects.many)
 
-pub returns-clause-left : goal.returns-clause-left
-returns-clause-left c =
-    let points = c.args.flow.now.points.items in
+  module _ (e : Edge) (is : e ≡ get_or p.edges.items n e) where
+    member : IsIn (edge_view e) (point_view p).edges
+    member = edge-in p p.edges.items n e refl inside is
+
+    leads-there : LeadThere (flow_view flow) → IsThere (length (flow_view flow).points) (edge_view e).target
+    leads-there there = there (point_view p) (edge_view e) (got-IsIn (flow_view flow).points u.point (point_view p) h.point) member
+
+    does : (other : Effect) → IsEffect facts (edge_view e) (get_or row n other)
+    does other = h.effects.each n (edge_view e) (get_or row n other) (slice_get-map edge_view p.edges.items n ∙ ap (option_map edge_view) (slice_get_read p.edges.items (length p.edges.items) n e refl inside is)) (slice_get-get_or row n other in-row)
+
+pub bounds-row-number : goal.bounds-row-number
+bounds-row-number c =
+    let h = at-visit c.args.flow.now (map fact_view c.args._facts.now) c.args.effects.now c.args.search.now c.args.k c.index.result.now c.index-point.result.now c.index-effects-visit.result c.as_slice-row.result.now c.requires.search.visits c.requires.effects c.requires.within c.index.ensures c.index-point.ensures c.index-effects-visit.is c.as_slice-row.ensures.value in
+    in-row c.args.flow.now (map fact_view c.args._facts.now) c.args.search.now.visits.items c.args.k c.index.result.now c.index-point.result.now c.as_slice-row.result.now h c.loop-number.number (omega (arith, c.loop-number-test.true, c.len-number-end.ensures, c.index-point.result.now.edges.ok))
+
+pub offset_bounds-row-number : goal.offset_bounds-row-number
+offset_bounds-row-number c =
+    let h = at-visit c.args.flow.now (map fact_view c.args._facts.now) c.args.effects.now c.args.search.now c.args.k c.index.result.now c.index-point.result.now c.index-effects-visit.result c.as_slice-row.result.now c.requires.search.visits c.requires.effects c.requires.within c.index.ensures c.index-point.ensures c.index-effects-visit.is c.as_slice-row.ensures.value in
+    let inside = in-row c.args.flow.now (map fact_view c.args._facts.now) c.args.search.now.visits.items c.args.k c.index.result.now c.index-point.result.now c.as_slice-row.result.now h c.loop-number.number (omega (arith, c.loop-number-test.true, c.len-number-end.ensures, c.index-point.result.now.edges.ok)) in
+    let row = ap length c.as_slice-row.ensures.value in
+    omega (arith, inside, row, c.index-effects-visit.result.small)
+
+pub follow-requires-clause-within : goal.follow-requires-clause-within
+follow-requires-clause-within c t to =
+    let h = at-visit c.args.flow.now (map fact_view c.args._facts.now) c.args.effects.now c.args.search.now c.args.k c.index.result.now c.index-point.result.now c.index-effects-visit.result c.as_slice-row.result.now c.requires.search.visits c.requires.effects c.requires.within c.index.ensures c.index-point.ensures c.index-effects-visit.is c.as_slice-row.ensures.value in
+    let there = leads-there c.args.flow.now (map fact_view c.args._facts.now) c.args.search.now.visits.items c.args.k c.index.result.now c.index-point.result.now c.as_slice-row.result.now h c.loop-number.number (omega (arith, c.loop-number-test.true, c.len-number-end.ensures, c.index-point.result.now.edges.ok)) c.index-edge.result.now c.index-edge.ensures c.requires.there in
+    let inside : t < length (flow_view c.args.flow.now).points = subst (IsThere (length (flow_view c.args.flow.now).points)) to there in
+    omega (arith, inside, c.loop-number.invariant.visits.many)
+
+pub follow-requires-clause-few : goal.follow-requires-clause-few
+follow-requires-clause-few c =
+    let h = at-visit c.args.flow.now (map fact_view c.args._facts.now) c.args.effects.now c.args.search.now c.args.k c.index.result.now c.index-point.result.now c.index-effects-visit.result c.as_slice-row.result.now c.requires.search.visits c.requires.effects c.requires.within c.index.ensures c.index-point.ensures c.index-effects-visit.is c.as_slice-row.ensures.value in
+    let deep = c.requires.search.visits.deep c.args.k c.index.result.now h.visit in
+    omega (arith, deep, c.requires.within, c.args.search.now.visits.small)
+
+pub loop-number-preserved : goal.loop-number-preserved
+loop-number-preserved c =
     let flow = flow_view c.args.flow.now in
-    let f = fact_view c.args.fact.now in
+    let facts = map fact_view c.args._facts.now in
     let old = c.args.search.now.visits.items in
-    let vs = c.loop-edge.search.visits.items in
-    let places = c.loop-edge.search.places.items in
+    let before = c.loop-number.search in
+    let now = c.follow.new.search in
     let u = c.index.result.now in
     let p = c.index-point.result.now in
-    let items = c.deref-edge-items.result.now in
-    let is = slice_get_read old (length old) c.args.k u refl c.requires.within c.index.ensures in
-    let at = here points u p (c.requires.search.there c.args.k u is) c.index-point.ensures in
-    left-more flow f old vs places c.args.k u (point_view p) is at c.requires.left
-    (subst (λ es. IsFollowing flow f old vs places u es) (ap (map edge_view) (take_all c.loop-edge.edge-index items c.loop-edge-test.false ∙ c.deref-edge-items.ensures.value)) c.loop-edge.invariant.following)
+    let e = c.index-edge.result.now in
+    let items = p.edges.items in
+    let row = c.as_slice-row.result.now in
+    let n = c.loop-number.number in
+    let h = at-visit c.args.flow.now (map fact_view c.args._facts.now) c.args.effects.now c.args.search.now c.args.k c.index.result.now c.index-point.result.now c.index-effects-visit.result c.as_slice-row.result.now c.requires.search.visits c.requires.effects c.requires.within c.index.ensures c.index-point.ensures c.index-effects-visit.is c.as_slice-row.ensures.value in
+    let inside : n < length items = omega (arith, c.loop-number-test.true, c.len-number-end.ensures, p.edges.ok) in
+    let there = leads-there c.args.flow.now facts old c.args.k u p row h n inside e c.index-edge.ensures c.requires.there in
+    subst (λ es. IsFollowing flow facts old now.visits.items now.seen.items now.places.items u es)
+    (ap (λ x. map edge_view (take n items) ++ edge_view x ∷ []) c.index-edge.ensures ∙ sym (map_more edge_view items n e inside))
+    (followed flow facts old c.args.k u (point_view p) (edge_view e) h.visit h.point (member c.args.flow.now facts old c.args.k u p row h n inside e c.index-edge.ensures) there _ (does c.args.flow.now facts old c.args.k u p row h n inside e c.index-edge.ensures _)
+    before.visits.items now.visits.items before.seen.items now.seen.items before.places.items now.places.items (map edge_view (take n items)) c.loop-number.invariant c.in_ok-follow.ensures)
+
+pub returns-clause-search : goal.returns-clause-search
+returns-clause-search c =
+    let flow = flow_view c.args.flow.now in
+    let facts = map fact_view c.args._facts.now in
+    let old = c.args.search.now.visits.items in
+    let k = c.args.k in
+    let vs = c.loop-number.search.visits.items in
+    let u = c.index.result.now in
+    let p = c.index-point.result.now in
+    let items = p.edges.items in
+    let h = at-visit c.args.flow.now (map fact_view c.args._facts.now) c.args.effects.now c.args.search.now c.args.k c.index.result.now c.index-point.result.now c.index-effects-visit.result c.as_slice-row.result.now c.requires.search.visits c.requires.effects c.requires.within c.index.ensures c.index-point.ensures c.index-effects-visit.is c.as_slice-row.ensures.value in
+    let done = c.loop-number.invariant in
+    let is = done.kept k u h.visit in
+    let within : k < length vs = slice_get_within vs k u is in
+    let near : IsNear vs k = λ i w v at to. let same = ap (λ (x : Visit). x.depth) (one-at (slice_get vs k) u w is at) in let close = done.near i v to in omega (arith, same, close) in
+    let all : take c.loop-number.number items ≡ items = take_all c.loop-number.number items (omega (arith, c.loop-number-test.false, c.len-number-end.ensures, p.edges.ok)) in
+    record {
+      visits = done.visits;
+      within = omega (arith, within);
+      near = near-left flow vs c.loop-number.search.seen.items c.loop-number.search.places.items k within done.visits near;
+      each = done.each;
+      left = λ j f there. left-more flow f j old vs k u (point_view p) h.visit h.point done.kept (c.requires.search.left j f there) (λ of. subst (λ es. AreFollowed f j vs u (map edge_view es)) all (done.followed j f there of));
+    }

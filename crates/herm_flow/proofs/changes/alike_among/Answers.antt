@@ -1,4 +1,4 @@
-use Rattle.std.proofs.Common.{◌≡◌, ◌<◌, length, arith, ◌∙◌}
+use Rattle.std.proofs.Common.{arith, ◌∙◌}
 use Rattle.herm_flow.proofs.Alike.{edge-makes, edge-kills}
 use Rattle.herm_flow.proofs.changes.alike_among.Goals as goal
 

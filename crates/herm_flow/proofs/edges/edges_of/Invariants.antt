@@ -1,13 +1,15 @@
-use Rattle.std.proofs.Common.{◌≡◌, ◌++◌, map, filter, drop}
+use Rattle.std.proofs.Common.{◌≡◌, [], map, drop}
 use Rattle.herm_typed.specs.View.{outcome_view}
 use Rattle.herm_judge.specs.View.{table_of, variables_of}
 use Rattle.herm_flow.specs.View.{target_view, catch_view, edge_view}
-use Rattle.herm_flow.specs.Edges.{exits_from, edge_at}
-use Rattle.herm_flow.specs.Kept.{is_kept}
+use Rattle.herm_flow.specs.Edges.{exits_from, edge_at, AreEdgesOf}
+use Rattle.herm_flow.specs.Kept.{pushed_all}
 use Rattle.herm_flow.proofs.edges.edges_of.Given as goal
 
--- The edges so far, with those of the outcomes that are left, are all.
+-- The edges so far, with those of the outcomes that are left pushed, are all.
 abbrev pub invariant-each : goal.invariant-each
-invariant-each l =
-    map edge_view l.edges.items ++ filter (is_kept l.kept) (map (edge_at (table_of l.frame) (variables_of l.frame) l.form) (exits_from (map outcome_view (drop l.outcome-index l.outcomes)) (map target_view (drop l.taken l.leads)) (map catch_view l.catches)))
-    ≡ filter (is_kept l.kept) (map (edge_at (table_of l.frame) (variables_of l.frame) l.form) (exits_from (map outcome_view l.outcomes) (map target_view l.leads) (map catch_view l.catches)))
+invariant-each l = record {
+  of : AreEdgesOf (table_of l.frame) (variables_of l.frame) l.form (map edge_view l.edges.items);
+  edges : pushed_all l.kept (map edge_view l.edges.items) (map (edge_at (table_of l.frame) (variables_of l.frame) l.form) (exits_from (map outcome_view (drop l.outcome-index l.outcomes)) (map target_view (drop l.taken l.leads)) (map catch_view l.catches)))
+      ≡ pushed_all l.kept [] (map (edge_at (table_of l.frame) (variables_of l.frame) l.form) (exits_from (map outcome_view l.outcomes) (map target_view l.leads) (map catch_view l.catches)));
+}
