@@ -116,6 +116,89 @@ def before_handlers():
     return filled(head, lambda _: tried, "}\n" + EMPTY_MAIN, (STATEMENTS - 6) // 2)
 
 
+def handled(calls, raised, body, last, records=0, kept=0):
+    """A `try` of so many calls that may raise so many exceptions, with a handler for each, and statements behind it. So many integers come back from a call; with the exceptions come back the subsets of them, by turns."""
+    several = list(itertools.islice(names(), raised))
+    results = [f"v{i}" for i in range(kept)]
+    subset = lambda i: [f"full({name})" for bit, name in enumerate(results) if i >> bit & 1]
+    raising = (name + (f"{{{','.join(subset(i % 2**kept))}}}" if subset(i % 2**kept) else "") for i, name in enumerate(several))
+    fields = ",".join(f"f{i}:integer" for i in range(FIELDS))
+    head = (
+        f"definitions w{{{''.join(f'exception {name};' for name in several)}type r=record{{{fields}}};"
+        f"type c=callmessage({','.join(f'out {name}:integer' for name in results)}) raises({','.join(raising)});type ci=inport of c;type co=outport of ci;type ti=inport of co;}}\n"
+    )
+    variables = "".join(f"{name}:integer," for name in results) + "".join(f"{name}:r," for name in "abc"[:records])
+    tried = f"try{{{f'call o({chr(44).join(results)});' * calls}}}" + "".join(f"on {name}{{{body}}}" for name in several)
+    return f"{head}process p(start:ti){{var {variables}x:r,k:integer,o:co;receive o from start;k:=1;{tried}{last}}}\n{EMPTY_MAIN}"
+
+
+def beside_variables(calls, raised, body):
+    """Calls that may raise exceptions which keep one of two integers by turns, beside 3,900 integers, of which the last two are set, and one is read that has no value."""
+    several, exceptions = list(itertools.islice(names(), 3_900)), [f"E{i}" for i in range(raised)]
+    raising = (f"{name}{{full({'xy'[i % 2]})}}" for i, name in enumerate(exceptions))
+    head = (
+        f"definitions w{{{''.join(f'exception {name};' for name in exceptions)}type c=callmessage(inout x:integer,inout y:integer)raises({','.join(raising)});"
+        "type ci=inport of c;type co=outport of ci;type ti=inport of co;}\n"
+    )
+    x, y = several[-2:]
+    tried = f"try{{{f'call A({x},{y});' * calls}}}" + "".join(f"on {name}{{{body}}}" for name in exceptions)
+    return f"{head}process p(start:ti){{var A:co,{','.join(f'{name}:integer' for name in several)};receive A from start;{x}:=1;{y}:=1;{tried}{several[1]}:={several[0]};}}\n{EMPTY_MAIN}"
+
+
+def parted(walk, raised):
+    """63 records of 60 fields, each lost in one branch of a selection and received in the other, then calls within so many handlers, and at the end all fields are read."""
+    several, exceptions = [f"R{i}" for i in range(63)], [f"E{i}" for i in range(raised)]
+    fields = list(itertools.islice(names(), 60))
+    head = (
+        f"definitions w{{{''.join(f'exception {name};' for name in exceptions)}type r=record{{{','.join(f'{name}:integer' for name in fields)}}};type ri=inport of r;"
+        f"type c=callmessage() raises({','.join(exceptions)});type ci=inport of c;type co=outport of ci;type t=record{{i:ri,o:co}};type ti=inport of t;}}\n"
+    )
+    lost = "".join(f"if 1<2{{discard {name};}}else{{receive {name} from m.i;}}" for name in several)
+    tried = f"try{{{'call m.o();' * walk}}}" + "".join(f"on {name}{{}}" for name in exceptions)
+    sums = "".join(f"k:={'+'.join(f'{name}.{field}' for name in several)};" for field in fields)
+    return f"{head}process p(start:ti){{var m:t,k:integer,{','.join(f'{name}:r' for name in several)};receive m from start;{lost}{tried}{sums}}}\n{EMPTY_MAIN}"
+
+
+def backwards():
+    """1,000 reads of a record without a value, behind one that reads its fields from the last to the first."""
+    first = "k:=" + "+".join(f"d.f{i}" for i in reversed(range(FIELDS))) + ";"
+    return records(lambda _: "a:=d;", 1_000, "b:=c;" + first)
+
+
+def results_taken(raised):
+    """1,000 calls with 270 results, which keep two of them by turns, before 3,000 fields without values are read."""
+    results, exceptions = list(itertools.islice(names(), 270)), [f"E{i}" for i in range(raised)]
+    raising = (f"{name}{{full({results[i % 2]})}}" for i, name in enumerate(exceptions))
+    head = (
+        f"definitions w{{{''.join(f'exception {name};' for name in exceptions)}type r=record{{{','.join(f'f{i}:integer' for i in range(750))}}};"
+        f"type c=callmessage({','.join(f'out {name}:integer' for name in results)})raises({','.join(raising)});type ci=inport of c;type co=outport of ci;type ti=inport of co;}}\n"
+    )
+    several = [f"R{i}" for i in range(4)]
+    tried = f"try{{{f'call A({chr(44).join(results)});' * 1_000}}}" + "".join(f"on {name}{{}}" for name in exceptions)
+    return f"{head}process p(start:ti){{var A:co,{','.join(f'{name}:r' for name in several)},x:r,{','.join(f'{name}:integer' for name in results)};receive A from start;{tried}{''.join(f'x:={name};' for name in several)}}}\n{EMPTY_MAIN}"
+
+
+def told_apart():
+    """3,000 integers, each of which is made by other ones of 24 calls, that a branch passes over; then a `try` of 400 calls with 400 handlers, and at its end the integers are read."""
+    several = list(itertools.islice(names(), 3_000))
+    raised = [f"E{i}" for i in range(400)]
+    made = [[name for number, name in enumerate(several) if number >> bit & 1 == value] for bit in range(12) for value in (0, 1)]
+    parts = [part[i : i + RESULTS] for part in made for i in range(0, len(part), RESULTS)]
+    sizes = sorted({len(part) for part in parts})
+    types = "".join(
+        f"type c{n}=callmessage({','.join(f'out p{i}:integer' for i in range(n))});type i{n}=inport of c{n};type o{n}=outport of i{n};" for n in sizes
+    )
+    ports = ",".join(f"q{n}:o{n}" for n in sizes)
+    head = (
+        f"definitions w{{{''.join(f'exception {name};' for name in raised)}{types}type c=callmessage() raises({','.join(raised)});"
+        f"type ci=inport of c;type co=outport of ci;type t=record{{{ports},o:co}};type ti=inport of t;}}\n"
+    )
+    calls = "".join(f"if 1<2{{call m.q{len(part)}({','.join(part)});}}" for part in parts)
+    tried = f"try{{{'call m.o();' * 400}}}" + "".join(f"on {name}{{k:=1;}}" for name in raised)
+    sums = "".join(f"k:={'+'.join(several[i : i + 50])};" for i in range(0, 3_000, 50))
+    return f"{head}process p(start:ti){{var m:t,{','.join(f'{name}:integer' for name in several)},k:integer;receive m from start;{calls}{tried}{sums}}}\n{EMPTY_MAIN}"
+
+
 def exceptions(most):
     """1,023 calls that may raise so many exceptions, or as many as the file has room for."""
     process = "process p(start:si){var o:co;receive o from start;" + "call o();" * (STATEMENTS - 1) + "}\n"
@@ -154,4 +237,17 @@ def at_the_limits():
         "refusals of what was lost": records(lambda _: "b:=a;", 1_018, "receive a from m.a;if 1<2{discard a;new a;}"),
         "refusals by many paths": lost_apart(),
         "refusals before 75,000 exceptions": before_handlers(),
+        "refusals behind 260,000 exceptions": handled(506, 506, "k:=1;", "x:=a;x:=b;x:=c;", records=3),
+        "refusals that are told apart": told_apart(),
+        "refusals of facts that parted": parted(700, 200),
+        "refusals after a read backwards": backwards(),
+        "refusals behind calls of 270 results": results_taken(8),
+        "refusals behind 250,000 that keep": handled(500, 500, "k:=1;", "x:=a;x:=b;x:=c;", records=3, kept=2),
+        "8,000 exceptions beside 3,900 variables": beside_variables(1_000, 8, ""),
+        "250,000 beside 3,900 variables": beside_variables(500, 500, "ZZ:=1;".replace("ZZ", "a0")),
+        "260,000 exceptions": handled(510, 510, "k:=1;", "k:=1;"),
+        "2,000,000 exceptions": handled(1_000, 2_000, "", "k:=1;"),
+        "20,000,000 exceptions": handled(1_000, 20_000, "", "k:=1;"),
+        "1,600,000 exceptions that keep 16 subsets": handled(1_000, 1_600, "", "k:=1;", kept=4),
+        "1,600,000 exceptions that keep 2,048": handled(1_000, 1_600, "", "k:=1;", kept=11),
     }
