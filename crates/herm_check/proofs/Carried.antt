@@ -1,11 +1,10 @@
 -- What is held behind paths taken and facts made one after another.
-use Rattle.std.proofs.Common.{◌≡◌, ℕ, ◌+◌, ◌<◌, List, [], ◌∷◌, ◌++◌, length, map, take, get_or, Bool, true, false, cond, not, ◌&&◌, ◌||◌, refl, sym, ◌∙◌, ap, suc, zero}
+use Rattle.std.proofs.Common.{◌≡◌, ℕ, ◌+◌, ◌<◌, List, [], ◌∷◌, ◌++◌, length, map, take, get_or, Bool, true, false, cond, not, ◌&&◌, ◌||◌, refl, sym, ◌∙◌, ap, suc, zero, Some, None, slice_get, subst}
 use Rattle.std.proofs.lemmas.List.{map_more}
 use Rattle.herm_model.specs.Lists.{any_pass}
-use Rattle.herm_model.specs.Paths.{Fact}
-use Rattle.herm_typestate.specs.Facts.{has_fact}
+use Rattle.herm_facts.specs.NumberSets.{has_number}
 use Rattle.herm_check.specs.declared.label.Label.{Label}
-use Rattle.herm_check.specs.Labelled.{is_reached, holds_at}
+use Rattle.herm_check.specs.Labelled.{is_reached}
 
 pub any-append : {X : Type 0} (test : X → Bool) (xs : List X) (x : X) → any_pass test (xs ++ x ∷ []) ≡ (any_pass test xs || test x)
 any-append test [] x = or_false (test x)
@@ -45,8 +44,8 @@ blank-reached [] l e h (suc i) = refl
 blank-reached (k ∷ ls) l e h zero = h zero
 blank-reached (k ∷ ls) l e h (suc i) = blank-reached ls l e (λ j. h (suc j)) i
 
-pub blank-holds : (ls : List Label) (l : Label) → ((f : Fact) → has_fact l.state f ≡ false) → ((i : ℕ) (f : Fact) → holds_at ls i f ≡ false) → (i : ℕ) (f : Fact) → holds_at (ls ++ l ∷ []) i f ≡ false
-blank-holds [] l e h zero f = e f
-blank-holds [] l e h (suc i) f = refl
-blank-holds (k ∷ ls) l e h zero f = h zero f
-blank-holds (k ∷ ls) l e h (suc i) f = blank-holds ls l e (λ j. h (suc j)) i f
+pub blank-none : (ls : List Label) (l : Label) → ((n : ℕ) → has_number l.held n ≡ false) → ((i : ℕ) (k : Label) (n : ℕ) → slice_get ls i ≡ Some k → has_number k.held n ≡ false) → (i : ℕ) (k : Label) (n : ℕ) → slice_get (ls ++ l ∷ []) i ≡ Some k → has_number k.held n ≡ false
+blank-none [] l e h zero k n at = let same : l ≡ k = cc in subst (λ (x : Label). has_number x.held n ≡ false) same (e n)
+blank-none [] l e h (suc i) k n at = absurd (let none : None ≡ Some k = at in let z : ⊥ = cc in z)
+blank-none (j ∷ ls) l e h zero k n at = h zero k n at
+blank-none (j ∷ ls) l e h (suc i) k n at = blank-none ls l e (λ j. h (suc j)) i k n at

@@ -5,8 +5,8 @@ use Rattle.std.proofs.lemmas.Option.{slice_get_within}
 use Rattle.herm_model.specs.Lists.{IsIn, total}
 use Rattle.herm_model.specs.Paths.{Fact}
 use Rattle.herm_model.specs.ControlPaths.{Flow, held_at_start}
-use Rattle.herm_check.specs.FactSets.{has}
-use Rattle.herm_check.specs.declared.fact_set.FactSet.{FactSet}
+use Rattle.herm_facts.specs.FactSets.{has}
+use Rattle.herm_facts.specs.declared.fact_set.FactSet.{FactSet}
 use Rattle.herm_check.specs.declared.search.Visit.{Visit}
 use Rattle.herm_check.specs.declared.search.Search.{Search}
 use Rattle.herm_check.specs.Searched.{Places, IsFound, IsLast, sets_without, HasVisits, IsVisited, IsUnvisited, IsSearching}

@@ -1,3 +1,5 @@
+pub mod FactsNumbered
+pub mod InSets
 pub mod Joined
 pub mod Paths
 pub mod Leaving
@@ -17,4 +19,5 @@ pub mod Following
 pub mod Deciding
 pub mod SameEdges
 pub mod Making
+pub mod Changes
 pub mod FactSets

@@ -1,18 +1,12 @@
--- What is known of the edges of points, and what they do with the facts of a search.
+-- Lists that are made one element after another, and the facts of a list that pass a test.
 use Rattle.std.proofs.Common.{◌≡◌, ◌⊎◌, inl, inr, ℕ, zero, suc, ◌+◌, ◌<◌, ◌≤◌, List, [], ◌∷◌, ◌++◌, map, length, get_or, Bool, true, false, Some, slice_get, nat_eq, nat_lt, ◌&&◌, ◌||◌, refl, sym, ◌∙◌, ap, subst, arith, length-append}
 use Rattle.std.proofs.lemmas.Bool.{eqb-true, eq-eqb, lt-ltb, ltb-true, cases_eq}
 use Rattle.std.proofs.lemmas.Option.{slice_get_within}
-use Rattle.herm_model.specs.Lists.{IsIn, any_pass}
-use Rattle.herm_model.specs.Paths.{Fact, Path, same_fact, path_of, is_at_or_below}
-use Rattle.herm_model.specs.ControlPaths.{Edge}
-use Rattle.herm_typestate.specs.declared.state.State.{State}
-use Rattle.herm_typestate.specs.Facts.{has_fact}
-use Rattle.herm_check.specs.declared.fact_set.FactSet.{FactSet}
-use Rattle.herm_check.specs.declared.effects.Effect.{Effect}
-use Rattle.herm_check.specs.FactSets.{has}
-use Rattle.herm_check.specs.Known.{HasMade, IsSameChange, IsEffect}
-use Rattle.herm_check.proofs.FactSets.{one-more}
-use Rattle.herm_check.proofs.Searched.{one-at, some-at}
+use Rattle.herm_model.specs.Paths.{Fact}
+use Rattle.herm_facts.specs.declared.fact_set.FactSet.{FactSet}
+use Rattle.herm_facts.specs.FactSets.{has}
+use Rattle.herm_facts.proofs.FactSets.{one-more}
+use Rattle.herm_check.proofs.Searched.{one-at}
 use Rattle.herm_check.proofs.Following.{old-or-last}
 
 -- an element as it is seen
@@ -34,30 +28,6 @@ each-more {Q = Q} {X = X} P qs xs ys n q x so_far here new are =
     by i r y there (inr last) =
         let same : q ≡ r = one-at (slice_get qs n) q r here (subst (λ k. slice_get qs k ≡ Some r) (last.0 ∙ so_far.0) there) in
         subst (P r) (sym last.1) (subst (λ z. P z x) same new)
-
--- one edge more
-pub made-more : (edges : List Edge) (e : Edge) (s t : State) → HasMade edges s → ((f : Fact) → has_fact t f ≡ (any_pass (same_fact f) e.makes || has_fact s f)) → HasMade (edges ++ e ∷ []) t
-made-more edges e s t have is d f member makes = is f ∙ by edges have member
-  where
-    either : (a b : Bool) → (a ≡ true) ⊎ (b ≡ true) → (a || b) ≡ true
-    either true b h = refl
-    either false true h = refl
-    either false false (inl h) = h
-    either false false (inr h) = h
-
-    by : (xs : List Edge) → HasMade xs s → IsIn d (xs ++ e ∷ []) → (any_pass (same_fact f) e.makes || has_fact s f) ≡ true
-    by [] known (inl same) = either (any_pass (same_fact f) e.makes) (has_fact s f) (inl (subst (λ (x : Edge). any_pass (same_fact f) x.makes ≡ true) same makes))
-    by [] known (inr none) = absurd none
-    by (x ∷ xs) known (inl same) = either (any_pass (same_fact f) e.makes) (has_fact s f) (inr (known d f (inl same) makes))
-    by (x ∷ xs) known (inr m) = by xs (λ y g n h. known y g (inr n) h) m
-
--- an edge that makes and takes away what another does has its effect
-pub effect-like : (facts : List Fact) (edges : List Edge) (m n : ℕ) (effect : Effect) → IsSameChange edges m n → m < length edges → ((d : Edge) → slice_get edges m ≡ Some d → IsEffect facts d effect) → (e : Edge) → slice_get edges n ≡ Some e → IsEffect facts e effect
-effect-like facts edges m n effect same within is e at j f there =
-    let d = some-at edges m within in
-    let alike = same d.0 e d.1 at in
-    let here = is d.0 d.1 j f there in
-    (here.0 ∙ ap (any_pass (same_fact f)) alike.0, here.1 ∙ ap (any_pass (λ (p : Path). is_at_or_below p (path_of f))) alike.1)
 
 -- Of the facts of a list those before a place that pass a test, by their numbers.
 abbrev pub ArePicked : (Fact → Bool) → List Fact → ℕ → FactSet → Type 0

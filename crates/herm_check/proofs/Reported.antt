@@ -13,7 +13,8 @@ use Rattle.herm_check.specs.declared.search.Search.{Search}
 use Rattle.herm_check.specs.declared.missing.MissingAt.{MissingAt}
 use Rattle.herm_check.specs.declared.missing.Missing.{Missing}
 use Rattle.herm_check.specs.Trails.{trail}
-use Rattle.herm_check.specs.Missing.{refusal_of, refusals_of, IsNumberOf, AreMissing}
+use Rattle.herm_check.specs.Missing.{refusal_of, refusals_of, AreMissing}
+use Rattle.herm_check.proofs.Noted.{IsNumberOf}
 use Rattle.herm_check.specs.Shortest.{IsShortest, AreReported, none, missing, holds, AreNoLonger, AreShortest}
 
 pub reported-append : (flow : Flow) (ds es : List Demand) (rs ss : List Refusal) → AreReported flow ds rs → AreReported flow es ss → AreReported flow (ds ++ es) (rs ++ ss)

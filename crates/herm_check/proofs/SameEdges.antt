@@ -1,13 +1,9 @@
 -- Lists that are the same one by one, and edges that are alike.
 use Rattle.std.proofs.Common.{◌≡◌, ℕ, ◌+◌, ◌<◌, List, [], ◌∷◌, ◌++◌, map, take, length, get_or, Some, slice_get, refl, sym, ap, ap₂, ◌∙◌}
 use Rattle.std.proofs.lemmas.List.{map_more}
-use Rattle.std.proofs.lemmas.Option.{slice_get_read}
-use Rattle.herm_model.proofs.Lists.{in-map}
-use Rattle.herm_model.proofs.FactTests.{got-IsIn}
 use Rattle.herm_flow.specs.declared.flow.Edge.{Edge}
 use Rattle.herm_flow.specs.View.{edge_view}
 use Rattle.herm_model.specs.ControlPaths.{Edge as EdgeOf}
-use Rattle.herm_check.specs.Followed.{IsLike}
 use Rattle.herm_check.specs.Known.{IsSameChange}
 use Rattle.herm_check.proofs.Searched.{one-at}
 
@@ -16,15 +12,6 @@ same-more view xs ys i a b in-xs in-ys at-a at-b so_far same =
     map_more view xs i a in-xs
     ∙ (ap₂ (λ vs v. vs ++ v ∷ []) so_far (ap view (sym at-a) ∙ (same ∙ ap view at-b))
     ∙ sym (map_more view ys i b in-ys))
-
-pub like-one : (edge other : Edge) (others : List Edge) (i : ℕ) → i < length others → other ≡ get_or others i other → (edge_view other).target ≡ (edge_view edge).target → (edge_view other).makes ≡ (edge_view edge).makes → (edge_view other).kills ≡ (edge_view edge).kills → IsLike (edge_view edge) (map edge_view others)
-like-one edge other others i within is to made gone = record {
-  other = edge_view other;
-  member = in-map edge_view other others (got-IsIn others i other (slice_get_read others (length others) i other refl within is));
-  target = to;
-  makes = made;
-  kills = gone;
-}
 
 -- two edges of a list that make and take away the same
 pub same-change : (edges : List Edge) (i n : ℕ) (a b : Edge) → slice_get (map edge_view edges) i ≡ Some (edge_view a) → slice_get (map edge_view edges) n ≡ Some (edge_view b) → (edge_view a).makes ≡ (edge_view b).makes → (edge_view a).kills ≡ (edge_view b).kills → IsSameChange (map edge_view edges) i n

@@ -14,8 +14,8 @@ use Rattle.herm_model.proofs.Walks.{IsEdgeOf, edge_from-IsEdgeOf, same_here, sam
 use Rattle.herm_check.specs.View.{hop_view}
 use Rattle.herm_check.specs.declared.search.Link.{Link}
 use Rattle.herm_check.specs.declared.search.Visit.{Visit}
-use Rattle.herm_check.specs.FactSets.{has}
-use Rattle.herm_check.specs.declared.fact_set.FactSet.{FactSet}
+use Rattle.herm_facts.specs.FactSets.{has}
+use Rattle.herm_facts.specs.declared.fact_set.FactSet.{FactSet}
 use Rattle.herm_check.specs.Searched.{Places, slot_of, IsOf, IsFound, IsLinked, IsLast, visits_of, IsSearch, HasVisits, AreFollowed, AreLeft, IsNearest}
 use Rattle.herm_check.specs.Shortest.{IsShortest}
 

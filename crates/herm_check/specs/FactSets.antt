@@ -1,12 +1,8 @@
--- Sets of numbers below 64.
-use Rattle.std.specs.Prelude.{ℕ, zero, suc, ◌+◌, List, Bool, cond, ◌==◌}
-use Rattle.std.specs.Int.{bit_at}
+-- How many numbers sets do not have.
+use Rattle.std.specs.Prelude.{ℕ, zero, suc, ◌+◌, List, cond}
 use Rattle.herm_model.specs.Lists.{total}
-use Rattle.herm_check.specs.declared.fact_set.FactSet.{FactSet}
-
--- the number is in the set
-abbrev pub has : FactSet → ℕ → Bool
-has s j = bit_at s.bits j == 1
+use Rattle.herm_facts.specs.declared.fact_set.FactSet.{FactSet}
+use Rattle.herm_facts.specs.FactSets.{has}
 
 -- how many of so many first numbers are not in the set
 abbrev pub lacking : ℕ → FactSet → ℕ

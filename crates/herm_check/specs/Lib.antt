@@ -1,5 +1,6 @@
 -- Flows as the model's, and labels of points.
 pub mod View
+pub mod Numberings
 pub mod Weights
 pub mod Labelled
 pub mod Followed

@@ -1,5 +1,5 @@
 -- What a search for control paths has found, of several facts at once.
-use Rattle.std.specs.Prelude.{◌≡◌, ℕ, ◌+◌, ◌*◌, ◌≤◌, ◌<◌, List, [], ◌∷◌, ◌++◌, length, Bool, true, false, cond, not, ◌&&◌, ◌||◌, Option, Some, None, slice_get, slice_set}
+use Rattle.std.specs.Prelude.{◌≡◌, ℕ, ◌+◌, ◌*◌, ◌/◌, ◌%◌, ◌≤◌, ◌<◌, List, [], ◌∷◌, ◌++◌, length, Bool, true, false, cond, not, ◌&&◌, ◌||◌, Option, Some, None, slice_get, slice_set}
 use Rattle.std.specs.declared.vec.Vec.{Vec}
 use Rattle.std.specs.declared.alloc.Global.{Global}
 use Rattle.herm_model.specs.Lists.{IsIn, total}
@@ -7,9 +7,12 @@ use Rattle.herm_model.specs.Paths.{Fact}
 use Rattle.herm_model.specs.Targets.{node}
 use Rattle.herm_model.specs.ControlPaths.{Edge, Point, Flow, Hop, held_after_edge, held_at_start, LacksBy}
 use Rattle.herm_check.specs.View.{hop_view}
-use Rattle.herm_check.specs.FactSets.{has, unseen}
-use Rattle.herm_check.specs.declared.fact_set.FactSet.{FactSet}
-use Rattle.herm_check.specs.declared.effects.Effect.{Effect}
+use Rattle.herm_facts.specs.FactSets.{has}
+use Rattle.herm_check.specs.FactSets.{unseen}
+use Rattle.herm_facts.specs.declared.fact_set.FactSet.{FactSet}
+use Rattle.herm_facts.specs.declared.fact_numbers.FactNumbers.{FactNumbers}
+use Rattle.herm_facts.specs.FactNumbers.{number_of}
+use Rattle.herm_check.specs.declared.change.Effect.{Effect}
 use Rattle.herm_check.specs.declared.search.Link.{Link}
 use Rattle.herm_check.specs.declared.search.Visit.{Visit}
 use Rattle.herm_check.specs.declared.search.Search.{Search}
@@ -160,6 +163,6 @@ pub record IsSearched (flow : Flow) (f : Fact) (j : ℕ) (s : Search) : Type 0 w
   pub search : IsSearch flow f j s.visits.items s.seen.items
   pub left : AreLeft flow f j s.visits.items (length s.visits.items)
 
--- So it is of the facts of a list, of which 64 by 64 share a search.
-abbrev pub AreSearched : Flow → List Fact → List Search → Type 0
-AreSearched flow facts ss = (b j : ℕ) (f : Fact) → j < 64 → slice_get facts (64 * b + j) ≡ Some f → (s : Search) × (slice_get ss b ≡ Some s) × IsSearched flow f j s
+-- So it is of the facts that have numbers, of which 64 by 64 share a search.
+abbrev pub AreSearched : Flow → FactNumbers → List Search → Type 0
+AreSearched flow numbers ss = (f : Fact) (n : ℕ) → number_of numbers f ≡ Some n → (s : Search) × (slice_get ss (n / 64) ≡ Some s) × IsSearched flow f (n % 64) s

@@ -1,17 +1,16 @@
-//! Edges of a point that lead to one place and make and take away the same.
+//! Edges of a point that make and take away the same.
 ghost use Rattle.std.specs.Prelude.{◌≡◌, ◌<◌, IsTrue, IfSome, map, length};
 ghost use Rattle.herm_types.specs.View.{path_view, fact_view};
-ghost use Rattle.herm_flow.specs.View.{target_view, edge_view};
-ghost use Rattle.herm_check.specs.Followed.{IsLike};
+ghost use Rattle.herm_flow.specs.View.{edge_view};
 ghost use Rattle.herm_check.specs.Known.{IsSameChange};
 
 use crate::held::is_same_path;
-use herm_flow::{Edge, Target};
+use herm_flow::Edge;
 use herm_types::{Fact, Path};
 use herm_typestate::same_fact;
 
-/// How many of the edges before it an edge is compared with.
-const NEAR: usize = 1_024;
+/// How many of the edges before it an edge is compared with: to find what an edge does costs about as much as so many comparisons.
+const NEAR: usize = 64;
 
 fn are_same_facts(a: &[Fact], b: &[Fact]) -> bool
     ensures { IsTrue result → map fact_view a.now ≡ map fact_view b.now }
@@ -47,31 +46,6 @@ fn is_same_change(a: &Edge, b: &Edge) -> bool
     ensures kills { IsTrue result → (edge_view a.now).kills ≡ (edge_view b.now).kills }
 {
     are_same_facts(a.makes(), b.makes()) && are_same_paths(a.kills(), b.kills())
-}
-
-fn is_same_target(a: Target, b: Target) -> bool
-    ensures { IsTrue result → target_view a ≡ target_view b }
-{
-    match (a, b) {
-        (Target::Point(a), Target::Point(b)) => a == b,
-        (Target::End, Target::End) => true,
-        (Target::EndBy(a), Target::EndBy(b)) => a.0 == b.0,
-        _ => false,
-    }
-}
-
-/// Whether an edge is found to lead where one of the last of these leads, and to make and take away the same.
-pub fn is_like_one(edge: &Edge, others: &[Edge]) -> bool
-    ensures { IsTrue result → IsLike (edge_view edge.now) (map edge_view others.now) }
-{
-    let first = others.len().saturating_sub(NEAR);
-    for i in first..others.len() {
-        let other = &others[i];
-        if is_same_target(other.to, edge.to) && is_same_change(other, edge) {
-            return true;
-        }
-    }
-    false
 }
 
 /// The number of one of the last edges before the one with this number that is found to make and take away the same.

@@ -8,7 +8,6 @@ ghost use Rattle.herm_flow.specs.View.{edge_view};
 
 use herm_flow::Edge;
 use herm_types::{Fact, Path};
-use herm_typestate::same_fact;
 
 /// Whether the second row begins with the first.
 fn begins(first: &[u32], all: &[u32]) -> bool
@@ -33,27 +32,7 @@ fn is_at_or_below(top: &Path, path: &Path) -> bool
     top.var == path.var && begins(top.parts.as_slice(), path.parts.as_slice())
 }
 
-pub fn path_of(fact: &Fact) -> &Path
-    ensures { path_view result.now ≡ model.path_of (fact_view fact.now) }
-{
-    match fact {
-        Fact::Init(path) => path,
-        Fact::Case(path, _) => path,
-    }
-}
-
-pub fn is_made(makes: &[Fact], fact: &Fact) -> bool
-    ensures { result ≡ any_pass (model.same_fact (fact_view fact.now)) (map fact_view makes.now) }
-{
-    for made in makes {
-        if same_fact(fact, made) {
-            return true;
-        }
-    }
-    false
-}
-
-pub fn is_killed(kills: &[Path], path: &Path) -> bool
+fn is_killed(kills: &[Path], path: &Path) -> bool
     ensures { result ≡ any_pass (λ p. model.is_at_or_below p (path_view path.now)) (map path_view kills.now) }
 {
     for killed in kills {

@@ -1,59 +1,81 @@
-//! What is known of the edges of points, found once for all searches.
-ghost use Rattle.std.specs.Prelude.{map, IfOk};
+//! What the edges of points do with the lost facts, found once for all searches.
+ghost use Rattle.std.specs.Prelude.{◌≡◌, ◌+◌, ◌<◌, ◌≤◌, List, map, length, IfOk, OnOk};
+ghost use Rattle.herm_model.specs.Paths.{Fact as FactOf};
+ghost use Rattle.herm_types.specs.View.{fact_view};
 ghost use Rattle.herm_flow.specs.View.{edge_view, flow_view};
-ghost use Rattle.herm_check.specs.Known.{HasMade, AreLikes, AreKnown, AreKnownIn};
+ghost use Rattle.herm_check.specs.Known.{AreNumbered, AreKnownTo, AreKnown, AreKnownIn};
 
 use crate::alike::same_before;
-use crate::behind_edge::make_all;
+use crate::change::{Change, change_of};
+use herm_facts::FactNumbers;
 use herm_flow::{Edge, Flow};
-use herm_typestate::State;
+use herm_types::Fact;
 use std::alloc::{AllocError, Global};
 
-/// What is known of the edges of a point: the facts that some edge makes; and of each edge the number of one before it that is found to make and take away the same.
+/// What the edges of a point do with the lost facts: the different changes, and of each edge the number of its change.
 #[derive(Drop)]
 pub struct KnownEdges {
-    pub made: State,
-    pub likes: Vec<Option<usize>>,
+    pub changes: Vec<Change>,
+    pub numbers: Vec<usize>,
 }
 
-/// The facts that some edge of a point makes.
-fn made_at(alloc: Global, edges: &[Edge]) -> Result<State, AllocError>
-    ensures { IfOk result (HasMade (map edge_view edges.now)) }
+/// Adds what the edge at a place does, where what those before it do is known.
+fn add_edge(
+    alloc: Global,
+    edges: &[Edge],
+    at: usize,
+    lost: &FactNumbers,
+    known: &mut KnownEdges,
+) -> Result<(), AllocError>
+    ghost facts: { List FactOf }
+    requires numbers { AreNumbered lost.now facts }
+    requires within { at < length edges.now }
+    requires known { AreKnownTo facts (map edge_view edges.now) known.old at }
+    ensures { OnOk result (AreKnownTo facts (map edge_view edges.now) known.new (at + 1)) }
 {
-    let mut made = State::empty(alloc, 0)?;
-    for edge in edges {
-        make_all(alloc, &mut made, edge.makes())?;
+    if let Some(other) = same_before(edges, at) {
+        let number = known.numbers[other];
+        known.numbers.push(number)?;
+        return Ok(());
     }
-    Ok(made)
+    let change = change_of(alloc, &edges[at], lost)?;
+    known.numbers.push(known.changes.len())?;
+    known.changes.push(change)?;
+    Ok(())
 }
 
-/// Of each edge the number of one before it that is found to make and take away the same.
-fn likes_at(alloc: Global, edges: &[Edge]) -> Result<Vec<Option<usize>>, AllocError>
-    ensures { IfOk result (λ likes. AreLikes (map edge_view edges.now) likes.items) }
+/// What the edges of a point do.
+fn known_at(alloc: Global, edges: &[Edge], lost: &FactNumbers) -> Result<KnownEdges, AllocError>
+    ghost facts: { List FactOf }
+    requires { AreNumbered lost.now facts }
+    ensures { IfOk result (AreKnown facts (map edge_view edges.now)) }
 {
-    let mut likes = Vec::new(alloc);
-    for number in 0..edges.len() {
-        likes.push(same_before(edges, number))?;
+    let numbers = Vec::with_capacity(alloc, edges.len())?;
+    let mut known = KnownEdges {
+        changes: Vec::new(alloc),
+        numbers,
+    };
+    for at in 0..edges.len() {
+        add_edge(alloc, edges, at, lost, &mut known)?;
     }
-    Ok(likes)
+    Ok(known)
 }
 
-/// What is known of the edges of a point.
-fn known_at(alloc: Global, edges: &[Edge]) -> Result<KnownEdges, AllocError>
-    ensures { IfOk result (AreKnown (map edge_view edges.now)) }
-{
-    let made = made_at(alloc, edges)?;
-    let likes = likes_at(alloc, edges)?;
-    Ok(KnownEdges { made, likes })
-}
-
-/// What is known of the edges of each point.
-pub fn known_in(alloc: Global, flow: &Flow) -> Result<Vec<KnownEdges>, AllocError>
-    ensures { IfOk result (λ known. AreKnownIn (flow_view flow.now) known.items) }
+/// What the edges of each point do with the facts that have numbers, which these are.
+pub fn known_in(
+    alloc: Global,
+    flow: &Flow,
+    lost: &FactNumbers,
+    _facts: &[Fact],
+) -> Result<Vec<KnownEdges>, AllocError>
+    ghost facts: { List FactOf }
+    requires all { map fact_view _facts.now ≡ facts }
+    requires numbers { AreNumbered lost.now facts }
+    ensures { IfOk result (λ known. AreKnownIn (flow_view flow.now) facts known.items) }
 {
     let mut known = Vec::new(alloc);
     for point in &flow.points {
-        known.push(known_at(alloc, point.edges.as_slice())?)?;
+        known.push(known_at(alloc, point.edges.as_slice(), lost)?)?;
     }
     Ok(known)
 }

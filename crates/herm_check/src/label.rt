@@ -1,37 +1,40 @@
 //! What is known of one point while labels are looked for.
-ghost use Rattle.std.specs.Prelude.{◌≡◌, ◌≤◌, ◌&&◌, true, false, cond, List};
+ghost use Rattle.std.specs.Prelude.{◌≡◌, ◌≤◌, ◌&&◌, ℕ, true, false, cond, List, Some};
 ghost use Rattle.herm_model.specs.Lists.{IsIn};
 ghost use Rattle.herm_model.specs.Paths.{Fact};
-ghost use Rattle.herm_typestate.specs.Facts.{has_fact};
+ghost use Rattle.herm_facts.specs.declared.fact_numbers.FactNumbers.{FactNumbers};
+ghost use Rattle.herm_facts.specs.FactNumbers.{number_of};
+ghost use Rattle.herm_facts.specs.NumberSets.{has_number};
+ghost use Rattle.herm_check.specs.Numberings.{AreNumbers};
 ghost use Rattle.herm_check.specs.Weights.{label_weight};
 
-use herm_typestate::State;
+use herm_facts::NumberSet;
 
-/// Whether a control path to the point was found, whether the point is still to be left, and the facts that are held on
-/// every path that was followed so far.
+/// Whether a control path to the point was found, whether the point is still to be left, and the numbers of the facts that are
+/// held on every path that was followed so far.
 #[derive(Drop)]
 pub struct Label {
     pub reached: bool,
     pub pending: bool,
-    pub state: State,
+    pub held: NumberSet,
 }
 
 /// Adds a path to the point, behind which these facts are held.
-pub fn join(label: &mut Label, after: State)
+pub fn join(label: &mut Label, after: NumberSet)
     ensures reached { label.new.reached ≡ true }
-    ensures facts { (f : Fact) → has_fact label.new.state f ≡ cond label.old.reached (has_fact label.old.state f && has_fact after f) (has_fact after f) }
-    ensures still { label.new.pending ≡ false → (label.old.reached ≡ true) × (label.old.pending ≡ false) × ((f : Fact) → has_fact label.new.state f ≡ has_fact label.old.state f) }
-    ensures less { (all : List Fact) → ((f : Fact) → has_fact label.old.state f ≡ true → IsIn f all) → label_weight all label.new ≤ label_weight all label.old }
+    ensures held { (n : ℕ) → has_number label.new.held n ≡ cond label.old.reached (has_number label.old.held n && has_number after n) (has_number after n) }
+    ensures still { label.new.pending ≡ false → (label.old.reached ≡ true) × (label.old.pending ≡ false) × ((n : ℕ) → has_number label.new.held n ≡ has_number label.old.held n) }
+    ensures less { (ns : FactNumbers) (all : List Fact) → AreNumbers ns label.old.held → ((f : Fact) (n : ℕ) → number_of ns f ≡ Some n → IsIn f all) → label_weight ns all label.new ≤ label_weight ns all label.old }
 {
     if !label.reached {
         label.reached = true;
         label.pending = true;
-        label.state = after;
+        label.held = after;
         return;
     }
-    if label.state.is_below(&after) {
+    if label.held.is_below(&after) {
         return;
     }
-    label.state.meet(&after);
+    label.held.meet(&after);
     label.pending = true;
 }

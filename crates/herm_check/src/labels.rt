@@ -1,88 +1,98 @@
 //! The facts that are held on every control path to each point.
-ghost use Rattle.std.specs.Prelude.{◌≡◌, ◌+◌, ◌≤◌, ◌<◌, ℕ, true, false, [], map, length, IfOk, OnOk, IfSome, IfNone, ◌&&◌};
+ghost use Rattle.std.specs.Prelude.{◌≡◌, ◌+◌, ◌≤◌, ◌<◌, ℕ, true, false, [], ◌∷◌, length, IfOk, OnOk, IfSome, IfNone, ◌&&◌, Some, slice_get};
 ghost use Rattle.herm_model.specs.Lists.{IsIn};
-ghost use Rattle.herm_model.specs.Paths.{Fact as FactOf};
+ghost use Rattle.herm_model.specs.Paths.{Fact as FactOf, init};
 ghost use Rattle.herm_model.specs.Targets.{node};
 ghost use Rattle.herm_model.specs.ControlPaths.{IsReached, held_at_start};
 ghost use Rattle.herm_model.specs.laws.FlowLaws.{EdgesDiffer, IsThere};
 ghost use Rattle.herm_model.specs.Labels.{AreExact};
+ghost use Rattle.herm_facts.specs.NumberSets.{has_number};
 ghost use Rattle.herm_check.specs.declared.label.Label.{Label as LabelOf};
 ghost use Rattle.herm_flow.specs.View.{edge_view, flow_view};
 ghost use Rattle.herm_check.specs.View.{labels_view};
+ghost use Rattle.herm_check.specs.Numberings.{in_set, HasNumber, AreNumbers, AreApart};
 ghost use Rattle.herm_check.specs.Weights.{weight};
-ghost use Rattle.herm_check.specs.Labelled.{is_reached, is_pending, holds_at, all_facts, AreLabels, AreDone, IsLeft, LeadThere};
-ghost use Rattle.herm_check.specs.Followed.{IsFollowed, IsPassed};
-ghost use Rattle.herm_typestate.specs.Facts.{has_fact};
+ghost use Rattle.herm_check.specs.Labelled.{is_reached, is_pending, holds_at, all_facts, AreNumbered, AreLabels, AreDone, IsLeft, LeadThere};
+ghost use Rattle.herm_check.specs.Followed.{IsFollowed};
 
-use crate::alike::is_like_one;
-use crate::behind_edge::behind;
 use crate::label::{Label, join};
-use herm_base::VarNo;
+use crate::label_states::states;
+use crate::numbering::{numbers_in, start_fact};
+use crate::set_behind::{hold, numbers_behind};
+use herm_facts::{FactNumbers, NumberSet};
 use herm_flow::{Edge, Flow, Target};
-use herm_types::{Fact, Path};
-use herm_typestate::{Labels, State};
+use herm_typestate::Labels;
 use std::alloc::{AllocError, Global};
 
 /// So many points that no path has reached.
 fn blank(alloc: Global, count: usize) -> Result<Vec<Label>, AllocError>
     ensures many { IfOk result (λ ls. length ls.items ≡ count) }
     ensures reached { IfOk result (λ ls. (i : ℕ) → is_reached ls.items i ≡ false) }
-    ensures facts { IfOk result (λ ls. (i : ℕ) (f : FactOf) → holds_at ls.items i f ≡ false) }
+    ensures none { IfOk result (λ ls. (i : ℕ) (l : LabelOf) (n : ℕ) → slice_get ls.items i ≡ Some l → has_number l.held n ≡ false) }
 {
     let mut labels = Vec::with_capacity(alloc, count)?;
     for _ in 0..count {
-        let state = State::empty(alloc, 0)?;
         labels.push(Label {
             reached: false,
             pending: false,
-            state,
+            held: NumberSet::none(alloc),
         })?;
     }
     Ok(labels)
 }
 
 /// The label of the first point as a process begins: there is a value at the port alone.
-fn first_label(alloc: Global, vars: usize) -> Result<Label, AllocError>
+fn first_label(alloc: Global, numbers: &FactNumbers) -> Result<Label, AllocError>
+    requires apart { AreApart numbers.now }
+    requires number { HasNumber numbers.now (init (0 ∷ [])) }
     ensures reached { IfOk result (λ l. l.reached ≡ true) }
     ensures pending { IfOk result (λ l. l.pending ≡ true) }
-    ensures facts { IfOk result (λ l. (f : FactOf) → has_fact l.state f ≡ held_at_start f) }
+    ensures facts { IfOk result (λ l. (f : FactOf) → in_set numbers.now l.held f ≡ held_at_start f) }
+    ensures known { IfOk result (λ l. AreNumbers numbers.now l.held) }
 {
-    let port = Path {
-        var: VarNo(0),
-        parts: Vec::new(alloc),
-    };
-    let mut state = State::empty(alloc, vars)?;
-    state.make(alloc, &Fact::Init(port))?;
+    let mut held = NumberSet::none(alloc);
+    let start = start_fact(alloc);
+    hold(numbers, &mut held, &start)?;
     Ok(Label {
         reached: true,
         pending: true,
-        state,
+        held,
     })
 }
 
 /// The labels as a process begins: there is a value at its port, and it is still to leave its first point.
-fn begin(alloc: Global, flow: &Flow, vars: usize) -> Result<Vec<Label>, AllocError>
-    ensures { IfOk result (λ ls. AreLabels (flow_view flow.now) ls.items) }
+fn begin(alloc: Global, flow: &Flow, numbers: &FactNumbers) -> Result<Vec<Label>, AllocError>
+    requires numbered { AreNumbered (flow_view flow.now) numbers.now }
+    ensures { IfOk result (λ ls. AreLabels numbers.now (flow_view flow.now) ls.items) }
 {
     let count = flow.points.len();
     let mut labels = blank(alloc, count)?;
     if count == 0 {
         return Ok(labels);
     }
-    let first = first_label(alloc, vars)?;
+    let first = first_label(alloc, numbers)?;
     labels[0] = first;
     Ok(labels)
 }
 
 /// Follows an edge from the point at a place, with what is held there.
-fn follow(alloc: Global, edge: &Edge, i: usize, labels: &mut Vec<Label>) -> Result<(), AllocError>
+fn follow(
+    alloc: Global,
+    numbers: &FactNumbers,
+    edge: &Edge,
+    i: usize,
+    labels: &mut Vec<Label>,
+) -> Result<(), AllocError>
+    requires apart { AreApart numbers.now }
+    requires numbers { (f : FactOf) → IsIn f (edge_view edge.now).makes → HasNumber numbers.now f }
+    requires known { (j : ℕ) (l : LabelOf) → slice_get labels.old.items j ≡ Some l → AreNumbers numbers.now l.held }
     requires within { i < length labels.old.items }
     requires there { IsThere (length labels.old.items) (edge_view edge.now).target }
-    ensures { OnOk result (IsFollowed (edge_view edge.now) (holds_at labels.old.items i) labels.old.items labels.new.items) }
+    ensures { OnOk result (IsFollowed numbers.now (edge_view edge.now) (holds_at numbers.now labels.old.items i) labels.old.items labels.new.items) }
 {
     match edge.to {
         Target::Point(t) => {
-            let after = behind(alloc, &labels[i].state, edge)?;
+            let after = numbers_behind(alloc, numbers, &labels[i].held, edge)?;
             let label = &mut labels[t as usize];
             join(label, after);
             Ok(())
@@ -92,61 +102,51 @@ fn follow(alloc: Global, edge: &Edge, i: usize, labels: &mut Vec<Label>) -> Resu
     }
 }
 
-/// Follows an edge from the point at a place, unless it is found to be like one of those before it, which were followed.
-fn pass(
-    alloc: Global,
-    edge: &Edge,
-    before: &[Edge],
-    i: usize,
-    labels: &mut Vec<Label>,
-) -> Result<(), AllocError>
-    requires within { i < length labels.old.items }
-    requires there { IsThere (length labels.old.items) (edge_view edge.now).target }
-    ensures { OnOk result (IsPassed (edge_view edge.now) (map edge_view before.now) (holds_at labels.old.items i) labels.old.items labels.new.items) }
-{
-    if is_like_one(edge, before) {
-        return Ok(());
-    }
-    follow(alloc, edge, i, labels)?;
-    Ok(())
-}
-
-/// Carries what is held at a point along each of its edges. Edges that are alike carry the same.
+/// Carries what is held at a point along each of its edges.
 fn follow_all(
     alloc: Global,
     flow: &Flow,
+    numbers: &FactNumbers,
     i: usize,
     labels: &mut Vec<Label>,
 ) -> Result<(), AllocError>
     requires differ { EdgesDiffer (flow_view flow.now) }
     requires there { LeadThere (flow_view flow.now) }
+    requires numbered { AreNumbered (flow_view flow.now) numbers.now }
     requires within { i < length flow.now.points.items }
-    requires left { IsLeft (flow_view flow.now) i [] labels.old.items }
-    ensures labels { OnOk result (AreLabels (flow_view flow.now) labels.new.items) }
-    ensures less { OnOk result (weight (all_facts (flow_view flow.now)) labels.new.items ≤ weight (all_facts (flow_view flow.now)) labels.old.items) }
+    requires left { IsLeft numbers.now (flow_view flow.now) i [] labels.old.items }
+    ensures labels { OnOk result (AreLabels numbers.now (flow_view flow.now) labels.new.items) }
+    ensures less { OnOk result (weight numbers.now (all_facts (flow_view flow.now)) labels.new.items ≤ weight numbers.now (all_facts (flow_view flow.now)) labels.old.items) }
 {
     let point = &flow.points[i];
     let edges = point.edges.as_slice();
     for k in 0..edges.len() {
-        pass(alloc, &edges[k], &edges[..k], i, labels)?;
+        follow(alloc, numbers, &edges[k], i, labels)?;
     }
     Ok(())
 }
 
 /// Leaves a point: what is held there is carried along each of its edges.
-fn leave(alloc: Global, flow: &Flow, i: usize, labels: &mut Vec<Label>) -> Result<(), AllocError>
+fn leave(
+    alloc: Global,
+    flow: &Flow,
+    numbers: &FactNumbers,
+    i: usize,
+    labels: &mut Vec<Label>,
+) -> Result<(), AllocError>
     requires differ { EdgesDiffer (flow_view flow.now) }
     requires there { LeadThere (flow_view flow.now) }
-    requires labels { AreLabels (flow_view flow.now) labels.old.items }
+    requires numbered { AreNumbered (flow_view flow.now) numbers.now }
+    requires labels { AreLabels numbers.now (flow_view flow.now) labels.old.items }
     requires within { i < length labels.old.items }
     requires reached { is_reached labels.old.items i ≡ true }
     requires pending { is_pending labels.old.items i ≡ true }
-    ensures labels { OnOk result (AreLabels (flow_view flow.now) labels.new.items) }
-    ensures less { OnOk result (weight (all_facts (flow_view flow.now)) labels.new.items + 1 ≤ weight (all_facts (flow_view flow.now)) labels.old.items) }
+    ensures labels { OnOk result (AreLabels numbers.now (flow_view flow.now) labels.new.items) }
+    ensures less { OnOk result (weight numbers.now (all_facts (flow_view flow.now)) labels.new.items + 1 ≤ weight numbers.now (all_facts (flow_view flow.now)) labels.old.items) }
 {
     let label = &mut labels[i];
     label.pending = false;
-    follow_all(alloc, flow, i, labels)?;
+    follow_all(alloc, flow, numbers, i, labels)?;
     Ok(())
 }
 
@@ -181,29 +181,19 @@ fn next(labels: &[Label], from: usize) -> Option<usize>
 }
 
 /// The labels when no point is still to be left.
-pub fn settled(alloc: Global, flow: &Flow, vars: usize) -> Result<Vec<Label>, AllocError>
+pub fn settled(alloc: Global, flow: &Flow, numbers: &FactNumbers) -> Result<Vec<Label>, AllocError>
     requires differ { EdgesDiffer (flow_view flow.now) }
     requires there { LeadThere (flow_view flow.now) }
-    ensures { IfOk result (λ ls. AreDone (flow_view flow.now) ls.items) }
+    requires numbered { AreNumbered (flow_view flow.now) numbers.now }
+    ensures { IfOk result (λ ls. AreDone numbers.now (flow_view flow.now) ls.items) }
 {
-    let mut labels = begin(alloc, flow, vars)?;
+    let mut labels = begin(alloc, flow, numbers)?;
     let mut from = 0;
     while let Some(i) = next(labels.as_slice(), from) {
-        leave(alloc, flow, i, &mut labels)?;
+        leave(alloc, flow, numbers, i, &mut labels)?;
         from = i;
     }
     Ok(labels)
-}
-
-/// The facts of each label.
-fn states(alloc: Global, labels: Vec<Label>) -> Result<Vec<State>, AllocError>
-    ensures { IfOk result (λ v. v.items ≡ map (λ (l : LabelOf). l.state) labels.items) }
-{
-    let mut at = Vec::with_capacity(alloc, labels.len())?;
-    for label in labels {
-        at.push(label.state)?;
-    }
-    Ok(at)
 }
 
 /// Exactly the facts that are held on every control path to each point. A point that no path reaches has none.
@@ -214,7 +204,8 @@ pub fn labels_of(alloc: Global, flow: &Flow, vars: usize) -> Result<Labels, Allo
     ensures exact { IfOk result (λ labels. AreExact (flow_view flow.now) (labels_view labels)) }
     ensures unreached { IfOk result (λ labels. (i : ℕ) (f : FactOf) → (IsReached (flow_view flow.now) (node i) → ⊥) → labels_view labels i f ≡ false) }
 {
-    let settled = settled(alloc, flow, vars)?;
-    let at = states(alloc, settled)?;
+    let numbers = numbers_in(alloc, flow)?;
+    let settled = settled(alloc, flow, &numbers)?;
+    let at = states(alloc, &numbers, vars, settled.as_slice())?;
     Ok(Labels { at })
 }

@@ -3,20 +3,21 @@
 
 mod alike;
 mod behind_edge;
+mod change;
 mod checking;
 mod effects;
-mod fact_set;
 mod held;
 mod known;
 mod label;
+mod label_states;
 mod labels;
 mod missing;
-mod numbers;
+mod numbering;
 mod search;
+mod set_behind;
 
 pub use behind_edge::behind;
 pub use checking::{CheckFault, check};
-pub use fact_set::FactSet;
 pub use held::is_value_held_behind;
 pub use labels::labels_of;
 pub use missing::{Missing, MissingAt};

@@ -4,6 +4,8 @@ ghost use Rattle.herm_model.specs.Lists.{IsIn, any_pass};
 ghost use Rattle.herm_model.specs.Statements.{Differ};
 ghost use Rattle.herm_model.specs.Outcomes as outcomes;
 ghost use Rattle.herm_model.specs.ControlPaths as paths;
+ghost use Rattle.herm_model.specs.ControlPaths.{IsReached};
+ghost use Rattle.herm_model.specs.Targets.{node};
 ghost use Rattle.herm_model.specs.laws.FlowLaws.{EdgesDiffer, IsThere};
 ghost use Rattle.herm_typed.specs.View.{outcome_view};
 ghost use Rattle.herm_flow.specs.declared.flow.Edge.{Edge as EdgeOf};
@@ -14,6 +16,7 @@ use crate::checking::{CheckFault, check};
 use crate::label::Label;
 use crate::labels::settled;
 use crate::missing::Missing;
+use crate::numbering::numbers_in;
 use herm_flow::{Edge, Flow, Target};
 use herm_typed::Outcome;
 use std::alloc::Global;
@@ -119,15 +122,27 @@ fn are_reached(labels: &[Label]) -> bool
     true
 }
 
+/// Whether control paths are found to lead to all points.
+fn are_all_reached(alloc: Global, flow: &Flow) -> bool
+    requires differ { EdgesDiffer (flow_view flow.now) }
+    requires there { LeadThere (flow_view flow.now) }
+    ensures { result ≡ true → (i : ℕ) → i < length flow.now.points.items → IsReached (flow_view flow.now) (node i) }
+{
+    let Ok(numbers) = numbers_in(alloc, flow) else {
+        return false;
+    };
+    let Ok(labels) = settled(alloc, flow, &numbers) else {
+        return false;
+    };
+    are_reached(labels.as_slice())
+}
+
 /// What the check says is missing, where it may be asked and memory was there.
 pub fn missing_in(alloc: Global, flow: &Flow, vars: usize) -> Option<Missing> {
     if !all_differ(flow) || !all_lead_there(flow) {
         return None;
     }
-    let Ok(labels) = settled(alloc, flow, vars) else {
-        return None;
-    };
-    if !are_reached(labels.as_slice()) {
+    if !are_all_reached(alloc, flow) {
         return None;
     }
     match check(alloc, flow, vars) {

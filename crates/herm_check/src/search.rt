@@ -1,5 +1,5 @@
 //! The search for shortest control paths on which a fact is not held.
-ghost use Rattle.std.specs.Prelude.{◌≡◌, ◌+◌, ◌*◌, ◌^◌, ◌<◌, ◌≤◌, ℕ, Some, None, cond, nat_lt, map, reverse, length, slice_get, option_and_then, IfOk, OnOk, IfSome, IfNone};
+ghost use Rattle.std.specs.Prelude.{◌≡◌, ◌+◌, ◌*◌, ◌^◌, ◌<◌, ◌≤◌, ℕ, List, Some, None, cond, nat_lt, map, reverse, length, slice_get, take, drop, option_and_then, IfOk, OnOk, IfSome, IfNone};
 ghost use Rattle.herm_model.specs.Paths.{Fact as FactOf};
 ghost use Rattle.herm_model.specs.Targets.{node};
 ghost use Rattle.herm_model.specs.ControlPaths.{Holds};
@@ -7,20 +7,24 @@ ghost use Rattle.herm_types.specs.View.{fact_view};
 ghost use Rattle.herm_flow.specs.View.{edge_view, flow_view};
 ghost use Rattle.herm_check.specs.View.{hop_view};
 ghost use Rattle.herm_check.specs.Labelled.{LeadThere};
-ghost use Rattle.herm_check.specs.FactSets.{has};
-ghost use Rattle.herm_check.specs.Known.{AreKnownIn, AreEffectsIn};
+ghost use Rattle.herm_facts.specs.FactSets.{has};
+ghost use Rattle.herm_check.specs.Known.{share, AreKnownIn, AreEffectsIn};
 ghost use Rattle.herm_check.specs.Trails.{trail};
 ghost use Rattle.herm_check.specs.declared.search.Visit.{Visit as VisitOf};
 ghost use Rattle.herm_check.specs.Searched.{slot_of, is_held_beyond, IsUnvisited, IsVisited, IsFollowedFrom, AreVisits, IsSearching, IsKept, IsNearest, IsSearched};
 
-use crate::effects::{Effect, effects_in, held_first};
-use crate::fact_set::FactSet;
+use crate::change::Effect;
+use crate::effects::{effects_in, held_first};
 use crate::known::KnownEdges;
 use herm_base::StmtNo;
+use herm_facts::FactSet;
 use herm_flow::{Edge, Flow, Target};
 use herm_typed::Outcome;
 use herm_types::Fact;
 use std::alloc::{AllocError, Global};
+
+/// How many facts share a search.
+pub const SHARED: usize = 64;
 
 /// One hop of a control path: a statement's number, and one of its outcomes.
 #[derive(Clone, Copy, Debug, PartialEq, Eq)]
@@ -236,20 +240,34 @@ fn complete(
     Ok(())
 }
 
-/// Searches for all shortest control paths with each of the facts held or not.
+/// The facts from a number on that share a search.
+fn shared_from(lost: &[Fact], first: usize) -> &[Fact]
+    requires { first < length lost.now }
+    ensures few { length result.now ≤ 64 }
+    ensures facts { map fact_view result.now ≡ take 64 (drop first (map fact_view lost.now)) }
+{
+    let count = SHARED.min(lost.len() - first);
+    &lost[first..first + count]
+}
+
+/// Searches for all shortest control paths with each of the facts held or not that share the search with this number.
 pub fn search_for(
     alloc: Global,
     flow: &Flow,
     known: &[KnownEdges],
-    facts: &[Fact],
+    lost: &[Fact],
+    number: usize,
 ) -> Result<Search, AllocError>
+    ghost all: { List FactOf }
+    requires all { map fact_view lost.now ≡ all }
     requires there { LeadThere (flow_view flow.now) }
-    requires known { AreKnownIn (flow_view flow.now) known.now }
+    requires known { AreKnownIn (flow_view flow.now) all known.now }
     requires some { 0 < length flow.now.points.items }
-    requires few { length facts.now ≤ 64 }
-    ensures { IfOk result (λ search. (j : ℕ) (f : FactOf) → slice_get (map fact_view facts.now) j ≡ Some f → IsSearched (flow_view flow.now) f j search) }
+    requires within { 64 * number < length lost.now }
+    ensures { IfOk result (λ search. (j : ℕ) (f : FactOf) → slice_get (share all number) j ≡ Some f → IsSearched (flow_view flow.now) f j search) }
 {
-    let effects = effects_in(alloc, flow, known, facts)?;
+    let facts = shared_from(lost, SHARED * number);
+    let effects = effects_in(alloc, flow, known, number)?;
     let mut search = begin(alloc, flow, facts)?;
     complete(flow, effects.as_slice(), facts, &mut search)?;
     Ok(search)

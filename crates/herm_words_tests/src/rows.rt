@@ -3,7 +3,8 @@
 //! `c`, `a` or `e` with the number of a component, an arm or an exception. Each hop leads to a visit, numbered from 1 on, from the visit before it, or from
 //! the one whose digit stands before it, as in `2>4o`; visit 0 is reached by no hop.
 use herm_base::{ExcNo, StmtNo, VarNo};
-use herm_check::{FactSet, Hop, Link, Search, Visit};
+use herm_check::{Hop, Link, Search, Visit};
+use herm_facts::FactSet;
 use herm_typed::Outcome;
 use herm_types::{Fact, Path};
 use std::alloc::{AllocError, Global};

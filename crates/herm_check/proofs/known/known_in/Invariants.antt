@@ -7,4 +7,7 @@ use Rattle.herm_check.proofs.Making.{AreEach}
 use Rattle.herm_check.proofs.known.known_in.Given as goal
 
 abbrev pub invariant-loop-point : goal.invariant-loop-point
-invariant-loop-point l = AreEach (λ (p : Point) (row : KnownEdges). AreKnown p.edges row) (map point_view l.flow.points.items) l.known.items l.point-index
+invariant-loop-point g l = AreEach (λ (p : Point) (row : KnownEdges). AreKnown g.facts p.edges row) (map point_view l.flow.points.items) l.known.items l.point-index
+
+abbrev pub ghost-known_at : goal.ghost-known_at
+ghost-known_at g a = g.facts

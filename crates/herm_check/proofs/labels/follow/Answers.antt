@@ -5,8 +5,9 @@ use Rattle.herm_model.specs.ControlPaths.{held_after_edge}
 use Rattle.herm_model.specs.Targets.{Target, node, end, end_by}
 use Rattle.herm_model.specs.laws.FlowLaws.{IsThere}
 use Rattle.herm_flow.specs.View.{target_view, edge_view}
-use Rattle.herm_typestate.specs.Facts.{has_fact}
 use Rattle.herm_check.specs.declared.label.Label.{Label}
+use Rattle.herm_check.specs.Numberings.{in_set}
+use Rattle.herm_check.proofs.InSets.{in-joined, in-same, known-joined}
 use Rattle.herm_check.specs.Followed.{ends, joins}
 use Rattle.herm_check.proofs.labels.follow.Goals as goal
 
@@ -18,14 +19,22 @@ end_by-no_node t x k e f = cc
 
 pub returns-in_ok-after-in-Point : goal.returns-in_ok-after-in-Point
 returns-in_ok-after-in-Point c =
-    let within : c.in-Point.t < length c.args.labels.now.items = subst (λ x. IsThere (length c.args.labels.now.items) (target_view x)) c.in-Point.is c.requires.there in
-    joins c.args.labels.now.items c.in-Point.t c.index_mut-label.result.now c.join.new.label _ (ap target_view c.in-Point.is) (λ f. c.in_ok-after-in-Point.ensures f ∙ ap (held_after_edge (edge_view c.args.edge.now) f) (sym (ap (map_or false (λ (l : Label). has_fact l.state f)) (slice_get_read c.args.labels.now.items (length c.args.labels.now.items) c.args.i c.index.result.now refl c.requires.within c.index.ensures)))) (record {
-      old = slice_get_read c.args.labels.now.items (length c.args.labels.now.items) c.in-Point.t c.index_mut-label.result.now refl within c.index_mut-label.ensures.value;
+    let ns = c.args.numbers.now in
+    let ls = c.args.labels.now.items in
+    let t = c.in-Point.t in
+    let l = c.index_mut-label.result.now in
+    let after = c.in_ok-after-in-Point.after in
+    let within : t < length ls = subst (λ x. IsThere (length ls) (target_view x)) c.in-Point.is c.requires.there in
+    let old = slice_get_read ls (length ls) t l refl within c.index_mut-label.ensures.value in
+    let here = slice_get_read ls (length ls) c.args.i c.index.result.now refl c.requires.within c.index.ensures in
+    joins ls t l c.join.new.label (in_set ns after) (ap target_view c.in-Point.is) (λ f. c.in_ok-after-in-Point.ensures.facts f ∙ ap (held_after_edge (edge_view c.args.edge.now) f) (sym (ap (map_or false (λ (k : Label). in_set ns k.held f)) here))) (record {
+      old = old;
       within = within;
       reached = c.join.ensures.reached;
-      facts = λ f. c.join.ensures.facts f;
-      still = c.join.ensures.still;
-      less = λ all. c.join.ensures.less all;
+      facts = in-joined ns c.join.new.label.held l.held after l.reached c.join.ensures.held;
+      still = λ n. let still = c.join.ensures.still n in (still.0, still.1, in-same ns c.join.new.label.held l.held still.2);
+      known = known-joined ns c.join.new.label.held l.held after l.reached c.join.ensures.held (c.in_ok-after-in-Point.ensures.known (c.requires.known c.args.i c.index.result.now here));
+      less = λ all only. c.join.ensures.less ns all (c.requires.known t l old) only;
     })
 
 pub returns-in-End : goal.returns-in-End

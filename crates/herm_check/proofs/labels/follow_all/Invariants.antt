@@ -6,6 +6,6 @@ use Rattle.herm_check.proofs.labels.follow_all.Given as goal
 
 abbrev pub invariant-loop-k : goal.invariant-loop-k
 invariant-loop-k l = record {
-  left : IsLeft (flow_view l.flow) l.i (map edge_view (take l.k l.edges)) l.labels.items;
-  less : weight (all_facts (flow_view l.flow)) l.labels.items ≤ weight (all_facts (flow_view l.flow)) l.initial.labels.items;
+  left : IsLeft l.numbers (flow_view l.flow) l.i (map edge_view (take l.k l.edges)) l.labels.items;
+  less : weight l.numbers (all_facts (flow_view l.flow)) l.labels.items ≤ weight l.numbers (all_facts (flow_view l.flow)) l.initial.labels.items;
 }

@@ -13,8 +13,8 @@ pub follow_all-requires-clause-left : goal.follow_all-requires-clause-left
 follow_all-requires-clause-left c =
     let ls = c.args.labels.now.items in
     let label = c.index_mut-label.result.now in
-    starts (flow_view c.args.flow.now) ls c.args.i label (record { reached = label.reached; pending = false; state = label.state }) (slice_get_read ls (length ls) c.args.i label refl c.requires.within c.index_mut-label.ensures.value)
-    c.requires.within refl (λ f. refl) c.requires.reached c.requires.labels
+    starts c.args.numbers.now (flow_view c.args.flow.now) ls c.args.i label (record { reached = label.reached; pending = false; held = label.held }) (slice_get_read ls (length ls) c.args.i label refl c.requires.within c.index_mut-label.ensures.value)
+    c.requires.within refl refl c.requires.reached c.requires.labels
 
 pub returns-clause-less : goal.returns-clause-less
 returns-clause-less c =
@@ -24,6 +24,6 @@ returns-clause-less c =
     let old = slice_get_read ls (length ls) c.args.i label refl c.requires.within c.index_mut-label.ensures.value in
     let reached : label.reached ≡ true = sym (ap (map_or false (λ (l : Label). l.reached)) old) ∙ c.requires.reached in
     let pending : label.pending ≡ true = sym (ap (map_or false (λ (l : Label). l.pending)) old) ∙ c.requires.pending in
-    let lighter = set-lighter all ls c.args.i label (record { reached = label.reached; pending = false; state = label.state }) old
-    (weight-left all label (record { reached = label.reached; pending = false; state = label.state }) reached pending reached refl (λ f. refl)) in
+    let lighter = set-lighter c.args.numbers.now all ls c.args.i label (record { reached = label.reached; pending = false; held = label.held }) old
+    (weight-left c.args.numbers.now all label (record { reached = label.reached; pending = false; held = label.held }) reached pending reached refl (λ f. refl)) in
     omega (arith, lighter, c.in_ok-follow_all.ensures.less)

@@ -5,25 +5,28 @@ use Rattle.herm_model.specs.Lists.{IsIn, map_or, numbered}
 use Rattle.herm_model.specs.ControlPaths.{Holds}
 use Rattle.herm_model.specs.MissingFacts.{demands_at}
 use Rattle.herm_model.proofs.Lists.{length-map}
-use Rattle.herm_types.specs.View.{fact_view}
 use Rattle.herm_typestate.specs.declared.state.State.{State}
 use Rattle.herm_typestate.specs.Facts.{has_fact}
 use Rattle.herm_flow.specs.View.{point_view, flow_view}
-use Rattle.herm_check.specs.declared.missing.Missing.{Missing}
-use Rattle.herm_check.specs.Searched.{AreSearched}
-use Rattle.herm_check.specs.Missing.{AreNoted, AreMissing}
+use Rattle.std.specs.declared.vec.Vec.{Vec}
+use Rattle.std.specs.declared.alloc.Global.{Global}
+use Rattle.herm_facts.specs.declared.fact_numbers.FactNumbers.{FactNumbers}
+use Rattle.herm_check.specs.declared.search.Search.{Search}
+use Rattle.herm_check.specs.declared.missing.Lost.{Lost}
+use Rattle.herm_check.specs.Missing.{AreMissing, missing_of}
 use Rattle.herm_check.proofs.Places.{point-at}
 use Rattle.herm_check.proofs.Reported.{demands-more, none-missing}
 use Rattle.herm_check.proofs.missing.lacking.Goals as goal
 
+abbrev lost_of : FactNumbers → Vec Search Global → Lost
+lost_of numbers searches = record { numbers = numbers; searches = searches }
+
 pub loop-i-init : goal.loop-i-init
-loop-i-init c =
-    let begun : Missing = record { lost = c.in_ok-lost.lost; searches = c.in_ok-searches.searches; facts = c.new.result } in
-    record {
-      noted = c.in_ok-lost.ensures.noted;
-      searched = subst (λ xs. AreSearched (flow_view c.args.flow.now) (map fact_view xs) c.in_ok-searches.searches.items) c.as_slice.ensures.value c.in_ok-searches.ensures;
-      missing = none-missing (flow_view c.args.flow.now) begun c.new.ensures.items;
-    }
+loop-i-init c = record {
+  noted = c.in_ok-numbers.ensures.noted;
+  searched = c.in_ok-searches.ensures;
+  missing = λ facts are. none-missing (flow_view c.args.flow.now) (missing_of (lost_of c.in_ok-numbers.numbers c.in_ok-searches.searches) facts c.new-facts.result) c.new-facts.ensures.items;
+}
 
 -- the facts that the label of the point at a place lacks have numbers
 pub push_point-requires-clause-noted : goal.push_point-requires-clause-noted
@@ -62,19 +65,18 @@ loop-i-preserved c =
     let is = subst (λ xs. point ≡ get_or xs i point) c.as_slice-point-items.ensures.value c.point-item.is in
     let place : i ≡ 0 + length so_far = omega (arith, length-map point_view (take i points), length-take-le i points (omega arith)) in
     let next = map_more point_view points i point within ∙ ap (λ x. so_far ++ point_view x ∷ []) (sym is) in
-    let lost = c.in_ok-push_point.ensures.lost in
-    let searches = c.in_ok-push_point.ensures.searches in
     record {
-      noted = subst (AreNoted (flow_view c.args.flow.now) c.args.labels.now) (sym lost) c.loop-i.invariant.noted;
-      searched = subst (λ xs. AreSearched (flow_view c.args.flow.now) (map fact_view xs) c.push_point.new.out.searches.items) (sym lost) (subst (AreSearched (flow_view c.args.flow.now) (map fact_view c.loop-i.out.lost.items)) (sym searches) c.loop-i.invariant.searched);
-      missing =
-          subst (λ ds. AreMissing (flow_view c.args.flow.now) ds c.push_point.new.out)
+      noted = c.loop-i.invariant.noted;
+      searched = c.loop-i.invariant.searched;
+      missing = λ facts are.
+          subst (λ ds. AreMissing (flow_view c.args.flow.now) ds (missing_of (lost_of c.in_ok-numbers.numbers c.in_ok-searches.searches) facts c.push_point.new.out))
           (ap (λ n. flat_map demands_at (numbered 0 so_far) ++ demands_at (n, point_view point)) place ∙ (sym (demands-more 0 so_far (point_view point)) ∙ ap (λ ps. flat_map demands_at (numbered 0 ps)) (sym next)))
-          (c.in_ok-push_point.ensures.missing (flat_map demands_at (numbered 0 so_far)) c.loop-i.invariant.missing);
+          (c.in_ok-push_point.ensures (flat_map demands_at (numbered 0 so_far)) facts are (c.loop-i.invariant.missing facts are));
     }
 
 pub returns : goal.returns
 returns c =
     let points = c.args.flow.now.points.items in
     let many : length c.as_slice-point-items.result.now ≡ length points = ap length c.as_slice-point-items.ensures.value in
-    subst (λ ps. AreMissing (flow_view c.args.flow.now) (flat_map demands_at (numbered 0 (map point_view ps))) c.loop-i.out) (take_all c.loop-i.i points (omega (arith, c.loop-i-test.false, many))) c.loop-i.invariant.missing
+    let facts = c.into_facts.result in
+    subst (λ ps. AreMissing (flow_view c.args.flow.now) (flat_map demands_at (numbered 0 (map point_view ps))) (missing_of (lost_of c.in_ok-numbers.numbers c.in_ok-searches.searches) facts c.loop-i.facts)) (take_all c.loop-i.i points (omega (arith, c.loop-i-test.false, many))) (c.loop-i.invariant.missing facts (λ f n. c.into_facts.ensures f n))

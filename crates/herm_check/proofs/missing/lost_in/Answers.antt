@@ -1,4 +1,4 @@
-use Rattle.std.proofs.Common.{◌≡◌, ◌⊎◌, ◌≢◌, inl, inr, ℕ, ◌<◌, ◌+◌, length, map, Some, false, slice_get, get_or, refl, sym, ap, subst, arith}
+use Rattle.std.proofs.Common.{◌≡◌, ◌⊎◌, ◌≢◌, inl, inr, ℕ, ◌<◌, ◌+◌, length, map, Option, Some, None, false, slice_get, get_or, refl, sym, ◌∙◌, ap, subst, arith}
 use Rattle.std.proofs.lemmas.Option.{slice_get_read, slice_get_within}
 use Rattle.herm_model.specs.Lists.{IsIn}
 use Rattle.herm_model.specs.Paths.{Fact}
@@ -14,20 +14,23 @@ use Rattle.herm_check.proofs.Searched.{one-at}
 use Rattle.herm_check.proofs.Noted.{noted-kept}
 use Rattle.herm_check.proofs.missing.lost_in.Goals as goal
 
+none-some : (n : ℕ) → ◌≡◌ {A = Option ℕ} None (Some n) → ⊥
+none-some n e = cc
+
 pub loop-i-init : goal.loop-i-init
 loop-i-init c = record {
   noted = λ i p s f before at label member lacks. absurd (omega (arith, before));
-  some = λ h. omega (arith, h, ap length c.new-lost.ensures.items);
+  some = λ f n at. absurd (none-some n (sym (c.none-lost.ensures f) ∙ at));
 }
 
 pub loop-i-preserved : goal.loop-i-preserved
 loop-i-preserved c = record {
   noted = λ i p s f before at label member lacks. by i p s f before at label member lacks (same_or_not i c.loop-i.i);
-  some = λ h. omega arith;
+  some = λ f n at. omega arith;
 }
   where
-    by : (i : ℕ) (p : Point) (s : State) (f : Fact) → i < c.loop-i.i + 1 → slice_get (flow_view c.args.flow.now).points i ≡ Some p → slice_get c.args.labels.now.at.items i ≡ Some s → IsIn f p.needs → has_fact s f ≡ false → (i ≡ c.loop-i.i) ⊎ (i ≢ c.loop-i.i) → IsNoted c.note_point.new.lost.items f
-    by i p s f before at label member lacks (inr d) = noted-kept c.loop-i.lost.items c.note_point.new.lost.items f c.in_ok-note_point.ensures.kept (c.loop-i.invariant.noted i p s f (omega (arith, before, d)) at label member lacks)
+    by : (i : ℕ) (p : Point) (s : State) (f : Fact) → i < c.loop-i.i + 1 → slice_get (flow_view c.args.flow.now).points i ≡ Some p → slice_get c.args.labels.now.at.items i ≡ Some s → IsIn f p.needs → has_fact s f ≡ false → (i ≡ c.loop-i.i) ⊎ (i ≢ c.loop-i.i) → IsNoted c.note_point.new.lost f
+    by i p s f before at label member lacks (inr d) = noted-kept c.loop-i.lost c.note_point.new.lost f c.in_ok-note_point.ensures.kept (c.loop-i.invariant.noted i p s f (omega (arith, before, d)) at label member lacks)
     by i p s f before at label member lacks (inl e) =
         let point = c.point-item.result in
         let state = c.index.result.now in
@@ -50,4 +53,4 @@ returns-clause-noted c i p s f at label member lacks =
     c.loop-i.invariant.noted i p s f (omega (arith, within, all, many, c.loop-i-test.false)) at label member lacks
 
 pub returns-clause-some : goal.returns-clause-some
-returns-clause-some c h = let some = c.loop-i.invariant.some h in let many : length c.as_slice-point-items.result.now ≡ length c.args.flow.now.points.items = ap length c.as_slice-point-items.ensures.value in omega (arith, some, many)
+returns-clause-some c f n at = let some = c.loop-i.invariant.some f n at in let many : length c.as_slice-point-items.result.now ≡ length c.args.flow.now.points.items = ap length c.as_slice-point-items.ensures.value in omega (arith, some, many)

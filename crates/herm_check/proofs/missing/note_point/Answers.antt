@@ -22,9 +22,9 @@ loop-fact-preserved c =
       kept = λ f n number. c.in_ok-note_lacking.ensures.kept f n (c.loop-fact.invariant.kept f n number);
     }
   where
-    noted : (f : Fact) → IsIn f (map fact_view (take c.loop-fact.fact-index c.deref-fact-items.result.now)) ⊎ IsIn f (fact_view c.fact-item.result ∷ []) → has_fact c.args.state.now f ≡ false → IsNoted c.note_lacking.new.lost.items f
-    noted f (inl h) lacks = noted-kept c.loop-fact.lost.items c.note_lacking.new.lost.items f c.in_ok-note_lacking.ensures.kept (c.loop-fact.invariant.noted f h lacks)
-    noted f (inr (inl e)) lacks = subst (IsNoted c.note_lacking.new.lost.items) (sym e) (c.in_ok-note_lacking.ensures.noted (subst (λ g. has_fact c.args.state.now g ≡ false) e lacks))
+    noted : (f : Fact) → IsIn f (map fact_view (take c.loop-fact.fact-index c.deref-fact-items.result.now)) ⊎ IsIn f (fact_view c.fact-item.result ∷ []) → has_fact c.args.state.now f ≡ false → IsNoted c.note_lacking.new.lost f
+    noted f (inl h) lacks = noted-kept c.loop-fact.lost c.note_lacking.new.lost f c.in_ok-note_lacking.ensures.kept (c.loop-fact.invariant.noted f h lacks)
+    noted f (inr (inl e)) lacks = subst (IsNoted c.note_lacking.new.lost) (sym e) (c.in_ok-note_lacking.ensures.noted (subst (λ g. has_fact c.args.state.now g ≡ false) e lacks))
     noted f (inr (inr never)) lacks = absurd never
 
 pub returns-clause-noted : goal.returns-clause-noted

@@ -8,6 +8,6 @@ use Rattle.herm_check.proofs.missing.note_point.Given as goal
 
 abbrev pub invariant-loop-fact : goal.invariant-loop-fact
 invariant-loop-fact l = record {
-  noted : (f : Fact) → IsIn f (map fact_view (take l.fact-index l.fact-items)) → has_fact l.state f ≡ false → IsNoted l.lost.items f;
-  kept : AreKept l.initial.lost.items l.lost.items;
+  noted : (f : Fact) → IsIn f (map fact_view (take l.fact-index l.fact-items)) → has_fact l.state f ≡ false → IsNoted l.lost f;
+  kept : AreKept l.initial.lost l.lost;
 }

@@ -1,6 +1,6 @@
 use Rattle.std.proofs.Common.{◌≡◌, ◌<◌, ◌++◌, ◌∷◌, ◌&&◌, [], Bool, true, false, true≢false, not, length, Some, slice_get, slice_set, refl, sym, subst, ◌∙◌, arith}
 use Rattle.std.proofs.lemmas.Option.{slice_get_read}
-use Rattle.herm_check.specs.FactSets.{has}
+use Rattle.herm_facts.specs.FactSets.{has}
 use Rattle.herm_check.specs.Searched.{with_facts, IsVisited, again, added}
 use Rattle.herm_check.proofs.Following.{slot-within}
 use Rattle.herm_check.proofs.search.add.Goals as goal

@@ -2,7 +2,7 @@ use Rattle.std.proofs.Common.{◌≡◌, ℕ, ◌&&◌, not, nat_lt, length, map
 use Rattle.herm_model.proofs.Lists.{length-map}
 use Rattle.herm_types.specs.View.{fact_view}
 use Rattle.herm_flow.specs.View.{flow_view, point_view}
-use Rattle.herm_check.specs.FactSets.{has}
+use Rattle.herm_facts.specs.FactSets.{has}
 use Rattle.herm_check.proofs.FirstVisits.{begun}
 use Rattle.herm_check.proofs.search.begin.Goals as goal
 

@@ -11,7 +11,7 @@ use Rattle.herm_flow.specs.declared.flow.Edge.{Edge}
 use Rattle.herm_flow.specs.declared.flow.Flow.{Flow}
 use Rattle.herm_flow.specs.declared.flow.Point.{Point}
 use Rattle.herm_flow.specs.View.{edge_view, point_view, flow_view}
-use Rattle.herm_check.specs.declared.effects.Effect.{Effect}
+use Rattle.herm_check.specs.declared.change.Effect.{Effect}
 use Rattle.herm_check.specs.declared.search.Search.{Search}
 use Rattle.herm_check.specs.declared.search.Visit.{Visit}
 use Rattle.herm_check.specs.Known.{IsEffect, AreEffects, AreEffectsIn}

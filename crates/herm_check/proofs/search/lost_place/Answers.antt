@@ -9,8 +9,8 @@ use Rattle.herm_model.proofs.Lists.{length-map, each-joined, each-first, each-no
 use Rattle.herm_model.proofs.FactTests.{got-IsIn}
 use Rattle.herm_flow.specs.declared.flow.Point.{Point}
 use Rattle.herm_flow.specs.View.{flow_view, point_view}
-use Rattle.herm_check.specs.FactSets.{has}
-use Rattle.herm_check.specs.declared.fact_set.FactSet.{FactSet}
+use Rattle.herm_facts.specs.FactSets.{has}
+use Rattle.herm_facts.specs.declared.fact_set.FactSet.{FactSet}
 use Rattle.herm_check.specs.declared.search.Visit.{Visit}
 use Rattle.herm_check.specs.Searched.{Places, slot_of, IsOf, HasVisits}
 use Rattle.herm_check.proofs.Places.{first-node}

@@ -1,0 +1,42 @@
+-- Numbers that facts get one after another.
+use Rattle.std.proofs.Common.{◌≡◌, ◌⊎◌, inl, inr, ℕ, ◌+◌, ◌<◌, List, [], ◌∷◌, ◌++◌, length, map, flat_map, take, get_or, Bool, true, false, Some, refl, sym, ◌∙◌, ap, subst}
+use Rattle.std.proofs.lemmas.List.{map_more, append_assoc, flat_map_more}
+use Rattle.herm_model.specs.Lists.{IsIn}
+use Rattle.herm_model.specs.Paths.{Fact, same_fact}
+use Rattle.herm_model.specs.ControlPaths.{Edge, Point, Flow}
+use Rattle.herm_model.proofs.Lists.{in-append_left, in-append_right, in-append_cases, in-flat_map}
+use Rattle.herm_model.proofs.Equality.{same_fact-is}
+use Rattle.herm_facts.specs.declared.fact_numbers.FactNumbers.{FactNumbers}
+use Rattle.herm_facts.specs.FactNumbers.{number_of}
+use Rattle.herm_check.specs.Numberings.{HasNumber, HaveNumbers}
+use Rattle.herm_check.specs.Labelled.{AreNumbered}
+
+pub one-added : (before : List Fact) (old new : FactNumbers) (g : Fact) (n : ℕ) → number_of new g ≡ Some n → ((f : Fact) → same_fact f g ≡ false → number_of new f ≡ number_of old f)
+    → ((f : Fact) (k : ℕ) → number_of old f ≡ Some k → number_of new f ≡ Some k) → HaveNumbers before old → HaveNumbers (before ++ g ∷ []) new
+one-added before old new g n number others kept h = record { all = λ f m. all f (in-append_cases f before (g ∷ []) m); only = λ f k at. only f k at (same_fact f g) refl }
+  where
+    all : (f : Fact) → IsIn f before ⊎ IsIn f (g ∷ []) → HasNumber new f
+    all f (inl m) = let k = h.all f m in (k.0, kept f k.0 k.1)
+    all f (inr (inl e)) = (n, ap (number_of new) e ∙ number)
+    all f (inr (inr none)) = absurd none
+
+    only : (f : Fact) (k : ℕ) → number_of new f ≡ Some k → (b : Bool) → same_fact f g ≡ b → IsIn f (before ++ g ∷ [])
+    only f k at true e = in-append_right f before (g ∷ []) (inl (same_fact-is f g e))
+    only f k at false e = in-append_left f before (g ∷ []) (h.only f k (sym (others f e) ∙ at))
+
+-- a fact more of a list
+pub facts-more : {X : Type 0} (view : X → Fact) (before : List Fact) (xs : List X) (i : ℕ) (x : X) → i < length xs → x ≡ get_or xs i x → before ++ map view (take i xs) ++ view x ∷ [] ≡ before ++ map view (take (i + 1) xs)
+facts-more view before xs i x within is =
+    append_assoc before (map view (take i xs)) (view x ∷ [])
+    ∙ ap (λ fs. before ++ fs) (ap (λ y. map view (take i xs) ++ view y ∷ []) is ∙ sym (map_more view xs i x within))
+
+-- the facts of an element more of a list
+pub rows-more : {X Y : Type 0} (view : X → Y) (facts : Y → List Fact) (before : List Fact) (xs : List X) (i : ℕ) (x : X) → i < length xs → x ≡ get_or xs i x → before ++ flat_map facts (map view (take i xs)) ++ facts (view x) ≡ before ++ flat_map facts (map view (take (i + 1) xs))
+rows-more view facts before xs i x within is =
+    flat_map_more facts before (map view (take i xs)) (view x)
+    ∙ ap (λ ys. before ++ flat_map facts ys) (ap (λ y. map view (take i xs) ++ view y ∷ []) is ∙ sym (map_more view xs i x within))
+
+-- what an edge of the flow makes has numbers
+pub made-numbered : (flow : Flow) (ns : FactNumbers) → AreNumbered flow ns → (p : Point) (e : Edge) → IsIn p flow.points → IsIn e p.edges → (f : Fact) → IsIn f e.makes → HasNumber ns f
+made-numbered flow ns h p e in-flow in-point f makes =
+    h.numbers.all f (inr (in-flat_map (λ (q : Point). flat_map (λ (d : Edge). d.makes) q.edges) p f flow.points in-flow (in-flat_map (λ (d : Edge). d.makes) e f p.edges in-point makes)))

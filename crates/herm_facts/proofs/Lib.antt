@@ -1,0 +1,6 @@
+pub mod FactSets
+pub mod NumberSets
+pub mod Among
+pub mod Giving
+pub mod Walk
+pub mod Listed

@@ -1,0 +1,17 @@
+use Rattle.std.proofs.Common.{◌≡◌, ◌+◌, ◌*◌, ◌/◌, ◌%◌, ◌∙◌, true, sym, ap, subst, true≢false}
+use Rattle.herm_facts.specs.NumberSets.{has_at, has_number}
+use Rattle.herm_facts.proofs.NumberSets.{at-number, not-true}
+use Rattle.herm_facts.proofs.number_set.NumberSet.is_empty.Goals as goal
+
+pub returns-clause-none : goal.returns-clause-none
+unfolding has_number
+returns-clause-none c empty n =
+    not-true (has_at c.args.self.now.words.items (n / 64) (n % 64))
+    (λ here. true≢false (sym (c.excess.ensures.none (n / 64) (n % 64) (c.is_empty.ensures.none empty (n % 64)) (subst (λ ws. has_at ws (n / 64) (n % 64) ≡ true) (sym c.as_slice.ensures.value) here))))
+
+pub returns-clause-some : goal.returns-clause-some
+unfolding has_number
+returns-clause-some c filled =
+    let bit = c.is_empty.ensures.some filled in
+    let found = c.excess.ensures.some bit.0 bit.2 in
+    (64 * found.0 + bit.0, at-number c.args.self.now.words.items found.0 bit.0 bit.1 ∙ (ap (λ ws. has_at ws found.0 bit.0) (sym c.as_slice.ensures.value) ∙ found.1))

@@ -1,0 +1,5 @@
+-- Sets of numbers, and the numbers that facts have.
+pub mod FactSets
+pub mod NumberSets
+pub mod Numbers
+pub mod FactNumbers
