@@ -178,6 +178,22 @@ def results_taken(raised):
     return f"{head}process p(start:ti){{var A:co,{','.join(f'{name}:r' for name in several)},x:r,{','.join(f'{name}:integer' for name in results)};receive A from start;{tried}{''.join(f'x:={name};' for name in several)}}}\n{EMPTY_MAIN}"
 
 
+def coming_back(calls, raised, count, fields, kept, last="k:=1;"):
+    """A `try` of calls with so many results, integers or records of so many fields, that may raise exceptions which keep some of them each, and a handler of its own for each exception. Three further records are there for what comes last."""
+    exceptions, several = [f"E{i}" for i in range(raised)], list(itertools.islice(names(), count))
+    of = "q" if fields else "integer"
+    left = (4_080 - count * (fields + 1)) // 4 - 1
+    keeps = lambda i: ",".join(f"full({several[n]})" for n in range(count) if kept(i, n))
+    raising = (name + (f"{{{keeps(i)}}}" if keeps(i) else "") for i, name in enumerate(exceptions))
+    head = (
+        f"definitions w{{{''.join(f'exception {name};' for name in exceptions)}type q=record{{{','.join(f'f{i}:integer' for i in range(max(fields, 1)))}}};"
+        f"type r=record{{{','.join(f'f{i}:integer' for i in range(min(left, FIELDS)))}}};"
+        f"type c=callmessage({','.join(f'out {name}:{of}' for name in several)})raises({','.join(raising)});type ci=inport of c;type co=outport of ci;type ti=inport of co;}}\n"
+    )
+    tried = f"try{{{f'call o({chr(44).join(several)});' * calls}}}" + "".join(f"on {name}{{k:=1;}}" for name in exceptions)
+    return f"{head}process p(start:ti){{var {''.join(f'{name}:{of},' for name in several)}R0:r,R1:r,R2:r,x:r,k:integer,o:co;receive o from start;k:=1;{tried}{last}}}\n{EMPTY_MAIN}"
+
+
 def told_apart():
     """3,000 integers, each of which is made by other ones of 24 calls, that a branch passes over; then a `try` of 400 calls with 400 handlers, and at its end the integers are read."""
     several = list(itertools.islice(names(), 3_000))
@@ -245,6 +261,14 @@ def at_the_limits():
         "refusals behind 250,000 that keep": handled(500, 500, "k:=1;", "x:=a;x:=b;x:=c;", records=3, kept=2),
         "8,000 exceptions beside 3,900 variables": beside_variables(1_000, 8, ""),
         "250,000 beside 3,900 variables": beside_variables(500, 500, "ZZ:=1;".replace("ZZ", "a0")),
+        "250,000 that keep 512 sets of results": handled(500, 500, "k:=1;", "k:=1;", kept=9),
+        "refusals behind 250,000 that keep 512": handled(500, 500, "k:=1;", "x:=a;x:=b;x:=c;", records=3, kept=9),
+        "250,000 that lose 270 results": coming_back(500, 500, 270, 0, lambda i, n: False),
+        "100,000 that keep 100 of 270 results": coming_back(400, 250, 270, 0, lambda i, n: (n - 7 * i) % 270 < 100),
+        "250,000 that keep a record": coming_back(500, 500, 1, 980, lambda i, n: True),
+        "250,000 that keep some of eight records": coming_back(500, 500, 8, 125, lambda i, n: i >> n & 1),
+        "refusals behind 250,000 that lose 270": coming_back(490, 490, 270, 0, lambda i, n: False, "x:=R0;x:=R1;x:=R2;"),
+        "refusals behind 250,000 that keep some": coming_back(490, 490, 8, 125, lambda i, n: i >> n & 1, "x:=R0;x:=R1;x:=R2;"),
         "260,000 exceptions": handled(510, 510, "k:=1;", "k:=1;"),
         "2,000,000 exceptions": handled(1_000, 2_000, "", "k:=1;"),
         "20,000,000 exceptions": handled(1_000, 20_000, "", "k:=1;"),
