@@ -4,3 +4,5 @@ pub mod Among
 pub mod Giving
 pub mod Walk
 pub mod Listed
+pub mod SparseSets
+pub mod FactsInSets

@@ -22,7 +22,7 @@ with_same ns None n e = refl
 with_same ns (Some c) n e = among-behind c ns.known (record { component = c; number = n } ∷ []) e ∙ ap (λ b. cond b (Some n) None) (eq-eqb c c refl)
 
 -- the test of lists without a number that stands twice
-any-in : (n : ℕ) (ns : List ℕ) → any_pass (nat_eq n) ns ≡ true → IsIn n ns
+pub any-in : (n : ℕ) (ns : List ℕ) → any_pass (nat_eq n) ns ≡ true → IsIn n ns
 any-in n [] e = absurd (false≢true e)
 any-in n (m ∷ ns) e = by (nat_eq n m) refl e (any-in n ns)
   where
@@ -30,7 +30,7 @@ any-in n (m ∷ ns) e = by (nat_eq n m) refl e (any-in n ns)
     by true f e again = inl (eqb-true n m f)
     by false f e again = inr (again e)
 
-in-any : (n : ℕ) (ns : List ℕ) → IsIn n ns → any_pass (nat_eq n) ns ≡ true
+pub in-any : (n : ℕ) (ns : List ℕ) → IsIn n ns → any_pass (nat_eq n) ns ≡ true
 in-any n [] m = absurd m
 in-any n (k ∷ ns) (inl e) = ap (λ b. b || any_pass (nat_eq n) ns) (eq-eqb n k e)
 in-any n (k ∷ ns) (inr m) = by (nat_eq n k) (in-any n ns m)

@@ -1,6 +1,6 @@
 -- Sets of numbers, word by word.
 use Rattle.std.proofs.Common.{◌≡◌, ◌≢◌, ◌⊎◌, inl, inr, ℕ, zero, suc, ◌+◌, ◌*◌, ◌/◌, ◌%◌, ◌<◌, ◌≤◌, List, [], ◌∷◌, ◌++◌, length, take, Bool, true, false, not, ◌&&◌, ◌||◌, nat_eq, slice_set, get_or, refl, sym, ◌∙◌, ap, ap₂, subst, arith, length-set, true≢false, mod-lt}
-use Rattle.std.proofs.lemmas.Bool.{eqb-false, eqb-true, cases_eq, cases_lt}
+use Rattle.std.proofs.lemmas.Bool.{eq-eqb, eqb-false, eqb-true, cases_eq, cases_lt}
 use Rattle.std.proofs.lemmas.Nat.{div-add-mod'}
 use Rattle.std.proofs.lemmas.Option.{slice_get_past, slice_get_read}
 use Rattle.herm_model.specs.Lists.{map_or}
@@ -67,36 +67,47 @@ at-number ws i j h = ap₂ (λ a b. has_at ws a b) (place-of i j h) (bit-of i j 
 pub past-number : (ws : List FactSet) (n : ℕ) → 64 * length ws ≤ n → has_at ws (n / 64) (n % 64) ≡ false
 past-number ws n h = past ws (n / 64) (n % 64) (omega (arith, h, div-add-mod' n 64, in-word n))
 
--- ---- a word of a number is set anew
+-- ---- a word is set anew
+
+-- a number is that of its place and bit
+pub same-number : (n k : ℕ) → (nat_eq (n / 64) (k / 64) && nat_eq (n % 64) (k % 64)) ≡ nat_eq n k
+same-number n k = by (nat_eq (n / 64) (k / 64)) refl (nat_eq (n % 64) (k % 64)) refl (nat_eq n k) refl
+  where
+    by : (a : Bool) → nat_eq (n / 64) (k / 64) ≡ a → (b : Bool) → nat_eq (n % 64) (k % 64) ≡ b → (c : Bool) → nat_eq n k ≡ c → (a && b) ≡ c
+    by true e true f true g = refl
+    by true e true f false g = absurd (eqb-false n k g (omega (arith, eqb-true (n / 64) (k / 64) e, eqb-true (n % 64) (k % 64) f, div-add-mod' n 64, div-add-mod' k 64)))
+    by true e false f true g = absurd (eqb-false (n % 64) (k % 64) f (ap (λ m. m % 64) (eqb-true n k g)))
+    by true e false f false g = refl
+    by false e b f true g = absurd (eqb-false (n / 64) (k / 64) e (ap (λ m. m / 64) (eqb-true n k g)))
+    by false e b f false g = refl
+
+-- the word at a place becomes one that differs by these bits alone
+pub place-changed : (f : Bool → Bool → Bool) (ws : List FactSet) (k : ℕ) (v w : FactSet) (bits : ℕ → Bool) → ((b : Bool) → f b false ≡ b) → k < length ws → v ≡ get_or ws k v
+    → ((j : ℕ) → has w j ≡ f (has v j) (bits j)) → (i j : ℕ) → has_at (slice_set ws k w) i j ≡ f (has_at ws i j) (nat_eq i k && bits j)
+place-changed f ws k v w bits quiet within there is i j = by (nat_eq i k) refl
+  where
+    here : has_at (slice_set ws k w) k j ≡ f (has_at ws k j) (nat_eq k k && bits j)
+    here = set-same ws k w j within ∙ (is j ∙ ap₂ f (sym (at_place ws k v j within there)) (ap (λ b. b && bits j) (sym (eq-eqb k k refl))))
+
+    by : (b : Bool) → nat_eq i k ≡ b → has_at (slice_set ws k w) i j ≡ f (has_at ws i j) (nat_eq i k && bits j)
+    by true e = subst (λ h. has_at (slice_set ws k w) h j ≡ f (has_at ws h j) (nat_eq h k && bits j)) (sym (eqb-true i k e)) here
+    by false e = set-other ws k w i j (λ same. eqb-false i k e (sym same)) ∙ sym (ap (λ b. f (has_at ws i j) (b && bits j)) e ∙ quiet (has_at ws i j))
 
 -- the word of a number becomes one that differs by this number alone
-pub word-changed : (f : Bool → Bool → Bool) (ws : List FactSet) (k : ℕ) (v w : FactSet) → ((b : Bool) → f false b ≡ b) → k / 64 < length ws → v ≡ get_or ws (k / 64) v
-    → ((j : ℕ) → has w j ≡ f (nat_eq j (k % 64)) (has v j)) → (n : ℕ) → has_at (slice_set ws (k / 64) w) (n / 64) (n % 64) ≡ f (nat_eq n k) (has_at ws (n / 64) (n % 64))
-word-changed f ws k v w quiet within there is n = by (cases_eq (k / 64) (n / 64)) (nat_eq n k) refl
-  where
-    bits : (k / 64 ≡ n / 64) → nat_eq (n % 64) (k % 64) ≡ nat_eq n k
-    bits same = agree (nat_eq (n % 64) (k % 64)) (nat_eq n k) refl refl
-      where
-        agree : (a b : Bool) → nat_eq (n % 64) (k % 64) ≡ a → nat_eq n k ≡ b → a ≡ b
-        agree true true e f = refl
-        agree false false e f = refl
-        agree true false e f = absurd (eqb-false n k f (omega (arith, same, eqb-true (n % 64) (k % 64) e, div-add-mod' n 64, div-add-mod' k 64)))
-        agree false true e f = absurd (eqb-false (n % 64) (k % 64) e (ap (λ m. m % 64) (eqb-true n k f)))
+pub word-changed : (f : Bool → Bool → Bool) (ws : List FactSet) (k : ℕ) (v w : FactSet) → ((b : Bool) → f b false ≡ b) → k / 64 < length ws → v ≡ get_or ws (k / 64) v
+    → ((j : ℕ) → has w j ≡ f (has v j) (nat_eq j (k % 64))) → (n : ℕ) → has_at (slice_set ws (k / 64) w) (n / 64) (n % 64) ≡ f (has_at ws (n / 64) (n % 64)) (nat_eq n k)
+word-changed f ws k v w quiet within there is n = place-changed f ws (k / 64) v w (λ j. nat_eq j (k % 64)) quiet within there is (n / 64) (n % 64) ∙ ap (f (has_at ws (n / 64) (n % 64))) (same-number n k)
 
-    by : (k / 64 ≡ n / 64) ⊎ (k / 64 ≡ n / 64 → ⊥) → (b : Bool) → nat_eq n k ≡ b → has_at (slice_set ws (k / 64) w) (n / 64) (n % 64) ≡ f (nat_eq n k) (has_at ws (n / 64) (n % 64))
-    by (inl same) b e =
-        subst (λ i. has_at (slice_set ws (k / 64) w) i (n % 64) ≡ f (nat_eq n k) (has_at ws i (n % 64))) same
-        (set-same ws (k / 64) w (n % 64) within ∙ is (n % 64) ∙ ap₂ f (bits same) (sym (at_place ws (k / 64) v (n % 64) within there)))
-    by (inr apart) true e = absurd (apart (ap (λ m. m / 64) (sym (eqb-true n k e))))
-    by (inr apart) false e = set-other ws (k / 64) w (n / 64) (n % 64) apart ∙ sym (ap (λ b. f b (has_at ws (n / 64) (n % 64))) e ∙ quiet (has_at ws (n / 64) (n % 64)))
-
--- there is no word of the number
-pub nothing-less : (ws : List FactSet) (k n : ℕ) → length ws ≤ k / 64 → has_at ws (n / 64) (n % 64) ≡ (not (nat_eq n k) && has_at ws (n / 64) (n % 64))
-nothing-less ws k n h = by (nat_eq n k) refl
+-- where there is no such word, nothing changes
+pub nothing-there : (f : Bool → Bool → Bool) (ws : List FactSet) (k : ℕ) (bit : Bool) → ((b : Bool) → f b false ≡ b) → ((b : Bool) → f false b ≡ false) → length ws ≤ k → (i j : ℕ) → has_at ws i j ≡ f (has_at ws i j) (nat_eq i k && bit)
+nothing-there f ws k bit quiet empty h i j = by (nat_eq i k) refl
   where
-    by : (b : Bool) → nat_eq n k ≡ b → has_at ws (n / 64) (n % 64) ≡ (not b && has_at ws (n / 64) (n % 64))
-    by true e = past ws (n / 64) (n % 64) (subst (λ m. length ws ≤ m / 64) (sym (eqb-true n k e)) h)
-    by false e = refl
+    by : (b : Bool) → nat_eq i k ≡ b → has_at ws i j ≡ f (has_at ws i j) (nat_eq i k && bit)
+    by true e = let gone = past ws i j (subst (λ m. length ws ≤ m) (sym (eqb-true i k e)) h) in gone ∙ sym (ap (λ b. f b (nat_eq i k && bit)) gone ∙ empty (nat_eq i k && bit))
+    by false e = sym (ap (λ b. f (has_at ws i j) (b && bit)) e ∙ quiet (has_at ws i j))
+
+pub nothing-changed : (f : Bool → Bool → Bool) (ws : List FactSet) (k : ℕ) → ((b : Bool) → f b false ≡ b) → ((b : Bool) → f false b ≡ false) → length ws ≤ k / 64 → (n : ℕ) → has_at ws (n / 64) (n % 64) ≡ f (has_at ws (n / 64) (n % 64)) (nat_eq n k)
+nothing-changed f ws k quiet empty h n = nothing-there f ws (k / 64) (nat_eq (n % 64) (k % 64)) quiet empty h (n / 64) (n % 64) ∙ ap (f (has_at ws (n / 64) (n % 64))) (same-number n k)
 
 -- ---- words that meet others
 

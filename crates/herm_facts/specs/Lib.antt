@@ -3,3 +3,4 @@ pub mod FactSets
 pub mod NumberSets
 pub mod Numbers
 pub mod FactNumbers
+pub mod SparseSets

@@ -2,8 +2,10 @@
 ghost use Rattle.std.specs.Prelude.{◌≡◌, ℕ, ◌<◌, ◌≤◌, ◌+◌, ◌*◌, ◌&&◌, ◌||◌, not, true, false, nat_eq, length, OnOk, OnErr, IfOk};
 ghost use Rattle.herm_facts.specs.FactSets.{has};
 ghost use Rattle.herm_facts.specs.NumberSets.{has_at, has_number};
+ghost use Rattle.herm_facts.specs.SparseSets.{word_has, has_sparse};
 
 use super::FactSet;
+use crate::sparse_set::{SparseSet, WordAt};
 use std::alloc::{AllocError, Global};
 
 /// A set of numbers, a bit for each.
@@ -67,6 +69,27 @@ impl NumberSet {
         keep_common(self.words.as_mut_slice(), other.words.as_slice());
     }
 
+    /// Adds the numbers. Where memory is wanting, some of them may be in it and some not.
+    pub fn join(&mut self, more: &SparseSet) -> Result<(), AllocError>
+        ensures ok { OnOk result ((n : ℕ) → has_number self.new n ≡ (has_number self.old n || has_sparse more.now n)) }
+        ensures kept { OnErr result ((n : ℕ) → has_number self.old n ≡ true → has_number self.new n ≡ true) }
+        ensures only { OnErr result ((n : ℕ) → has_number self.new n ≡ true → (has_number self.old n || has_sparse more.now n) ≡ true) }
+    {
+        for word in more.words.as_slice() {
+            self.join_word(word)?;
+        }
+        Ok(())
+    }
+
+    /// Takes the numbers out.
+    pub fn take(&mut self, less: &SparseSet)
+        ensures { (n : ℕ) → has_number self.new n ≡ (has_number self.old n && not (has_sparse less.now n)) }
+    {
+        for word in less.words.as_slice() {
+            self.take_word(word);
+        }
+    }
+
     /// Whether the other set has each of the numbers.
     #[inline(always)]
     pub fn is_below(&self, other: &NumberSet) -> bool
@@ -97,6 +120,29 @@ impl NumberSet {
         ensures { (j : ℕ) → j < 64 → has result j ≡ has_number self.now (64 * at + j) }
     {
         word_at(self.words.as_slice(), at)
+    }
+
+    /// Adds the numbers of the word.
+    #[inline(always)]
+    fn join_word(&mut self, word: &WordAt) -> Result<(), AllocError>
+        ensures ok { OnOk result ((n : ℕ) → has_number self.new n ≡ (has_number self.old n || word_has n word.now)) }
+        ensures err { OnErr result ((n : ℕ) → has_number self.new n ≡ has_number self.old n) }
+    {
+        let at = word.at;
+        self.reach(at)?;
+        self.words[at] = self.words[at].either(word.set);
+        Ok(())
+    }
+
+    /// Takes the numbers of the word out.
+    #[inline(always)]
+    fn take_word(&mut self, word: &WordAt)
+        ensures { (n : ℕ) → has_number self.new n ≡ (has_number self.old n && not (word_has n word.now)) }
+    {
+        let at = word.at;
+        if at < self.words.len() {
+            self.words[at] = self.words[at].without(word.set);
+        }
     }
 
     /// Appends empty words until there is one at the place.
