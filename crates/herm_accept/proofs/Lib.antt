@@ -4,6 +4,7 @@ pub mod Readiness
 pub mod Telling
 pub mod Arms
 pub mod Begins
-pub mod Unrepeated
+pub mod Picked
 pub mod OnwardPaths
 pub mod OnwardReady
+pub mod Finding

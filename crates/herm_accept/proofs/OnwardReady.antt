@@ -1,29 +1,29 @@
--- The flow of a process without its edges to ends and without repeats is ready for the check.
-use Rattle.std.proofs.Common.{◌≡◌, ℕ, ◌<◌, List, map, length, sym, ap, ◌∙◌, subst}
-use Rattle.herm_model.specs.Lists.{IsIn}
+-- An onward flow of a typed process is ready for the check.
+use Rattle.std.proofs.Common.{◌≡◌, ◌<◌, length, sym, ◌∙◌, subst}
 use Rattle.herm_model.proofs.Lists.{length-map}
 use Rattle.herm_model.specs.Types.{TypeTable}
 use Rattle.herm_model.specs.Statements.{Process, IsWellFormedBlock}
-use Rattle.herm_model.specs.Targets.{node}
-use Rattle.herm_model.specs.ControlPaths as paths
-use Rattle.herm_model.specs.ControlPaths.{flow_of, IsReached}
-use Rattle.herm_model.specs.laws.FlowLaws.{EdgesDiffer, IsThere}
+use Rattle.herm_model.specs.ControlPaths.{flow_of}
 use Rattle.herm_model.proofs.NodePlaces.{edges-there}
 use Rattle.herm_model.proofs.DifferentOutcomes.{process-EdgesDiffer}
-use Rattle.herm_flow.specs.declared.flow.Flow.{Flow}
-use Rattle.herm_flow.specs.View.{point_view, flow_view}
+use Rattle.herm_flow.specs.declared.onward.OnwardFlow.{OnwardFlow}
+use Rattle.herm_flow.specs.OnwardView.{onward_point_view, onward_flow_view}
 use Rattle.herm_flow.specs.Ready.{IsAllReached}
-use Rattle.herm_flow.specs.Onward.{onward, onward_flow}
-use Rattle.herm_accept.specs.Onward.{IsOnward}
-use Rattle.herm_accept.proofs.OnwardPaths.{differ-onward, there-onward, reached-onward}
+use Rattle.herm_flow.specs.Onward.{IsOnwardFlow}
+use Rattle.herm_accept.specs.Onward.{IsOnwardReady}
+use Rattle.herm_accept.proofs.OnwardPaths.{onward-many, differ-onward, there-onward, reached-onward}
 
-pub onward_ready : (types : TypeTable) (p : Process) (f : Flow) → flow_view f ≡ onward_flow (flow_of types p) → IsWellFormedBlock p.body → IsAllReached (flow_of types p) → IsOnward types p f
-onward_ready types p f e formed reached =
-    let many : length f.points.items ≡ length (flow_of types p).points = sym (length-map point_view f.points.items) ∙ (ap (λ (flow : paths.Flow). length flow.points) e ∙ length-map onward (flow_of types p).points) in
+-- an onward flow has as many points
+pub points-many : (types : TypeTable) (p : Process) (f : OnwardFlow) → IsOnwardFlow (flow_of types p) (onward_flow_view f) → length f.points.items ≡ length (flow_of types p).points
+points-many types p f is = sym (length-map onward_point_view f.points.items) ∙ onward-many (flow_of types p).points (onward_flow_view f).points is.points
+
+pub onward_ready : (types : TypeTable) (p : Process) (f : OnwardFlow) → IsOnwardFlow (flow_of types p) (onward_flow_view f) → IsWellFormedBlock p.body → IsAllReached (flow_of types p) → IsOnwardReady types p f
+onward_ready types p f is formed reached =
+    let differ = process-EdgesDiffer types p formed in
     record {
-      flow = e;
-      of_differ = process-EdgesDiffer types p formed;
-      differ = subst (λ (flow : paths.Flow). EdgesDiffer flow) (sym e) (differ-onward (flow_of types p) (process-EdgesDiffer types p formed));
-      there = subst (λ (flow : paths.Flow). (q : paths.Point) (d : paths.Edge) → IsIn q flow.points → IsIn d q.edges → IsThere (length flow.points) d.target) (sym e) (there-onward (flow_of types p) (edges-there types p));
-      reached = λ i h. subst (λ (flow : paths.Flow). IsReached flow (node i)) (sym e) (reached-onward (flow_of types p) (process-EdgesDiffer types p formed) i (reached i (subst (λ n. i < n) many h)));
+      flow = is;
+      of_differ = differ;
+      differ = differ-onward (flow_of types p) (onward_flow_view f) is differ;
+      there = there-onward (flow_of types p) (onward_flow_view f) is (edges-there types p);
+      reached = λ i h. reached-onward (flow_of types p) (onward_flow_view f) is differ i (reached i (subst (λ n. i < n) (points-many types p f is) h));
     }

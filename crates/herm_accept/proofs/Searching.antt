@@ -3,14 +3,12 @@ use Rattle.std.proofs.Common.{◌≡◌, ℕ, suc, List, [], ◌∷◌, ◌++◌
 use Rattle.std.proofs.lemmas.List.{drop_all}
 use Rattle.herm_model.specs.Lists.{IsIn}
 use Rattle.herm_model.specs.Statements.{Process}
-use Rattle.herm_model.specs.ControlPaths.{Flow, flow_of}
+use Rattle.herm_model.specs.ControlPaths.{flow_of}
 use Rattle.herm_model.specs.MissingFacts.{IsAccepted}
 use Rattle.herm_model.proofs.DeterminedRefusals.{accepted-held}
 use Rattle.herm_meaning.specs.Names.{NamedTable}
 use Rattle.herm_typed.specs.declared.statements.TypedProcess.{TypedProcess}
 use Rattle.herm_typed.specs.View.{typed_process_view}
-use Rattle.herm_flow.specs.declared.flow.Flow.{Flow as FlowOf}
-use Rattle.herm_flow.specs.View.{flow_view}
 use Rattle.herm_check.specs.Faults.{HasNoFault}
 use Rattle.herm_check.specs.Missing.{refusals_of}
 use Rattle.herm_check.specs.Shortest.{AreShortest}
@@ -18,9 +16,7 @@ use Rattle.herm_check.specs.declared.missing.Missing.{Missing}
 use Rattle.herm_accept.specs.declared.accepting.Lack.{Lack}
 use Rattle.herm_accept.specs.Lacking.{Lacking, lack_view, lacking, AreLacking}
 use Rattle.herm_accept.specs.Judged.{IsSearched}
-use Rattle.herm_accept.specs.Onward.{IsOnward}
 use Rattle.herm_accept.proofs.Judging.{none_shortest}
-use Rattle.herm_accept.proofs.OnwardPaths.{shortest-onward, faultless-onward}
 
 -- With whatever the rest of the processes lack, what was found are the facts that all lack.
 pub record FindsOn (types : NamedTable) (all : List TypedProcess) (number : ℕ) (rest : List TypedProcess) (lacks : List Lack) : Type 0 where
@@ -59,18 +55,18 @@ each_accepted types all lacks are none = nothing_lacks types 0 all (subst (λ (f
 
 -- ---- what is found of one process
 
-pub searched_accepted : (types : NamedTable) (number : ℕ) (p : TypedProcess) (flow : FlowOf) (lacks : List Lack)
-    → IsOnward types.shapes (typed_process_view p) flow → HasNoFault (flow_view flow) → IsSearched types number p lacks lacks
-searched_accepted types number p flow lacks ready fault = record {
+pub searched_accepted : (types : NamedTable) (number : ℕ) (p : TypedProcess) (lacks : List Lack)
+    → HasNoFault (flow_of types.shapes (typed_process_view p)) → IsSearched types number p lacks lacks
+searched_accepted types number p lacks faultless = record {
   refusals = [];
-  are = none_shortest _ ((accepted-held types.shapes (typed_process_view p)).1 (faultless-onward (flow_of types.shapes (typed_process_view p)) ready.of_differ (subst HasNoFault ready.flow fault)));
+  are = none_shortest _ ((accepted-held types.shapes (typed_process_view p)).1 faultless);
   added = sym (append-nil (map lack_view lacks));
 }
 
-pub searched_refused : (types : NamedTable) (number : ℕ) (p : TypedProcess) (flow : FlowOf) (all : Missing) (lacks more : List Lack)
-    → IsOnward types.shapes (typed_process_view p) flow → AreShortest (flow_view flow) (refusals_of all) → map lack_view more ≡ map lack_view lacks ++ map (lacking types number p) (refusals_of all) → IsSearched types number p lacks more
-searched_refused types number p flow all lacks more ready are e = record {
+pub searched_refused : (types : NamedTable) (number : ℕ) (p : TypedProcess) (all : Missing) (lacks more : List Lack)
+    → AreShortest (flow_of types.shapes (typed_process_view p)) (refusals_of all) → map lack_view more ≡ map lack_view lacks ++ map (lacking types number p) (refusals_of all) → IsSearched types number p lacks more
+searched_refused types number p all lacks more are e = record {
   refusals = refusals_of all;
-  are = shortest-onward (flow_of types.shapes (typed_process_view p)) ready.of_differ (refusals_of all) (subst (λ (f : Flow). AreShortest f (refusals_of all)) ready.flow are);
+  are = are;
   added = e;
 }

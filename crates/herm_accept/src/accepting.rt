@@ -13,11 +13,13 @@ ghost use Rattle.herm_types.specs.declared.fact.Fact.{Fact as FactOf};
 ghost use Rattle.herm_words.specs.Sites.{sites_in};
 ghost use Rattle.herm_accept.specs.Accepted.{AreAccepted};
 ghost use Rattle.herm_accept.specs.Judged.{IsKnown, IsAdded, IsJudged};
-ghost use Rattle.herm_flow.specs.Ready.{IsReady};
+ghost use Rattle.herm_model.specs.ControlPaths.{flow_of};
+ghost use Rattle.herm_flow.specs.View.{flow_view};
 ghost use Rattle.herm_accept.specs.Lacking.{start_in, lack_view, lacking, EachOf, IsLost, IsTold, IsFaultOf};
 
+use crate::checked::check_process;
 use herm_base::StmtNo;
-use herm_check::{CheckFault, Missing, MissingAt, Search, check};
+use herm_check::{CheckFault, Missing, MissingAt, Search};
 use herm_coerce::{Coercions, coerce};
 use herm_flow::{Flow, flow_of};
 use herm_typed::TypedProcess;
@@ -180,10 +182,10 @@ fn add_accepted(
     Ok(())
 }
 
-/// The flow of a process, ready for the check.
+/// The flow of a process.
 fn flow(alloc: Global, types: &TypeTable, p: &TypedProcess) -> Result<Flow, AllocError>
     requires { IsKnown types.now p.now }
-    ensures { IfOk result (λ f. IsReady types.now.shapes (typed_process_view p.now) f) }
+    ensures { IfOk result (λ f. flow_view f ≡ flow_of types.now.shapes (typed_process_view p.now)) }
 {
     let flow = flow_of(alloc, types, p)?;
     Ok(flow)
@@ -201,9 +203,9 @@ fn judge(
     requires { IsKnown types.now p.now }
     ensures { OnOk result (IsJudged types.now number p.now accepted.old lacks.old.items accepted.new lacks.new.items) }
 {
-    let flow = flow(alloc, types, p)?;
-    match check(alloc, &flow, p.vars.len()) {
+    match check_process(alloc, types, p) {
         Ok(labels) => {
+            let flow = flow(alloc, types, p)?;
             add_accepted(alloc, flow, labels, accepted)?;
             Ok(())
         }

@@ -8,25 +8,15 @@ ghost use Rattle.herm_typed.specs.View.{typed_process_view};
 ghost use Rattle.herm_typed.specs.Beside.{KnowTypes};
 ghost use Rattle.herm_accept.specs.Judged.{IsKnown, IsSearched};
 ghost use Rattle.herm_accept.specs.Lacking.{lack_view, AreLacking};
-ghost use Rattle.herm_accept.specs.Onward.{IsOnward};
 
 use crate::accepting::{Lack, add_lacks};
-use herm_check::{CheckFault, check};
-use herm_flow::{Flow, onward_flow_of};
+use crate::checked::check_process;
+use herm_check::CheckFault;
 use herm_typed::TypedProcess;
 use herm_types::TypeTable;
 use std::alloc::{AllocError, Global};
 
-/// The flow of a process without its edges to ends, ready for the check.
-fn onward(alloc: Global, types: &TypeTable, p: &TypedProcess) -> Result<Flow, AllocError>
-    requires { IsKnown types.now p.now }
-    ensures { IfOk result (λ f. IsOnward types.now.shapes (typed_process_view p.now) f) }
-{
-    let flow = onward_flow_of(alloc, types, p)?;
-    Ok(flow)
-}
-
-/// Checks a process by its flow without its edges to ends, and adds what it lacks.
+/// Checks a process, and adds what it lacks.
 fn search(
     alloc: Global,
     types: &TypeTable,
@@ -37,8 +27,7 @@ fn search(
     requires { IsKnown types.now p.now }
     ensures { OnOk result (IsSearched types.now number p.now lacks.old.items lacks.new.items) }
 {
-    let flow = onward(alloc, types, p)?;
-    match check(alloc, &flow, p.vars.len()) {
+    match check_process(alloc, types, p) {
         Ok(_) => Ok(()),
         Err(CheckFault::Missing(all)) => {
             add_lacks(alloc, types, number, p, all, lacks)?;
@@ -49,8 +38,8 @@ fn search(
 }
 
 /// The facts that the processes of a typed program lack, by process, by statement and then in the order of needs, each with a shortest
-/// path on which it is not held; none exactly where each process is accepted. The flow, without its edges to ends,
-/// and what is held of one process at a time are in memory.
+/// path on which it is not held; none exactly where each process is accepted. What is held of one process at a time is in memory, and an
+/// onward flow of it, which has no edges to ends, until it is checked.
 ///
 /// # Errors
 ///

@@ -2,6 +2,7 @@
 #![tactic(auto)]
 
 mod accepting;
+mod checked;
 mod lacks;
 
 pub use accepting::{AcceptFault, Accepted, Lack, accept};

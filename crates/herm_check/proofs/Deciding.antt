@@ -1,13 +1,14 @@
 -- Tests of each element of a list.
-use Rattle.std.proofs.Common.{◌≡◌, ◌⊎◌, inl, inr, ℕ, zero, suc, ◌+◌, ◌<◌, ◌≤◌, List, [], ◌∷◌, ◌++◌, map, take, drop, get_or, length, Bool, true, false, ◌||◌, sym, ◌∙◌, ap, subst, arith, true≢false}
+use Rattle.std.proofs.Common.{◌≡◌, ◌⊎◌, inl, inr, ℕ, zero, suc, ◌+◌, ◌<◌, ◌≤◌, List, [], ◌∷◌, ◌++◌, map, take, drop, get_or, length, Bool, true, false, ◌||◌, refl, sym, ◌∙◌, ap, subst, arith, true≢false}
 use Rattle.std.proofs.lemmas.List.{map_more, take_all}
 use Rattle.herm_model.specs.Lists.{IsIn, any_pass}
 use Rattle.herm_model.specs.Outcomes.{Outcome, same_outcome}
-use Rattle.herm_model.specs.ControlPaths as paths
 use Rattle.herm_model.proofs.Reached.{same_outcome_self}
+use Rattle.herm_model.specs.ControlPaths as paths
 use Rattle.herm_typed.specs.View.{outcome_view}
-use Rattle.herm_flow.specs.declared.flow.Edge.{Edge}
-use Rattle.herm_flow.specs.View.{edge_view}
+use Rattle.herm_flow.specs.declared.onward.OnwardPoint.{OnwardPoint}
+use Rattle.herm_check.specs.View.{edge_in}
+use Rattle.herm_flow.specs.declared.onward.OnwardEdge.{OnwardEdge as Edge}
 
 before-or-last : {X : Type 0} (xs : List X) (x y : X) → IsIn y (xs ++ x ∷ []) → IsIn y xs ⊎ (y ≡ x)
 before-or-last [] x y (inl e) = inr e
@@ -34,7 +35,7 @@ drop-step [] i x within is = absurd (omega arith)
 drop-step (y ∷ xs) zero x within is = ap (λ z. z ∷ xs) (sym is)
 drop-step (y ∷ xs) (suc i) x within is = drop-step xs i x (omega arith) is ∙ ap (λ n. x ∷ drop n (y ∷ xs)) (let e : suc (i + 1) ≡ suc i + 1 = omega arith in e)
 
-pub apart : (o : Outcome) (es : List Edge) → any_pass (same_outcome o) (map (λ (e : Edge). outcome_view e.outcome) es) ≡ false → IsIn o (map (λ (e : paths.Edge). e.outcome) (map edge_view es)) → ⊥
+pub apart : (o : Outcome) (es : List Edge) → any_pass (same_outcome o) (map (λ (e : Edge). outcome_view e.outcome) es) ≡ false → IsIn o (map (λ (e : Edge). outcome_view e.outcome) es) → ⊥
 apart o [] none member = member
 apart o (e ∷ es) none (inl same) = by (same_outcome o (outcome_view e.outcome)) (subst (λ x. same_outcome o x ≡ true) same (same_outcome_self o)) none
   where
@@ -46,3 +47,8 @@ apart o (e ∷ es) none (inr m) = apart o es (by (same_outcome o (outcome_view e
     by : (b : Bool) → (b || any_pass (same_outcome o) (map (λ (d : Edge). outcome_view d.outcome) es)) ≡ false → any_pass (same_outcome o) (map (λ (d : Edge). outcome_view d.outcome) es) ≡ false
     by true n = absurd (true≢false n)
     by false n = n
+
+-- outcomes as contracts see them
+pub same-outcomes : (p : OnwardPoint) (es : List Edge) → map (λ (e : Edge). outcome_view e.outcome) es ≡ map (λ (e : paths.Edge). e.outcome) (map (edge_in p) es)
+same-outcomes p [] = refl
+same-outcomes p (e ∷ es) = ap (λ os. outcome_view e.outcome ∷ os) (same-outcomes p es)

@@ -9,9 +9,9 @@ use Rattle.herm_model.specs.laws.FlowLaws.{IsThere}
 use Rattle.herm_model.proofs.Lists.{in-append_left, in-append_right, in-append_cases, total-append}
 use Rattle.herm_check.specs.View.{hop_view}
 use Rattle.herm_facts.specs.FactSets.{has}
-use Rattle.herm_check.specs.Known.{is_made, is_taken, IsEffect}
+use Rattle.herm_check.specs.Effects.{is_made, is_taken, IsEffect}
 use Rattle.herm_facts.specs.declared.fact_set.FactSet.{FactSet}
-use Rattle.herm_check.specs.declared.change.Effect.{Effect}
+use Rattle.herm_check.specs.declared.effects.Effect.{Effect}
 use Rattle.herm_check.specs.declared.search.Link.{Link}
 use Rattle.herm_check.specs.declared.search.Visit.{Visit}
 use Rattle.herm_check.specs.Searched.{Places, slot_of, IsOf, IsFound, IsLast, visits_of, sets_without, IsSearch, HasVisits, IsNear, AreFollowed, AreLeft, IsKept, with_facts, IsVisited, again, added, is_held_beyond, visit_by, IsFollowedFrom, ends, leads}

@@ -17,7 +17,8 @@ pub mod Searched
 pub mod Trails
 pub mod Following
 pub mod Deciding
-pub mod SameEdges
 pub mod Making
-pub mod Changes
+pub mod ListedFacts
+pub mod Shares
+pub mod EdgeEffects
 pub mod FactSets

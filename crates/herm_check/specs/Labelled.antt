@@ -1,13 +1,21 @@
 -- What labels say of a flow while they are looked for.
-use Rattle.std.specs.Prelude.{◌≡◌, ◌≢◌, ℕ, ◌<◌, List, [], ◌∷◌, flat_map, length, Bool, true, false, Some, slice_get}
+use Rattle.std.specs.Prelude.{◌≡◌, ◌≢◌, ℕ, ◌<◌, List, [], ◌∷◌, map, flat_map, length, Bool, true, false, Some, slice_get}
+use Rattle.std.specs.declared.vec.Vec.{Vec}
+use Rattle.std.specs.declared.alloc.Global.{Global}
 use Rattle.herm_model.specs.Lists.{IsIn, map_or}
 use Rattle.herm_model.specs.Paths.{Fact, init}
 use Rattle.herm_model.specs.Targets.{Target, node}
 use Rattle.herm_model.specs.ControlPaths.{Edge, Point, Flow, held_after_edge, held_at_start, IsReached, Lacks}
 use Rattle.herm_model.specs.laws.FlowLaws.{IsThere}
+use Rattle.herm_types.specs.declared.fact.Fact.{Fact as FactHere}
+use Rattle.herm_types.specs.View.{fact_view}
+use Rattle.herm_flow.specs.declared.onward.OnwardPoint.{OnwardPoint}
+use Rattle.herm_flow.specs.declared.onward.OnwardFlow.{OnwardFlow}
 use Rattle.herm_facts.specs.declared.fact_numbers.FactNumbers.{FactNumbers}
 use Rattle.herm_check.specs.declared.label.Label.{Label}
+use Rattle.herm_check.specs.declared.numbering.Numbering.{Numbering}
 use Rattle.herm_check.specs.Numberings.{in_set, AreNumbers, AreApart, HaveNumbers}
+use Rattle.herm_check.specs.Lists.{AreListsIn}
 
 abbrev pub is_reached : List Label → ℕ → Bool
 is_reached ls i = map_or false (λ l. l.reached) (slice_get ls i)
@@ -19,14 +27,18 @@ is_pending ls i = map_or false (λ l. l.pending) (slice_get ls i)
 abbrev pub holds_at : FactNumbers → List Label → ℕ → Fact → Bool
 holds_at ns ls i f = map_or false (λ l. in_set ns l.held f) (slice_get ls i)
 
--- the fact of the start, and those that any edge makes
-abbrev pub all_facts : Flow → List Fact
-all_facts flow = init (0 ∷ []) ∷ flat_map (λ (p : Point). flat_map (λ (e : Edge). e.makes) p.edges) flow.points
+abbrev pub facts_of : Vec FactHere Global → List Fact
+facts_of facts = map fact_view facts.items
 
--- The facts of the flow have numbers, no others have, and no two facts have the same.
-pub record AreNumbered (flow : Flow) (ns : FactNumbers) : Type 0 where
-  pub numbers : HaveNumbers (all_facts flow) ns
-  pub apart : AreApart ns
+-- the fact of the start, and those of any list that edges make
+abbrev pub all_facts : OnwardFlow → List Fact
+all_facts flow = init (0 ∷ []) ∷ flat_map (λ (p : OnwardPoint). flat_map facts_of p.made.items) flow.points.items
+
+-- The facts of the flow have numbers, no others have, and no two facts have the same; and the lists of the flow's points are sets of these numbers.
+pub record AreNumbered (flow : OnwardFlow) (n : Numbering) : Type 0 where
+  pub numbers : HaveNumbers (all_facts flow) n.facts
+  pub apart : AreApart n.facts
+  pub lists : AreListsIn n.facts flow n.lists.items
 
 -- A point to which control goes is reached, and its label has such facts alone.
 abbrev pub Goes : FactNumbers → List Label → Target → (Fact → Bool) → Type 0

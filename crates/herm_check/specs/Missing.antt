@@ -13,7 +13,7 @@ use Rattle.herm_facts.specs.FactNumbers.{number_of}
 use Rattle.herm_typestate.specs.declared.labels.Labels.{Labels}
 use Rattle.herm_typestate.specs.declared.state.State.{State}
 use Rattle.herm_typestate.specs.Facts.{has_fact}
-use Rattle.herm_check.specs.Known.{AreNumbered}
+use Rattle.herm_check.specs.Effects.{AreNumbered}
 use Rattle.herm_check.specs.Trails.{trail}
 use Rattle.herm_check.specs.Shortest.{AreReported}
 use Rattle.herm_check.specs.declared.search.Search.{Search}

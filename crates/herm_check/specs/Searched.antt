@@ -12,7 +12,7 @@ use Rattle.herm_check.specs.FactSets.{unseen}
 use Rattle.herm_facts.specs.declared.fact_set.FactSet.{FactSet}
 use Rattle.herm_facts.specs.declared.fact_numbers.FactNumbers.{FactNumbers}
 use Rattle.herm_facts.specs.FactNumbers.{number_of}
-use Rattle.herm_check.specs.declared.change.Effect.{Effect}
+use Rattle.herm_check.specs.declared.effects.Effect.{Effect}
 use Rattle.herm_check.specs.declared.search.Link.{Link}
 use Rattle.herm_check.specs.declared.search.Visit.{Visit}
 use Rattle.herm_check.specs.declared.search.Search.{Search}

@@ -4,14 +4,14 @@ ghost use Rattle.herm_model.specs.Targets.{node};
 ghost use Rattle.herm_model.specs.ControlPaths.{IsReached};
 ghost use Rattle.herm_model.specs.Labels.{AreExact};
 ghost use Rattle.herm_model.specs.laws.FlowLaws.{EdgesDiffer};
-ghost use Rattle.herm_flow.specs.View.{flow_view};
+ghost use Rattle.herm_flow.specs.OnwardView.{onward_flow_view};
 ghost use Rattle.herm_check.specs.View.{labels_view};
 ghost use Rattle.herm_check.specs.Labelled.{LeadThere};
 ghost use Rattle.herm_check.specs.Faults.{IsFault, HasNoFault};
 
 use crate::labels::labels_of;
 use crate::missing::{Missing, lacking};
-use herm_flow::Flow;
+use herm_flow::OnwardFlow;
 use herm_typestate::Labels;
 use std::alloc::{AllocError, Global};
 
@@ -34,14 +34,14 @@ impl From<AllocError> for CheckFault {
 }
 
 /// Exactly the facts that hold at each point, where each fact that is needed holds; else the facts that are missing, each with a shortest path.
-pub fn check(alloc: Global, flow: &Flow, vars: usize) -> Result<Labels, CheckFault>
-    requires differ { EdgesDiffer (flow_view flow.now) }
-    requires there { LeadThere (flow_view flow.now) }
-    requires reached { (i : ℕ) → i < length flow.now.points.items → IsReached (flow_view flow.now) (node i) }
+pub fn check(alloc: Global, flow: &OnwardFlow, vars: usize) -> Result<Labels, CheckFault>
+    requires differ { EdgesDiffer (onward_flow_view flow.now) }
+    requires there { LeadThere (onward_flow_view flow.now) }
+    requires reached { (i : ℕ) → i < length flow.now.points.items → IsReached (onward_flow_view flow.now) (node i) }
     ensures many { IfOk result (λ labels. length labels.at.items ≡ length flow.now.points.items) }
-    ensures exact { IfOk result (λ labels. AreExact (flow_view flow.now) (labels_view labels)) }
-    ensures accepted { IfOk result (λ labels. HasNoFault (flow_view flow.now)) }
-    ensures missing { IfErr result (λ fault. IsFault (flow_view flow.now) fault) }
+    ensures exact { IfOk result (λ labels. AreExact (onward_flow_view flow.now) (labels_view labels)) }
+    ensures accepted { IfOk result (λ labels. HasNoFault (onward_flow_view flow.now)) }
+    ensures missing { IfErr result (λ fault. IsFault (onward_flow_view flow.now) fault) }
 {
     let labels = labels_of(alloc, flow, vars)?;
     let missing = lacking(alloc, flow, &labels)?;

@@ -1,16 +1,14 @@
 //! Which facts are held at each point of a flow, and which needed ones are not.
 #![tactic(auto)]
 
-mod alike;
 mod behind_edge;
-mod change;
 mod checking;
 mod effects;
 mod held;
-mod known;
 mod label;
 mod label_states;
 mod labels;
+mod lists;
 mod missing;
 mod numbering;
 mod search;

@@ -9,19 +9,19 @@ ghost use Rattle.herm_model.specs.Labels.{AreExact};
 ghost use Rattle.herm_model.specs.laws.FlowLaws.{EdgesDiffer};
 ghost use Rattle.herm_types.specs.View.{fact_view};
 ghost use Rattle.herm_typestate.specs.Facts.{has_fact};
-ghost use Rattle.herm_flow.specs.View.{point_view, flow_view};
+ghost use Rattle.herm_flow.specs.OnwardView.{onward_point_view, onward_flow_view};
 ghost use Rattle.herm_check.specs.View.{labels_view};
 ghost use Rattle.herm_check.specs.Labelled.{LeadThere};
 ghost use Rattle.herm_facts.specs.FactNumbers.{number_of};
-ghost use Rattle.herm_check.specs.Known.{AreNumbered};
+ghost use Rattle.herm_check.specs.Effects.{AreNumbered};
 ghost use Rattle.herm_check.specs.Searched.{AreSearched};
 ghost use Rattle.herm_check.specs.Missing.{demand, IsAdded, IsNoted, AreNoted, AreKept, AreMissing};
 
-use crate::known::known_in;
+use crate::lists::lists_in;
 use crate::search::{SHARED, Search, lost_place, search_for};
 use herm_base::StmtNo;
 use herm_facts::FactNumbers;
-use herm_flow::{Flow, Point};
+use herm_flow::{OnwardFlow, OnwardPoint};
 use herm_types::Fact;
 use herm_typestate::{Labels, State};
 use std::alloc::{AllocError, Global};
@@ -71,11 +71,11 @@ fn note_lacking(
 /// Gives numbers to the facts that a label lacks of the needs of its point.
 fn note_point(
     alloc: Global,
-    point: &Point,
+    point: &OnwardPoint,
     state: &State,
     lost: &mut FactNumbers,
 ) -> Result<(), AllocError>
-    ensures noted { OnOk result ((f : FactOf) → IsIn f (point_view point.now).needs → has_fact state.now f ≡ false → IsNoted lost.new f) }
+    ensures noted { OnOk result ((f : FactOf) → IsIn f (onward_point_view point.now).needs → has_fact state.now f ≡ false → IsNoted lost.new f) }
     ensures kept { OnOk result (AreKept lost.old lost.new) }
 {
     for fact in &point.needs {
@@ -85,9 +85,9 @@ fn note_point(
 }
 
 /// The different facts that labels lack of the needs of their points.
-fn lost_in(alloc: Global, flow: &Flow, labels: &Labels) -> Result<FactNumbers, AllocError>
+fn lost_in(alloc: Global, flow: &OnwardFlow, labels: &Labels) -> Result<FactNumbers, AllocError>
     requires { length labels.now.at.items ≡ length flow.now.points.items }
-    ensures noted { IfOk result (AreNoted (flow_view flow.now) labels.now) }
+    ensures noted { IfOk result (AreNoted (onward_flow_view flow.now) labels.now) }
     ensures some { IfOk result (λ lost. (f : FactOf) (n : ℕ) → number_of lost f ≡ Some n → 0 < length flow.now.points.items) }
 {
     let mut lost = FactNumbers::none(alloc);
@@ -100,34 +100,38 @@ fn lost_in(alloc: Global, flow: &Flow, labels: &Labels) -> Result<FactNumbers, A
 /// The searches for the facts that have numbers, which these are.
 fn searches_of(
     alloc: Global,
-    flow: &Flow,
+    flow: &OnwardFlow,
     lost: &FactNumbers,
     facts: &[Fact],
 ) -> Result<Vec<Search>, AllocError>
-    requires there { LeadThere (flow_view flow.now) }
+    requires there { LeadThere (onward_flow_view flow.now) }
     requires some { 0 < length facts.now → 0 < length flow.now.points.items }
     requires numbers { AreNumbered lost.now (map fact_view facts.now) }
-    ensures { IfOk result (λ searches. AreSearched (flow_view flow.now) lost.now searches.items) }
+    ensures { IfOk result (λ searches. AreSearched (onward_flow_view flow.now) lost.now searches.items) }
 {
     let mut searches = Vec::new(alloc);
     if facts.is_empty() {
         return Ok(searches);
     }
-    let known = known_in(alloc, flow, lost, facts)?;
+    let lists = lists_in(alloc, flow, lost)?;
     let mut first = 0;
     while first < facts.len() {
         let number = searches.len();
-        searches.push(search_for(alloc, flow, known.as_slice(), facts, number)?)?;
+        searches.push(search_for(alloc, flow, lists.as_slice(), lost, number)?)?;
         first += SHARED;
     }
     Ok(searches)
 }
 
 /// The searches for the facts that have numbers.
-fn searches_for(alloc: Global, flow: &Flow, lost: &FactNumbers) -> Result<Vec<Search>, AllocError>
-    requires there { LeadThere (flow_view flow.now) }
+fn searches_for(
+    alloc: Global,
+    flow: &OnwardFlow,
+    lost: &FactNumbers,
+) -> Result<Vec<Search>, AllocError>
+    requires there { LeadThere (onward_flow_view flow.now) }
     requires some { (f : FactOf) (n : ℕ) → number_of lost.now f ≡ Some n → 0 < length flow.now.points.items }
-    ensures { IfOk result (λ searches. AreSearched (flow_view flow.now) lost.now searches.items) }
+    ensures { IfOk result (λ searches. AreSearched (onward_flow_view flow.now) lost.now searches.items) }
 {
     let searches = searches_of(alloc, flow, lost, lost.facts())?;
     Ok(searches)
@@ -135,7 +139,7 @@ fn searches_for(alloc: Global, flow: &Flow, lost: &FactNumbers) -> Result<Vec<Se
 
 /// Appends the fact with its path, where the label of its point lacks it.
 fn push_lacking(
-    flow: &Flow,
+    flow: &OnwardFlow,
     at: usize,
     stmt: StmtNo,
     fact: &Fact,
@@ -143,13 +147,13 @@ fn push_lacking(
     lost: &Lost,
     out: &mut Vec<MissingAt>,
 ) -> Result<(), AllocError>
-    requires differ { EdgesDiffer (flow_view flow.now) }
-    requires there { LeadThere (flow_view flow.now) }
+    requires differ { EdgesDiffer (onward_flow_view flow.now) }
+    requires there { LeadThere (onward_flow_view flow.now) }
     requires within { at < length flow.now.points.items }
-    requires exact { (f : FactOf) → (has_fact state.now f ≡ true) ↔ Holds (flow_view flow.now) f at }
+    requires exact { (f : FactOf) → (has_fact state.now f ≡ true) ↔ Holds (onward_flow_view flow.now) f at }
     requires noted { has_fact state.now (fact_view fact.now) ≡ false → IsNoted lost.now.numbers (fact_view fact.now) }
-    requires searched { AreSearched (flow_view flow.now) lost.now.numbers lost.now.searches.items }
-    ensures { OnOk result (IsAdded (flow_view flow.now) lost.now (demand at stmt.0 (fact_view fact.now) ∷ []) out.old out.new) }
+    requires searched { AreSearched (onward_flow_view flow.now) lost.now.numbers lost.now.searches.items }
+    ensures { OnOk result (IsAdded (onward_flow_view flow.now) lost.now (demand at stmt.0 (fact_view fact.now) ∷ []) out.old out.new) }
 {
     if state.holds(fact) {
         return Ok(());
@@ -172,20 +176,20 @@ fn push_lacking(
 
 /// Appends what the label of a point lacks of its needs, in their order.
 fn push_point(
-    flow: &Flow,
+    flow: &OnwardFlow,
     at: usize,
-    point: &Point,
+    point: &OnwardPoint,
     state: &State,
     lost: &Lost,
     out: &mut Vec<MissingAt>,
 ) -> Result<(), AllocError>
-    requires differ { EdgesDiffer (flow_view flow.now) }
-    requires there { LeadThere (flow_view flow.now) }
+    requires differ { EdgesDiffer (onward_flow_view flow.now) }
+    requires there { LeadThere (onward_flow_view flow.now) }
     requires within { at < length flow.now.points.items }
-    requires exact { (f : FactOf) → (has_fact state.now f ≡ true) ↔ Holds (flow_view flow.now) f at }
-    requires noted { (f : FactOf) → IsIn f (point_view point.now).needs → has_fact state.now f ≡ false → IsNoted lost.now.numbers f }
-    requires searched { AreSearched (flow_view flow.now) lost.now.numbers lost.now.searches.items }
-    ensures { OnOk result (IsAdded (flow_view flow.now) lost.now (demands_at (at, point_view point.now)) out.old out.new) }
+    requires exact { (f : FactOf) → (has_fact state.now f ≡ true) ↔ Holds (onward_flow_view flow.now) f at }
+    requires noted { (f : FactOf) → IsIn f (onward_point_view point.now).needs → has_fact state.now f ≡ false → IsNoted lost.now.numbers f }
+    requires searched { AreSearched (onward_flow_view flow.now) lost.now.numbers lost.now.searches.items }
+    ensures { OnOk result (IsAdded (onward_flow_view flow.now) lost.now (demands_at (at, onward_point_view point.now)) out.old out.new) }
 {
     for fact in &point.needs {
         push_lacking(flow, at, point.stmt, fact, state, lost, out)?;
@@ -194,13 +198,13 @@ fn push_point(
 }
 
 /// What labels lack of the needs of their points, by statement and then in the order of needs.
-pub fn lacking(alloc: Global, flow: &Flow, labels: &Labels) -> Result<Missing, AllocError>
+pub fn lacking(alloc: Global, flow: &OnwardFlow, labels: &Labels) -> Result<Missing, AllocError>
     requires many { length labels.now.at.items ≡ length flow.now.points.items }
-    requires differ { EdgesDiffer (flow_view flow.now) }
-    requires there { LeadThere (flow_view flow.now) }
-    requires reached { (i : ℕ) → i < length flow.now.points.items → IsReached (flow_view flow.now) (node i) }
-    requires exact { AreExact (flow_view flow.now) (labels_view labels.now) }
-    ensures { IfOk result (AreMissing (flow_view flow.now) (demands (flow_view flow.now))) }
+    requires differ { EdgesDiffer (onward_flow_view flow.now) }
+    requires there { LeadThere (onward_flow_view flow.now) }
+    requires reached { (i : ℕ) → i < length flow.now.points.items → IsReached (onward_flow_view flow.now) (node i) }
+    requires exact { AreExact (onward_flow_view flow.now) (labels_view labels.now) }
+    ensures { IfOk result (AreMissing (onward_flow_view flow.now) (demands (onward_flow_view flow.now))) }
 {
     let numbers = lost_in(alloc, flow, labels)?;
     let searches = searches_for(alloc, flow, &numbers)?;

@@ -3,21 +3,20 @@ ghost use Rattle.std.specs.Prelude.{◌≡◌, ◌<◌, ℕ, true, map, length};
 ghost use Rattle.herm_model.specs.Lists.{IsIn, any_pass};
 ghost use Rattle.herm_model.specs.Statements.{Differ};
 ghost use Rattle.herm_model.specs.Outcomes as outcomes;
-ghost use Rattle.herm_model.specs.ControlPaths as paths;
 ghost use Rattle.herm_model.specs.ControlPaths.{IsReached};
 ghost use Rattle.herm_model.specs.Targets.{node};
-ghost use Rattle.herm_model.specs.laws.FlowLaws.{EdgesDiffer, IsThere};
+ghost use Rattle.herm_model.specs.laws.FlowLaws.{EdgesDiffer};
 ghost use Rattle.herm_typed.specs.View.{outcome_view};
-ghost use Rattle.herm_flow.specs.declared.flow.Edge.{Edge as EdgeOf};
-ghost use Rattle.herm_flow.specs.View.{target_view, edge_view, flow_view};
+ghost use Rattle.herm_flow.specs.declared.onward.OnwardEdge.{OnwardEdge as EdgeOf};
+ghost use Rattle.herm_flow.specs.OnwardView.{onward_flow_view};
 ghost use Rattle.herm_check.specs.Labelled.{LeadThere, is_reached};
 
 use crate::checking::{CheckFault, check};
 use crate::label::Label;
 use crate::labels::settled;
 use crate::missing::Missing;
-use crate::numbering::numbers_in;
-use herm_flow::{Edge, Flow, Target};
+use crate::numbering::numbering_of;
+use herm_flow::{OnwardEdge, OnwardFlow};
 use herm_typed::Outcome;
 use std::alloc::Global;
 
@@ -45,7 +44,7 @@ fn same_outcome(a: Outcome, b: Outcome) -> bool
     }
 }
 
-fn is_among(edges: &[Edge], outcome: Outcome) -> bool
+fn is_among(edges: &[OnwardEdge], outcome: Outcome) -> bool
     ensures { result ≡ any_pass (outcomes.same_outcome (outcome_view outcome)) (map (λ (e : EdgeOf). outcome_view e.outcome) edges.now) }
 {
     for edge in edges {
@@ -56,8 +55,8 @@ fn is_among(edges: &[Edge], outcome: Outcome) -> bool
     false
 }
 
-fn differ(edges: &[Edge]) -> bool
-    ensures { result ≡ true → Differ (map (λ (e : paths.Edge). e.outcome) (map edge_view edges.now)) }
+fn differ(edges: &[OnwardEdge]) -> bool
+    ensures { result ≡ true → Differ (map (λ (e : EdgeOf). outcome_view e.outcome) edges.now) }
 {
     for i in 0..edges.len() {
         if is_among(&edges[i + 1..], edges[i].outcome) {
@@ -67,29 +66,19 @@ fn differ(edges: &[Edge]) -> bool
     true
 }
 
-fn is_there(target: Target, count: usize) -> bool
-    ensures { result ≡ true → IsThere count (target_view target) }
-{
-    match target {
-        Target::Point(i) => (i as usize) < count,
-        Target::End => true,
-        Target::EndBy(_) => true,
-    }
-}
-
-fn lead_there(edges: &[Edge], count: usize) -> bool
-    ensures { result ≡ true → (e : paths.Edge) → IsIn e (map edge_view edges.now) → IsThere count e.target }
+fn lead_there(edges: &[OnwardEdge], count: usize) -> bool
+    ensures { result ≡ true → (e : EdgeOf) → IsIn e edges.now → e.to < count }
 {
     for edge in edges {
-        if !is_there(edge.to, count) {
+        if edge.to as usize >= count {
             return false;
         }
     }
     true
 }
 
-fn all_differ(flow: &Flow) -> bool
-    ensures { result ≡ true → EdgesDiffer (flow_view flow.now) }
+fn all_differ(flow: &OnwardFlow) -> bool
+    ensures { result ≡ true → EdgesDiffer (onward_flow_view flow.now) }
 {
     for point in &flow.points {
         if !differ(point.edges.as_slice()) {
@@ -99,8 +88,8 @@ fn all_differ(flow: &Flow) -> bool
     true
 }
 
-fn all_lead_there(flow: &Flow) -> bool
-    ensures { result ≡ true → LeadThere (flow_view flow.now) }
+fn all_lead_there(flow: &OnwardFlow) -> bool
+    ensures { result ≡ true → LeadThere (onward_flow_view flow.now) }
 {
     let count = flow.points.len();
     for point in &flow.points {
@@ -123,22 +112,22 @@ fn are_reached(labels: &[Label]) -> bool
 }
 
 /// Whether control paths are found to lead to all points.
-fn are_all_reached(alloc: Global, flow: &Flow) -> bool
-    requires differ { EdgesDiffer (flow_view flow.now) }
-    requires there { LeadThere (flow_view flow.now) }
-    ensures { result ≡ true → (i : ℕ) → i < length flow.now.points.items → IsReached (flow_view flow.now) (node i) }
+fn are_all_reached(alloc: Global, flow: &OnwardFlow) -> bool
+    requires differ { EdgesDiffer (onward_flow_view flow.now) }
+    requires there { LeadThere (onward_flow_view flow.now) }
+    ensures { result ≡ true → (i : ℕ) → i < length flow.now.points.items → IsReached (onward_flow_view flow.now) (node i) }
 {
-    let Ok(numbers) = numbers_in(alloc, flow) else {
+    let Ok(numbering) = numbering_of(alloc, flow) else {
         return false;
     };
-    let Ok(labels) = settled(alloc, flow, &numbers) else {
+    let Ok(labels) = settled(alloc, flow, &numbering) else {
         return false;
     };
     are_reached(labels.as_slice())
 }
 
 /// What the check says is missing, where it may be asked and memory was there.
-pub fn missing_in(alloc: Global, flow: &Flow, vars: usize) -> Option<Missing> {
+pub fn missing_in(alloc: Global, flow: &OnwardFlow, vars: usize) -> Option<Missing> {
     if !all_differ(flow) || !all_lead_there(flow) {
         return None;
     }

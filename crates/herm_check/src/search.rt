@@ -4,21 +4,23 @@ ghost use Rattle.herm_model.specs.Paths.{Fact as FactOf};
 ghost use Rattle.herm_model.specs.Targets.{node};
 ghost use Rattle.herm_model.specs.ControlPaths.{Holds};
 ghost use Rattle.herm_types.specs.View.{fact_view};
-ghost use Rattle.herm_flow.specs.View.{edge_view, flow_view};
-ghost use Rattle.herm_check.specs.View.{hop_view};
+ghost use Rattle.herm_flow.specs.declared.onward.OnwardPoint.{OnwardPoint};
+ghost use Rattle.herm_flow.specs.OnwardView.{onward_flow_view};
+ghost use Rattle.herm_check.specs.View.{edge_in, hop_view};
 ghost use Rattle.herm_check.specs.Labelled.{LeadThere};
 ghost use Rattle.herm_facts.specs.FactSets.{has};
-ghost use Rattle.herm_check.specs.Known.{share, AreKnownIn, AreEffectsIn};
+ghost use Rattle.herm_facts.specs.FactNumbers.{number_of};
+ghost use Rattle.herm_check.specs.Lists.{AreListsIn};
+ghost use Rattle.herm_check.specs.Effects.{AreEffectsIn};
 ghost use Rattle.herm_check.specs.Trails.{trail};
 ghost use Rattle.herm_check.specs.declared.search.Visit.{Visit as VisitOf};
 ghost use Rattle.herm_check.specs.Searched.{slot_of, is_held_beyond, IsUnvisited, IsVisited, IsFollowedFrom, AreVisits, IsSearching, IsKept, IsNearest, IsSearched};
 
-use crate::change::Effect;
-use crate::effects::{effects_in, held_first};
-use crate::known::KnownEdges;
+use crate::effects::{Effect, effects_in, held_first};
+use crate::lists::ListsOf;
 use herm_base::StmtNo;
-use herm_facts::FactSet;
-use herm_flow::{Edge, Flow, Target};
+use herm_facts::{FactNumbers, FactSet};
+use herm_flow::{OnwardEdge, OnwardFlow};
 use herm_typed::Outcome;
 use herm_types::Fact;
 use std::alloc::{AllocError, Global};
@@ -111,60 +113,54 @@ fn held_beyond(effect: Effect, visit: &Visit) -> FactSet
 fn follow(
     effect: Effect,
     stmt: StmtNo,
-    edge: &Edge,
+    edge: &OnwardEdge,
     from: usize,
     visit: &Visit,
     search: &mut Search,
 ) -> Result<(), AllocError>
-    requires within { (t : ℕ) → (edge_view edge.now).target ≡ node t → 2 * t + 1 < length search.old.seen.items }
+    requires within { 2 * edge.now.to + 1 < length search.old.seen.items }
     requires many { length search.old.places.items ≡ length search.old.seen.items }
     requires few { visit.now.depth < 2 ^ 63 }
-    ensures { OnOk result (IsFollowedFrom stmt.0 (edge_view edge.now) effect from visit.now search.old.visits.items search.old.seen.items search.old.places.items search.new.visits.items search.new.seen.items search.new.places.items) }
+    ensures { OnOk result ((p : OnwardPoint) → IsFollowedFrom stmt.0 (edge_in p edge.now) effect from visit.now search.old.visits.items search.old.seen.items search.old.places.items search.new.visits.items search.new.seen.items search.new.places.items) }
 {
-    match edge.to {
-        Target::Point(t) => {
-            let hop = Hop {
-                stmt,
-                outcome: edge.outcome,
-            };
-            let held = held_beyond(effect, visit);
-            let lost = visit.facts.without(held);
-            let next = Visit {
-                point: t as usize,
-                held: true,
-                facts: held,
-                depth: visit.depth + 1,
-                last: Some(Link { from, hop }),
-            };
-            add(search, next)?;
-            let next = Visit {
-                point: t as usize,
-                held: false,
-                facts: lost,
-                depth: visit.depth + 1,
-                last: Some(Link { from, hop }),
-            };
-            add(search, next)?;
-            Ok(())
-        }
-        Target::End => Ok(()),
-        Target::EndBy(_) => Ok(()),
-    }
+    let hop = Hop {
+        stmt,
+        outcome: edge.outcome,
+    };
+    let held = held_beyond(effect, visit);
+    let lost = visit.facts.without(held);
+    let next = Visit {
+        point: edge.to as usize,
+        held: true,
+        facts: held,
+        depth: visit.depth + 1,
+        last: Some(Link { from, hop }),
+    };
+    add(search, next)?;
+    let next = Visit {
+        point: edge.to as usize,
+        held: false,
+        facts: lost,
+        depth: visit.depth + 1,
+        last: Some(Link { from, hop }),
+    };
+    add(search, next)?;
+    Ok(())
 }
 
 /// Follows each edge from the visit at a place.
 fn leave(
-    flow: &Flow,
+    flow: &OnwardFlow,
     effects: &[Vec<Effect>],
     _facts: &[Fact],
     k: usize,
     search: &mut Search,
 ) -> Result<(), AllocError>
-    requires there { LeadThere (flow_view flow.now) }
-    requires effects { AreEffectsIn (flow_view flow.now) (map fact_view _facts.now) effects.now }
-    requires search { IsSearching (flow_view flow.now) (map fact_view _facts.now) search.old k }
+    requires there { LeadThere (onward_flow_view flow.now) }
+    requires effects { AreEffectsIn (onward_flow_view flow.now) (map fact_view _facts.now) effects.now }
+    requires search { IsSearching (onward_flow_view flow.now) (map fact_view _facts.now) search.old k }
     requires within { k < length search.old.visits.items }
-    ensures search { OnOk result (IsSearching (flow_view flow.now) (map fact_view _facts.now) search.new (k + 1)) }
+    ensures search { OnOk result (IsSearching (onward_flow_view flow.now) (map fact_view _facts.now) search.new (k + 1)) }
     ensures kept { OnOk result (IsKept search.old.visits.items search.new.visits.items) }
 {
     let visit = search.visits[k];
@@ -193,10 +189,10 @@ fn none_visited(alloc: Global, count: usize) -> Result<Search, AllocError>
 }
 
 /// The search as it begins: the first point is visited, with each fact held or not.
-fn begin(alloc: Global, flow: &Flow, facts: &[Fact]) -> Result<Search, AllocError>
+fn begin(alloc: Global, flow: &OnwardFlow, facts: &[Fact]) -> Result<Search, AllocError>
     requires some { 0 < length flow.now.points.items }
     requires few { length facts.now ≤ 64 }
-    ensures { IfOk result (λ search. IsSearching (flow_view flow.now) (map fact_view facts.now) search 0) }
+    ensures { IfOk result (λ search. IsSearching (onward_flow_view flow.now) (map fact_view facts.now) search 0) }
 {
     let mut search = none_visited(alloc, 2 * flow.points.len())?;
     let held = held_first(facts);
@@ -222,15 +218,15 @@ fn begin(alloc: Global, flow: &Flow, facts: &[Fact]) -> Result<Search, AllocErro
 
 /// Follows each edge from each visit, those that are added by it too.
 fn complete(
-    flow: &Flow,
+    flow: &OnwardFlow,
     effects: &[Vec<Effect>],
     facts: &[Fact],
     search: &mut Search,
 ) -> Result<(), AllocError>
-    requires there { LeadThere (flow_view flow.now) }
-    requires effects { AreEffectsIn (flow_view flow.now) (map fact_view facts.now) effects.now }
-    requires search { IsSearching (flow_view flow.now) (map fact_view facts.now) search.old 0 }
-    ensures { OnOk result (IsSearching (flow_view flow.now) (map fact_view facts.now) search.new (length search.new.visits.items)) }
+    requires there { LeadThere (onward_flow_view flow.now) }
+    requires effects { AreEffectsIn (onward_flow_view flow.now) (map fact_view facts.now) effects.now }
+    requires search { IsSearching (onward_flow_view flow.now) (map fact_view facts.now) search.old 0 }
+    ensures { OnOk result (IsSearching (onward_flow_view flow.now) (map fact_view facts.now) search.new (length search.new.visits.items)) }
 {
     let mut next = 0;
     while next < search.visits.len() {
@@ -240,46 +236,45 @@ fn complete(
     Ok(())
 }
 
-/// The facts from a number on that share a search.
-fn shared_from(lost: &[Fact], first: usize) -> &[Fact]
-    requires { first < length lost.now }
+/// The facts that share the search with this number.
+fn shared_in(lost: &[Fact], number: usize) -> &[Fact]
+    requires { 64 * number < length lost.now }
     ensures few { length result.now ≤ 64 }
-    ensures facts { map fact_view result.now ≡ take 64 (drop first (map fact_view lost.now)) }
+    ensures facts { map fact_view result.now ≡ take 64 (drop (64 * number) (map fact_view lost.now)) }
 {
+    let first = SHARED * number;
     let count = SHARED.min(lost.len() - first);
     &lost[first..first + count]
 }
 
-/// Searches for all shortest control paths with each of the facts held or not that share the search with this number.
+/// Searches for all shortest control paths with each of the lost facts held or not that share the search with this number.
 pub fn search_for(
     alloc: Global,
-    flow: &Flow,
-    known: &[KnownEdges],
-    lost: &[Fact],
+    flow: &OnwardFlow,
+    lists: &[ListsOf],
+    lost: &FactNumbers,
     number: usize,
 ) -> Result<Search, AllocError>
-    ghost all: { List FactOf }
-    requires all { map fact_view lost.now ≡ all }
-    requires there { LeadThere (flow_view flow.now) }
-    requires known { AreKnownIn (flow_view flow.now) all known.now }
+    requires there { LeadThere (onward_flow_view flow.now) }
+    requires lists { AreListsIn lost.now flow.now lists.now }
     requires some { 0 < length flow.now.points.items }
-    requires within { 64 * number < length lost.now }
-    ensures { IfOk result (λ search. (j : ℕ) (f : FactOf) → slice_get (share all number) j ≡ Some f → IsSearched (flow_view flow.now) f j search) }
+    requires first { (f : FactOf) × (number_of lost.now f ≡ Some (64 * number)) }
+    ensures { IfOk result (λ search. (j : ℕ) (f : FactOf) → j < 64 → number_of lost.now f ≡ Some (64 * number + j) → IsSearched (onward_flow_view flow.now) f j search) }
 {
-    let facts = shared_from(lost, SHARED * number);
-    let effects = effects_in(alloc, flow, known, number)?;
+    let facts = shared_in(lost.facts(), number);
+    let effects = effects_in(alloc, flow, lists, number)?;
     let mut search = begin(alloc, flow, facts)?;
     complete(flow, effects.as_slice(), facts, &mut search)?;
     Ok(search)
 }
 
 /// The place of the visit of a point with a fact not held, by the fact's number: none where it is held on each path to it.
-pub fn lost_place(_flow: &Flow, search: &Search, at: usize, number: usize) -> Option<usize>
-    requires visits { AreVisits (flow_view _flow.now) search.now }
+pub fn lost_place(_flow: &OnwardFlow, search: &Search, at: usize, number: usize) -> Option<usize>
+    requires visits { AreVisits (onward_flow_view _flow.now) search.now }
     requires within { at < length _flow.now.points.items }
     requires few { number < 64 }
-    ensures some { IfSome result (λ place. (f : FactOf) → IsSearched (flow_view _flow.now) f number search.now → IsNearest (flow_view _flow.now) f number at search.now.visits.items place) }
-    ensures none { IfNone result ((f : FactOf) → IsSearched (flow_view _flow.now) f number search.now → Holds (flow_view _flow.now) f at) }
+    ensures some { IfSome result (λ place. (f : FactOf) → IsSearched (onward_flow_view _flow.now) f number search.now → IsNearest (onward_flow_view _flow.now) f number at search.now.visits.items place) }
+    ensures none { IfNone result ((f : FactOf) → IsSearched (onward_flow_view _flow.now) f number search.now → Holds (onward_flow_view _flow.now) f at) }
 {
     for place in &search.places[slot(at, false)] {
         if search.visits[*place].facts.holds(number) {

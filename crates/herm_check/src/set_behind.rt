@@ -1,17 +1,17 @@
 //! The numbers of the facts that are held behind an edge.
-ghost use Rattle.std.specs.Prelude.{◌≡◌, ◌&&◌, ◌||◌, ℕ, not, cond, true, false, nat_eq, map, IfOk, OnOk};
-ghost use Rattle.herm_model.specs.Lists.{IsIn, any_pass};
+ghost use Rattle.std.specs.Prelude.{◌≡◌, ◌&&◌, ◌||◌, ℕ, not, IfOk, OnOk};
+ghost use Rattle.herm_model.specs.Lists.{any_pass};
 ghost use Rattle.herm_model.specs.Paths as model;
-ghost use Rattle.herm_model.specs.Paths.{path_of, same_fact, is_at_or_below};
-ghost use Rattle.herm_model.specs.ControlPaths.{held_after_edge};
-ghost use Rattle.herm_types.specs.View.{path_view, fact_view};
-ghost use Rattle.herm_flow.specs.View.{edge_view};
+ghost use Rattle.herm_model.specs.Paths.{same_fact};
+ghost use Rattle.herm_types.specs.View.{fact_view};
 ghost use Rattle.herm_facts.specs.NumberSets.{has_number};
 ghost use Rattle.herm_check.specs.Numberings.{in_set, HasNumber, AreNumbers, AreApart};
+ghost use Rattle.herm_check.specs.Lists.{at_has, is_made_number, is_killed_number};
 
-use herm_facts::{FactNumbers, NumberSet};
-use herm_flow::Edge;
-use herm_types::{Fact, Path};
+use crate::lists::ListsOf;
+use herm_facts::{FactNumbers, NumberSet, SparseSet};
+use herm_flow::OnwardEdge;
+use herm_types::Fact;
 use std::alloc::{AllocError, Global};
 
 /// Adds the fact's number.
@@ -28,77 +28,50 @@ pub fn hold(numbers: &FactNumbers, held: &mut NumberSet, fact: &Fact) -> Result<
     Ok(())
 }
 
-/// Adds the numbers of these facts.
-fn hold_all(numbers: &FactNumbers, held: &mut NumberSet, facts: &[Fact]) -> Result<(), AllocError>
-    requires apart { AreApart numbers.now }
-    requires numbers { (f : model.Fact) → IsIn f (map fact_view facts.now) → HasNumber numbers.now f }
-    ensures facts { OnOk result ((f : model.Fact) → in_set numbers.now held.new f ≡ (any_pass (same_fact f) (map fact_view facts.now) || in_set numbers.now held.old f)) }
-    ensures known { OnOk result (AreNumbers numbers.now held.old → AreNumbers numbers.now held.new) }
+/// Adds the numbers of a list, where there is one at the place.
+fn join_list(held: &mut NumberSet, made: &[SparseSet], list: u32) -> Result<(), AllocError>
+    ensures { OnOk result ((n : ℕ) → has_number held.new n ≡ (has_number held.old n || at_has made.now list n)) }
 {
-    for fact in facts {
-        hold(numbers, held, fact)?;
+    match made.get(list as usize) {
+        Some(set) => {
+            held.join(set)?;
+            Ok(())
+        }
+        None => Ok(()),
+    }
+}
+
+/// Adds the numbers of these lists.
+fn join_lists(held: &mut NumberSet, made: &[SparseSet], lists: &[u32]) -> Result<(), AllocError>
+    ensures { OnOk result ((n : ℕ) → has_number held.new n ≡ (has_number held.old n || any_pass (λ m. at_has made.now m n) lists.now)) }
+{
+    for list in lists {
+        join_list(held, made, *list)?;
     }
     Ok(())
 }
 
-/// Takes these numbers.
-fn remove_all(held: &mut NumberSet, numbers: &[usize])
-    ensures { (n : ℕ) → has_number held.new n ≡ (not (any_pass (nat_eq n) numbers.now) && has_number held.old n) }
+/// Takes the numbers of a list, where there is one at the place.
+fn take_list(held: &mut NumberSet, gone: &[SparseSet], list: u32)
+    ensures { (n : ℕ) → has_number held.new n ≡ (has_number held.old n && not (at_has gone.now list n)) }
 {
-    for number in numbers {
-        held.remove(*number);
+    match gone.get(list as usize) {
+        Some(set) => held.take(set),
+        None => {}
     }
 }
 
-/// Takes the numbers of the facts at the path and below. The list is for use while it does so.
-fn lose(
-    numbers: &FactNumbers,
-    held: &mut NumberSet,
-    path: &Path,
-    lost: &mut Vec<usize>,
-) -> Result<(), AllocError>
-    requires apart { AreApart numbers.now }
-    ensures facts { OnOk result ((f : model.Fact) → in_set numbers.now held.new f ≡ (not (is_at_or_below (path_view path.now) (path_of f)) && in_set numbers.now held.old f)) }
-    ensures fewer { OnOk result ((n : ℕ) → has_number held.new n ≡ true → has_number held.old n ≡ true) }
-{
-    lost.clear();
-    numbers.below(path, lost)?;
-    remove_all(held, lost.as_slice());
-    Ok(())
-}
-
-/// Takes the numbers of the facts at these paths and below.
-fn lose_all(
-    alloc: Global,
-    numbers: &FactNumbers,
-    held: &mut NumberSet,
-    kills: &[Path],
-) -> Result<(), AllocError>
-    requires apart { AreApart numbers.now }
-    ensures facts { OnOk result ((f : model.Fact) → in_set numbers.now held.new f ≡ cond (any_pass (λ p. is_at_or_below p (path_of f)) (map path_view kills.now)) false (in_set numbers.now held.old f)) }
-    ensures fewer { OnOk result ((n : ℕ) → has_number held.new n ≡ true → has_number held.old n ≡ true) }
-{
-    let mut lost = Vec::new(alloc);
-    for path in kills {
-        lose(numbers, held, path, &mut lost)?;
-    }
-    Ok(())
-}
-
-/// The numbers of the facts that are held behind the edge, where these are held before it.
+/// The numbers that are held behind the edge, where these are held before it.
 pub fn numbers_behind(
     alloc: Global,
-    numbers: &FactNumbers,
     held: &NumberSet,
-    edge: &Edge,
+    lists: &ListsOf,
+    edge: &OnwardEdge,
 ) -> Result<NumberSet, AllocError>
-    requires apart { AreApart numbers.now }
-    requires numbers { (f : model.Fact) → IsIn f (edge_view edge.now).makes → HasNumber numbers.now f }
-    ensures facts { IfOk result (λ after. (f : model.Fact) → in_set numbers.now after f ≡ held_after_edge (edge_view edge.now) f (in_set numbers.now held.now f)) }
-    ensures known { IfOk result (λ after. AreNumbers numbers.now held.now → AreNumbers numbers.now after) }
+    ensures { IfOk result (λ after. (n : ℕ) → has_number after n ≡ ((has_number held.now n && not (is_killed_number lists.now edge.now n)) || is_made_number lists.now edge.now n)) }
 {
     let mut after = held.copy(alloc)?;
-    lose_all(alloc, numbers, &mut after, edge.kills())?;
-    hold_all(numbers, &mut after, edge.makes())?;
+    take_list(&mut after, lists.gone.as_slice(), edge.kills);
+    join_lists(&mut after, lists.made.as_slice(), edge.makes.as_slice())?;
     Ok(after)
 }

@@ -1,14 +1,13 @@
 //! Rows by hand. A flow is its points with `;` between: needs, `|`, and edges with `,` between. An edge is a letter for its outcome (`o`, `t`, `f`, or
-//! a digit for an exception), facts that it makes behind `+`, paths that it takes away behind `-`, and behind `>` the number of the point to which it
-//! leads, `.` for the end or `!` for an end by an exception. A fact is a word of digits, as `0` for `init` of variable 0, `10` for its part 0, `1=2` for a component.
+//! a digit for an exception), facts that it makes behind `+`, paths that it takes away behind `-`, `&` where it makes the facts of the edge before it too, and behind `>`
+//! the number of the point to which it leads, or `.` for an end, where no edge stands. A fact is a word of digits, as `0` for `init` of variable 0, `10` for its part 0, `1=2` for a component.
 use super::ready::missing_in;
 use super::*;
 use herm_base::{ExcNo, StmtNo, VarNo};
-use herm_flow::{Change, Edge, Flow, Point, Target};
+use herm_flow::{NO_LIST, OnwardEdge, OnwardFlow, OnwardPoint};
 use herm_typed::Outcome;
 use herm_types::{Fact, Path};
 use std::alloc::{AllocError, Global};
-use std::rc::Rc;
 use std::test::Fail;
 
 fn digit(byte: u8) -> u32 {
@@ -53,84 +52,130 @@ fn outcome_of(letter: u8) -> Outcome {
     }
 }
 
-fn target_of(letter: u8) -> Target {
+fn target_of(letter: u8) -> Option<u32> {
     match letter {
-        b'.' => Target::End,
-        b'!' => Target::EndBy(ExcNo(1)),
-        _ => Target::Point(digit(letter).saturating_sub(1)),
+        b'.' => None,
+        _ => Some(digit(letter).saturating_sub(1)),
     }
 }
 
-fn push_change(
-    alloc: Global,
-    change: &mut Change,
-    sign: u8,
-    word: &[u8],
-) -> Result<(), AllocError> {
+/// What the text of an edge says.
+#[derive(Drop)]
+struct Said {
+    outcome: Outcome,
+    makes: Vec<Fact>,
+    kills: Vec<Path>,
+    like_before: bool,
+    to: Option<u32>,
+}
+
+fn push_word(alloc: Global, said: &mut Said, sign: u8, word: &[u8]) -> Result<(), AllocError> {
     if sign == b'+' {
         let fact = fact_of(alloc, word)?;
-        change.makes.push(fact)?;
+        said.makes.push(fact)?;
     }
     if sign == b'-' {
         let path = path_of(alloc, word)?;
-        change.kills.push(path)?;
+        said.kills.push(path)?;
+    }
+    if sign == b'&' {
+        said.like_before = true;
     }
     Ok(())
 }
 
-fn edge_of(alloc: Global, text: &[u8]) -> Result<Edge, AllocError> {
-    let mut outcome = Outcome::Ok;
-    let mut to = Target::End;
-    let mut change = Change {
+fn said_of(alloc: Global, text: &[u8]) -> Result<Said, AllocError> {
+    let mut said = Said {
+        outcome: Outcome::Ok,
         makes: Vec::new(alloc),
         kills: Vec::new(alloc),
+        like_before: false,
+        to: None,
     };
     let mut sign = b'?';
     let mut word: Vec<u8> = Vec::new(alloc);
     for byte in text {
         if sign == b'?' {
-            outcome = outcome_of(*byte);
+            said.outcome = outcome_of(*byte);
             sign = b' ';
         } else if sign == b'>' {
-            to = target_of(*byte);
-        } else if *byte == b'+' || *byte == b'-' || *byte == b'>' {
-            push_change(alloc, &mut change, sign, word.as_slice())?;
+            said.to = target_of(*byte);
+        } else if b"+-&>".contains(byte) {
+            push_word(alloc, &mut said, sign, word.as_slice())?;
             sign = *byte;
             word.clear();
         } else {
             word.push(*byte)?;
         }
     }
-    let change = Rc::new(alloc, change)?;
-    Ok(Edge {
-        outcome,
-        change,
-        to,
-    })
+    Ok(said)
 }
 
-fn point_of(alloc: Global, number: u32, text: &str) -> Result<Point, AllocError> {
-    let mut needs = Vec::new(alloc);
-    let mut edges = Vec::new(alloc);
+/// The number of the next of so many lists.
+fn list_number(count: usize) -> Result<u32, AllocError> {
+    if count >= NO_LIST as usize {
+        return Err(AllocError);
+    }
+    Ok(count as u32)
+}
+
+/// Adds the edge with its lists, where it leads on: its facts are a list of their own.
+fn push_edge(alloc: Global, point: &mut OnwardPoint, said: Said) -> Result<(), AllocError> {
+    let Said {
+        outcome,
+        makes,
+        kills,
+        like_before,
+        to,
+    } = said;
+    let Some(to) = to else {
+        return Ok(());
+    };
+    let list = list_number(point.made.len())?;
+    let mut named = Vec::new(alloc);
+    if like_before {
+        named.push(list.saturating_sub(1))?;
+    }
+    named.push(list)?;
+    point.made.push(makes)?;
+    let mut gone = NO_LIST;
+    if !kills.is_empty() {
+        gone = list_number(point.gone.len())?;
+        point.gone.push(kills)?;
+    }
+    point.edges.push(OnwardEdge {
+        outcome,
+        to,
+        makes: named,
+        kills: gone,
+    })?;
+    Ok(())
+}
+
+fn point_of(alloc: Global, number: u32, text: &str) -> Result<OnwardPoint, AllocError> {
+    let mut point = OnwardPoint {
+        stmt: StmtNo(number),
+        needs: Vec::new(alloc),
+        made: Vec::new(alloc),
+        gone: Vec::new(alloc),
+        edges: Vec::new(alloc),
+    };
     let mut sides = text.split('|');
     if let Some(side) = sides.next() {
         for word in side.split_whitespace() {
-            needs.push(fact_of(alloc, word.as_bytes())?)?;
+            point.needs.push(fact_of(alloc, word.as_bytes())?)?;
         }
     }
     if let Some(side) = sides.next() {
         for word in side.split(',') {
-            edges.push(edge_of(alloc, word.as_bytes())?)?;
+            let said = said_of(alloc, word.as_bytes())?;
+            push_edge(alloc, &mut point, said)?;
         }
     }
-    Ok(Point {
-        stmt: StmtNo(number),
-        needs,
-        edges,
-    })
+    Ok(point)
 }
 
-fn flow_of(alloc: Global, text: &str) -> Result<Flow, AllocError> {
+fn flow_of(alloc: Global, text: &str) -> Result<OnwardFlow, AllocError> {
     let mut points = Vec::new(alloc);
     let mut number = 1;
     for word in text.split(';') {
@@ -139,7 +184,7 @@ fn flow_of(alloc: Global, text: &str) -> Result<Flow, AllocError> {
             number = number.saturating_add(1);
         }
     }
-    Ok(Flow { points })
+    Ok(OnwardFlow { points })
 }
 
 fn push_path(alloc: Global, path: &Path, out: &mut String) -> Result<(), AllocError> {
@@ -212,7 +257,7 @@ fn told(alloc: Global, missing: &Missing) -> Result<String, AllocError> {
 }
 
 /// A flow, and what is missing.
-const FLOWS: [(&str, &str); 19] = [
+const FLOWS: [(&str, &str); 21] = [
     ("", ""),
     ("|o>.", ""),
     ("0|o-0>.", ""),
@@ -228,7 +273,9 @@ const FLOWS: [(&str, &str); 19] = [
     ("|o+1+1=2>2;1=2|o-1>3;1=2|o>.", "3 1=2 1o 2o"),
     ("|o+1+1=2>2;1=3|o>.", "2 1=3 1o"),
     ("|o+1+10>2;10|o-10>3;1|o>.", ""),
-    ("1|o>!", "1 1"),
+    ("1|o>.", "1 1"),
+    ("|t+1>2,f&>3;1|o>3;1 2|o>.", "3 2 1f"),
+    ("|t+1>2,f+2&>2;1 2|o>.", "2 2 1t"),
     ("1|o>2;1 2|o>.", "1 1; 2 1 1o; 2 2 1o"),
     ("|o-1+1>2;1|o>.", ""),
     (

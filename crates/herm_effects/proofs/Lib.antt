@@ -6,3 +6,4 @@ pub mod Passed
 pub mod Repeats
 pub mod Unknown
 pub mod Single
+pub mod CallsMade

@@ -25,7 +25,7 @@ held_already has x f h = by (same_fact f x) refl
     by true e = ap has (same_fact-is f x e) ∙ h
     by false e = refl
 
-any-append : (test : Fact → Bool) (xs ys : List Fact) → any_pass test (xs ++ ys) ≡ (any_pass test xs || any_pass test ys)
+pub any-append : (test : Fact → Bool) (xs ys : List Fact) → any_pass test (xs ++ ys) ≡ (any_pass test xs || any_pass test ys)
 any-append test [] ys = refl
 any-append test (x ∷ xs) ys = by (test x) (any-append test xs ys)
   where

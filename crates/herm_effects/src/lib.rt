@@ -7,6 +7,7 @@ ghost use Rattle.herm_effects.specs.Rows.{needs_at, makes_at, kills_at};
 
 mod arguments;
 mod before;
+mod called;
 mod closed;
 mod few;
 mod gone;
@@ -17,6 +18,7 @@ mod ports;
 mod present;
 mod reads;
 
+pub use called::{facts_of_argument, places_back};
 use closed::closed;
 use gone::gone;
 use herm_judge::Frame;

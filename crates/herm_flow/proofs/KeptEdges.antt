@@ -1,105 +1,86 @@
--- The edges that are kept.
-use Rattle.std.proofs.Common.{◌≡◌, ℕ, suc, ◌+◌, List, [], ◌∷◌, ◌++◌, map, filter, reverse, drop, Bool, true, false, cond, inl, inr, ◌⊎◌, refl, sym, ap, subst, ◌∙◌, append-nil, append_assoc, arith}
-use Rattle.std.proofs.lemmas.List.{reverse-append}
+-- Edges of a statement: those that are picked and cover others, and those of its outcomes one after the other.
+use Rattle.std.proofs.Common.{◌≡◌, ℕ, suc, ◌+◌, List, ◌∷◌, ◌++◌, map, drop, true, inl, inr, ◌⊎◌, refl, sym, ap, ap₂, subst, ◌∙◌, append_assoc, arith}
 use Rattle.herm_model.specs.Lists.{IsIn}
 use Rattle.herm_model.specs.Types.{TypeTable}
 use Rattle.herm_model.specs.Targets.{Target}
 use Rattle.herm_model.specs.Handlers.{Catch}
-use Rattle.herm_model.specs.Nodes.{Node}
 use Rattle.herm_model.specs.Exits.{Exit}
-use Rattle.herm_model.specs.ControlPaths.{Edge, Point, point}
-use Rattle.herm_model.proofs.Lists.{in-append_cases}
+use Rattle.herm_model.specs.ControlPaths.{Edge}
+use Rattle.herm_model.proofs.Lists.{in-append_cases, in-map_from}
 use Rattle.herm_types.proofs.Extended.{map-append}
 use Rattle.herm_typed.specs.declared.statements.TypedForm.{TypedForm}
-use Rattle.herm_flow.specs.declared.kept.Kept.{Kept}
-use Rattle.herm_flow.specs.declared.kept.Kept.TheVariants.{All, Onward}
 use Rattle.herm_typed.specs.declared.outcome_list.Outcome.{Outcome}
 use Rattle.herm_typed.specs.View.{outcome_view}
 use Rattle.herm_flow.specs.Edges.{an_exit, raised_in, exit_of, left_of, exits_from, edge_at, AreEdgesOf}
-use Rattle.herm_flow.specs.Onward.{onward, unrepeated_behind}
-use Rattle.herm_flow.specs.Kept.{is_kept, is_repeated, pushed, pushed_all, kept_among, kept, point_kept}
+use Rattle.herm_flow.specs.Onward.{is_node, leads_on, IsSameEdge, ArePicked, none, picked, passed, IsCovered}
 
--- ---- points
+-- ---- edges that are the same
 
-pub points_kept : (k : Kept) (table : TypeTable) (variables : List ℕ) (ns : List Node) → map (point_kept k table variables) ns ≡ map (kept k) (map (point table variables) ns)
-points_kept k table variables [] = refl
-points_kept k table variables (n ∷ ns) = ap (point_kept k table variables n ∷◌) (points_kept k table variables ns)
+pub same-self : (e : Edge) → IsSameEdge e e
+same-self e = record { outcome = refl; target = refl; held = λ f held. refl }
 
--- a flow of all edges is the whole
-pub all_kept : (ps : List Point) → map (kept All) ps ≡ ps
-all_kept [] = refl
-all_kept (p ∷ ps) = ap (p ∷◌) (all_kept ps)
+same-through : (c d e : Edge) → IsSameEdge c d → IsSameEdge d e → IsSameEdge c e
+same-through c d e p q = record { outcome = p.outcome ∙ q.outcome; target = p.target ∙ q.target; held = λ f held. p.held f held ∙ q.held f held }
 
-pub onward_kept : (ps : List Point) → map (kept Onward) ps ≡ map onward ps
-onward_kept [] = refl
-onward_kept (p ∷ ps) = ap (onward p ∷◌) (onward_kept ps)
+-- ---- some of the edges
 
--- ---- edges
+pub picked-append : (xs bs cs ds : List Edge) → ArePicked xs bs → ArePicked cs ds → ArePicked (xs ++ cs) (bs ++ ds)
+picked-append _ _ cs ds none q = q
+picked-append _ _ cs ds (picked d e xs bs same p) q = picked d e (xs ++ cs) (bs ++ ds) same (picked-append xs bs cs ds p q)
+picked-append _ _ cs ds (passed e xs bs p) q = passed e (xs ++ cs) (bs ++ ds) (picked-append xs bs cs ds p q)
 
-all-pushed : (more es : List Edge) → pushed_all All es more ≡ es ++ more
-all-pushed [] es = sym (append-nil es)
-all-pushed (e ∷ more) es = all-pushed more (es ++ e ∷ []) ∙ append_assoc es (e ∷ []) more
+-- some of some are some
+pub picked-through : (xs bs cs : List Edge) → ArePicked xs bs → ArePicked bs cs → ArePicked xs cs
+picked-through xs _ _ p none = p
+picked-through _ _ _ (picked c _ xs _ own p) (picked d e bs cs same q) = picked c e xs cs (same-through c d e own same) (picked-through xs bs cs p q)
+picked-through xs _ _ (passed _ _ _ p) (picked d e bs cs same q) = passed e xs cs (picked-through xs bs cs p q)
+picked-through xs _ _ p (passed e bs cs q) = passed e xs cs (picked-through xs bs cs p q)
 
-onward-pushed : (more es : List Edge) → pushed_all Onward es more ≡ es ++ unrepeated_behind (reverse es) (filter (is_kept Onward) more)
-onward-pushed [] es = sym (append-nil es)
-onward-pushed (e ∷ more) es = go (is_kept Onward e) (onward-pushed more es) (onward-pushed more (es ++ e ∷ []))
+-- ---- what is covered
+
+-- what edges cover that are covered in their turn
+pub covered-through : (xs bs : List Edge) (e : Edge) → leads_on e ≡ true → IsCovered xs e → ((d : Edge) → IsIn d xs → leads_on d ≡ true → IsCovered bs d) → IsCovered bs e
+covered-through xs bs e on c turn = record {
+  leads =
+      let by = turn c.leads.0 c.leads.1 (onto c.leads.0 c.leads.2) in
+      (by.leads.0, by.leads.1, by.leads.2 ∙ c.leads.2);
+  lost = λ f held h.
+      let d = c.lost f held h in
+      let by = (turn d.0 d.1 (onto d.0 d.2)).lost f held d.3 in
+      (by.0, by.1, by.2 ∙ d.2, by.3);
+}
   where
-    next : (b : Bool) → pushed_all Onward es more ≡ es ++ unrepeated_behind (reverse es) (filter (is_kept Onward) more) → pushed_all Onward (es ++ e ∷ []) more ≡ (es ++ e ∷ []) ++ unrepeated_behind (reverse (es ++ e ∷ [])) (filter (is_kept Onward) more)
-        → pushed_all Onward (cond b es (es ++ e ∷ [])) more ≡ es ++ cond b (unrepeated_behind (reverse es) (filter (is_kept Onward) more)) (e ∷ unrepeated_behind (e ∷ reverse es) (filter (is_kept Onward) more))
-    next true same longer = same
-    next false same longer = longer ∙ (ap (λ ds. (es ++ e ∷ []) ++ unrepeated_behind ds (filter (is_kept Onward) more)) (reverse-append es (e ∷ [])) ∙ append_assoc es (e ∷ []) (unrepeated_behind (e ∷ reverse es) (filter (is_kept Onward) more)))
+    onto : (d : Edge) → d.target ≡ e.target → leads_on d ≡ true
+    onto d same = ap is_node same ∙ on
 
-    go : (b : Bool) → pushed_all Onward es more ≡ es ++ unrepeated_behind (reverse es) (filter (is_kept Onward) more) → pushed_all Onward (es ++ e ∷ []) more ≡ (es ++ e ∷ []) ++ unrepeated_behind (reverse (es ++ e ∷ [])) (filter (is_kept Onward) more)
-        → pushed_all Onward (cond b (cond (is_repeated Onward es e) es (es ++ e ∷ [])) es) more ≡ es ++ unrepeated_behind (reverse es) (cond b (e ∷ filter (is_kept Onward) more) (filter (is_kept Onward) more))
-    go false same longer = same
-    go true same longer = next (is_repeated Onward es e) same longer
+-- ---- the edges of outcomes
 
--- edges that are pushed one after the other are those that are kept
-pub pushed_kept : (k : Kept) (es : List Edge) → pushed_all k [] es ≡ kept_among k es
-pushed_kept All es = all-pushed es []
-pushed_kept Onward es = onward-pushed es []
+module _ (table : TypeTable) (variables : List ℕ) (form : TypedForm) where
+  abbrev edge : Exit → Edge
+  edge = edge_at table variables form
 
-pub pushed_all-append : (k : Kept) (more rest es : List Edge) → pushed_all k es (more ++ rest) ≡ pushed_all k (pushed_all k es more) rest
-pushed_all-append k [] rest es = refl
-pushed_all-append k (e ∷ more) rest es = pushed_all-append k more rest (pushed k es e)
-
--- edges of a form with those of exits pushed
-module _ (k : Kept) (table : TypeTable) (variables : List ℕ) (form : TypedForm) where
-  one-more : (es : List Edge) (x : Exit) → AreEdgesOf table variables form es → AreEdgesOf table variables form (pushed k es (edge_at table variables form x))
-  one-more es x of = by (is_kept k (edge_at table variables form x)) (is_repeated k es (edge_at table variables form x))
+  edges-of : (xs : List Exit) (old new : List Edge) → AreEdgesOf table variables form old → new ≡ old ++ map edge xs → AreEdgesOf table variables form new
+  edges-of xs old new of is e m = by (in-append_cases e old (map edge xs) (subst (IsIn e) is m))
     where
-      pushed : AreEdgesOf table variables form (es ++ edge_at table variables form x ∷ [])
-      pushed e m = from (in-append_cases e es (edge_at table variables form x ∷ []) m)
-        where
-          from : IsIn e es ⊎ IsIn e (edge_at table variables form x ∷ []) → e ≡ edge_at table variables form (an_exit e.outcome e.target)
-          from (inl h) = of e h
-          from (inr (inl h)) = subst (λ (y : Edge). y ≡ edge_at table variables form (an_exit y.outcome y.target)) (sym h) refl
-          from (inr (inr h)) = absurd h
-
-      by : (b c : Bool) → AreEdgesOf table variables form (cond b (cond c es (es ++ edge_at table variables form x ∷ [])) es)
-      by false c = of
-      by true true = of
-      by true false = pushed
-
-  pushed_of : (xs : List Exit) (es : List Edge) → AreEdgesOf table variables form es → AreEdgesOf table variables form (pushed_all k es (map (edge_at table variables form) xs))
-  pushed_of [] es of = of
-  pushed_of (x ∷ xs) es of = pushed_of xs (pushed k es (edge_at table variables form x)) (one-more es x of)
+      by : IsIn e old ⊎ IsIn e (map edge xs) → e ≡ edge (an_exit e.outcome e.target)
+      by (inl h) = of e h
+      by (inr h) = let x = in-map_from edge e xs h in subst (λ (y : Edge). y ≡ edge (an_exit y.outcome y.target)) (sym x.2) refl
 
   -- the edge of the next outcome, and the rest
-  pub next-edges : (catches : List Catch) (o : Outcome) (os : List Outcome) (i : ℕ) (old new whole : List Edge) (ts us : List Target) → drop i os ≡ o ∷ drop (suc i) os
-      → new ≡ pushed_all k old (map (edge_at table variables form) (exit_of (outcome_view o) (raised_in (outcome_view o)) ts catches))
+  pub next_edges : (catches : List Catch) (o : Outcome) (os : List Outcome) (i : ℕ) (old new all : List Edge) (ts us : List Target) → drop i os ≡ o ∷ drop (suc i) os
+      → new ≡ old ++ map edge (exit_of (outcome_view o) (raised_in (outcome_view o)) ts catches)
       → us ≡ left_of (raised_in (outcome_view o)) ts
       → AreEdgesOf table variables form old
-      → pushed_all k old (map (edge_at table variables form) (exits_from (map outcome_view (drop i os)) ts catches)) ≡ whole
-      → AreEdgesOf table variables form new × (pushed_all k new (map (edge_at table variables form) (exits_from (map outcome_view (drop (i + 1) os)) us catches)) ≡ whole)
-  next-edges catches o os i old new whole ts us at pushes left of before =
+      → old ++ map edge (exits_from (map outcome_view (drop i os)) ts catches) ≡ all
+      → AreEdgesOf table variables form new × (new ++ map edge (exits_from (map outcome_view (drop (i + 1) os)) us catches) ≡ all)
+  next_edges catches o os i old new all ts us at pushed left of before =
       let step : i + 1 ≡ suc i = omega arith in
-      let own = exit_of (outcome_view o) (raised_in (outcome_view o)) ts catches in (
-        subst (AreEdgesOf table variables form) (sym pushes) (pushed_of own old of),
-        ap (λ n. pushed_all k new (map (edge_at table variables form) (exits_from (map outcome_view (drop n os)) us catches))) step
-            ∙ (ap (λ vs. pushed_all k new (map (edge_at table variables form) (exits_from (map outcome_view (drop (suc i) os)) vs catches))) left
-            ∙ (ap (λ es. pushed_all k es (map (edge_at table variables form) (exits_from (map outcome_view (drop (suc i) os)) (left_of (raised_in (outcome_view o)) ts) catches))) pushes
-            ∙ (sym (pushed_all-append k (map (edge_at table variables form) own) (map (edge_at table variables form) (exits_from (map outcome_view (drop (suc i) os)) (left_of (raised_in (outcome_view o)) ts) catches)) old)
-            ∙ (ap (pushed_all k old) (sym (map-append (edge_at table variables form) own (exits_from (map outcome_view (drop (suc i) os)) (left_of (raised_in (outcome_view o)) ts) catches)))
-            ∙ (sym (ap (λ xs. pushed_all k old (map (edge_at table variables form) (exits_from (map outcome_view xs) ts catches))) at) ∙ before))))),
+      let own = exit_of (outcome_view o) (raised_in (outcome_view o)) ts catches in
+      let rest = exits_from (map outcome_view (drop (suc i) os)) (left_of (raised_in (outcome_view o)) ts) catches in (
+        edges-of own old new of pushed,
+        ap (λ n. new ++ map edge (exits_from (map outcome_view (drop n os)) us catches)) step
+            ∙ (ap₂ (λ es vs. es ++ map edge (exits_from (map outcome_view (drop (suc i) os)) vs catches)) pushed left
+            ∙ (append_assoc old (map edge own) (map edge rest)
+            ∙ (ap (old ++◌) (sym (map-append edge own rest))
+            ∙ (sym (ap (λ xs. old ++ map edge (exits_from (map outcome_view xs) ts catches)) at) ∙ before)))),
       )

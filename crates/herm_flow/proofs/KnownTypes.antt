@@ -3,7 +3,8 @@ use Rattle.std.proofs.Common.{◌≡◌, ℕ, List, [], ◌∷◌, ◌++◌, map
 use Rattle.herm_model.specs.Types.{TypeTable}
 use Rattle.herm_model.specs.Targets.{end}
 use Rattle.herm_model.specs.Nodes.{nodes_in}
-use Rattle.herm_model.specs.ControlPaths.{flow_of}
+use Rattle.herm_model.specs.ControlPaths as paths
+use Rattle.herm_model.specs.ControlPaths.{flow_of, point}
 use Rattle.herm_typed.specs.declared.statements.TypedStmt.{TypedStmt}
 use Rattle.herm_typed.specs.declared.statements.TypedProcess.{TypedProcess}
 use Rattle.herm_typed.specs.declared.statements.TypedForm.{TypedForm}
@@ -12,12 +13,13 @@ use Rattle.herm_typed.specs.View.{typed_stmts_view, typed_process_view}
 use Rattle.herm_typed.specs.Within.{all_statements}
 use Rattle.herm_typed.specs.Beside.{HasTypes, KnowsTypes}
 use Rattle.herm_typed.specs.Outcomes.{KnowsOutcomes}
-use Rattle.herm_flow.specs.declared.flow.Point.{Point}
-use Rattle.herm_flow.specs.View.{point_view}
 use Rattle.herm_flow.specs.declared.kept.Kept.{Kept}
+use Rattle.herm_flow.specs.declared.kept.Kept.TheVariants.{All, Onward}
+use Rattle.herm_flow.specs.declared.kept.Points.{Points}
+use Rattle.herm_flow.specs.View.{point_view}
+use Rattle.herm_flow.specs.OnwardView.{onward_point_view}
 use Rattle.herm_flow.specs.KnownOutcomes.{AllKnow}
-use Rattle.herm_flow.specs.Kept.{kept, point_kept}
-use Rattle.herm_flow.proofs.KeptEdges.{points_kept}
+use Rattle.herm_flow.specs.Kept.{points_view, AreKept, Adds}
 
 abbrev first_type : List (Option ℕ) → Option ℕ
 first_type [] = None
@@ -34,10 +36,13 @@ all_known table variables list p e f k =
     (subst (λ ts. AllKnow table (map (λ v. v.of.0) p.vars.items) (all_statements ts)) (sym f)
     (λ t h. outcomes_known table (map (λ v. v.of.0) p.vars.items) t.form (k t h)))
 
+no-points : (k : Kept) (points : Points) → points.whole.items ≡ [] → points.onward.items ≡ [] → points_view k points ≡ []
+no-points All points e f = ap (map point_view) e
+no-points Onward points e f = ap (map onward_point_view) f
+
 -- the points of a process are those of its body
-pub points_seen : (k : Kept) (table : TypeTable) (variables : List ℕ) (list : List TypedStmt) (p : TypedProcess) (old new : List Point) → variables ≡ map (λ v. v.of.0) p.vars.items → list ≡ p.body.items → old ≡ []
-    → map point_view new ≡ map point_view old ++ map (point_kept k table variables) (nodes_in (typed_stmts_view list) 1 0 (record { behind = end; catches = []; exit = end })) → map point_view new ≡ map (kept k) (flow_of table (typed_process_view p)).points
-points_seen k table variables list p old new e f g h =
-    h ∙ (ap (λ (ps : List Point). map point_view ps ++ map (point_kept k table variables) (nodes_in (typed_stmts_view list) 1 0 (record { behind = end; catches = []; exit = end }))) g
-    ∙ (ap₂ (λ ns ts. map (point_kept k table ns) (nodes_in (typed_stmts_view ts) 1 0 (record { behind = end; catches = []; exit = end }))) e f
-    ∙ points_kept k table (map (λ v. v.of.0) p.vars.items) (nodes_in (typed_stmts_view p.body.items) 1 0 (record { behind = end; catches = []; exit = end }))))
+pub points_seen : (k : Kept) (table : TypeTable) (variables : List ℕ) (list : List TypedStmt) (p : TypedProcess) (old new : Points) → variables ≡ map (λ v. v.of.0) p.vars.items → list ≡ p.body.items → old.whole.items ≡ [] → old.onward.items ≡ []
+    → Adds k (points_view k old) (points_view k new) (map (point table variables) (nodes_in (typed_stmts_view list) 1 0 (record { behind = end; catches = []; exit = end }))) → AreKept k (flow_of table (typed_process_view p)).points (points_view k new)
+points_seen k table variables list p old new e f whole onward h =
+    subst (AreKept k (flow_of table (typed_process_view p)).points) (sym (h.1 ∙ ap (λ (ps : List paths.Point). ps ++ h.0) (no-points k old whole onward)))
+    (subst (λ (ps : List paths.Point). AreKept k ps h.0) (ap₂ (λ ns ts. map (point table ns) (nodes_in (typed_stmts_view ts) 1 0 (record { behind = end; catches = []; exit = end }))) e f) h.2)

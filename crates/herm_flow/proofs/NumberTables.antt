@@ -12,8 +12,8 @@ use Rattle.herm_model.specs.Handlers.{Catch, caught}
 use Rattle.herm_model.proofs.Lists.{slice_get-map, length-map}
 use Rattle.herm_types.specs.declared.shape.RaiseDecl.{RaiseDecl}
 use Rattle.herm_types.specs.View.{raise_decl_view}
-use Rattle.herm_flow.specs.Onward.{is_node, same_node}
-use Rattle.herm_flow.specs.NumberTables.{at_number, point_of, kept_if_raised, kept_at, same_point, has_entry}
+use Rattle.herm_flow.specs.Onward.{is_node}
+use Rattle.herm_flow.specs.NumberTables.{at_number, point_of, kept_if_raised, kept_at, has_entry}
 
 -- ---- entries
 
@@ -62,17 +62,6 @@ pub point-node : (t : Target) → is_some (point_of t) ≡ is_node t
 point-node (node i) = refl
 point-node end = refl
 point-node (end_by e) = refl
-
-pub point-same : (s t : Target) → same_point (point_of s) (point_of t) ≡ same_node s t
-point-same (node i) (node j) = refl
-point-same (node i) end = refl
-point-same (node i) (end_by f) = refl
-point-same end (node j) = refl
-point-same end end = refl
-point-same end (end_by f) = refl
-point-same (end_by e) (node j) = refl
-point-same (end_by e) end = refl
-point-same (end_by e) (end_by f) = refl
 
 -- ---- what exceptions keep
 

@@ -15,9 +15,7 @@ use Rattle.herm_model.specs.FactsOfStatements.{needs, makes, kills}
 use Rattle.herm_typed.specs.declared.statements.TypedForm.{TypedForm}
 use Rattle.herm_typed.specs.View.{typed_form_view, form_of_statement}
 use Rattle.herm_flow.specs.Edges.{raised_in, an_exit, exit_of, left_of, exits_from, point_at}
-use Rattle.herm_flow.specs.declared.kept.Kept.{Kept}
 use Rattle.herm_flow.specs.Around.{in_loop}
-use Rattle.herm_flow.specs.Kept.{kept, point_kept}
 
 -- ---- exits
 
@@ -99,27 +97,26 @@ module _ (table : TypeTable) (variables : List ℕ) where
   one_way_point : (f : Form) (number : ℕ) (t : Target) (catches : List Catch) → branching_of f ≡ goes_on → point table variables (a_node number f (t ∷ []) catches) ≡ point table variables (a_node number f (map (λ o. t) (normal_outcomes f)) catches)
   one_way_point f number t catches h = ap (λ ps. a_point number (needs table variables f) (map (edge table variables f) (ps ++ of_exceptions (exceptions table variables f) catches))) (one_way f t h)
 
-  module _ (k : Kept) where
-    -- the points of a statement that is seen so
-    abbrev points_of : TypedForm → (number from : ℕ) → Surroundings → List Point
-    points_of form number from s = map (point_kept k table variables) (nodes (typed_form_view form) number from s)
+  -- the points of a statement that is seen so
+  abbrev points_of : TypedForm → (number from : ℕ) → Surroundings → List Point
+  points_of form number from s = map (point table variables) (nodes (typed_form_view form) number from s)
 
-    pub simple_points : (form : TypedForm) (f : Form) (number from : ℕ) (s : Surroundings) → typed_form_view form ≡ simple f → branching_of f ≡ goes_on → kept k (point_at table variables form number (s.behind ∷ []) s.catches) ∷ [] ≡ points_of form number from s
-    simple_points form f number from s e h =
-        ap (λ p. kept k p ∷ []) (point_is form f number (s.behind ∷ []) s.catches (ap form_of_statement e) ∙ one_way_point f number s.behind s.catches h)
-        ∙ sym (ap (λ x. map (point_kept k table variables) (nodes x number from s)) e)
+  pub simple_points : (form : TypedForm) (f : Form) (number from : ℕ) (s : Surroundings) → typed_form_view form ≡ simple f → branching_of f ≡ goes_on → (point_at table variables form number (s.behind ∷ []) s.catches) ∷ [] ≡ points_of form number from s
+  simple_points form f number from s e h =
+      ap (λ p. p ∷ []) (point_is form f number (s.behind ∷ []) s.catches (ap form_of_statement e) ∙ one_way_point f number s.behind s.catches h)
+      ∙ sym (ap (λ x. map (point table variables) (nodes x number from s)) e)
 
-    pub choosing_points : (form : TypedForm) (f : Form) (bs : Blocks) (number from : ℕ) (s : Surroundings) → typed_form_view form ≡ choosing f bs → kept k (point_at table variables form number (starts bs (from + 1) s.behind) s.catches) ∷ map (point_kept k table variables) (nodes_of_choices bs (number + 1) (from + 1) s) ≡ points_of form number from s
-    choosing_points form f bs number from s e =
-        ap (λ p. kept k p ∷ map (point_kept k table variables) (nodes_of_choices bs (number + 1) (from + 1) s)) (point_is form f number (starts bs (from + 1) s.behind) s.catches (ap form_of_statement e))
-        ∙ sym (ap (λ x. map (point_kept k table variables) (nodes x number from s)) e)
+  pub choosing_points : (form : TypedForm) (f : Form) (bs : Blocks) (number from : ℕ) (s : Surroundings) → typed_form_view form ≡ choosing f bs → (point_at table variables form number (starts bs (from + 1) s.behind) s.catches) ∷ map (point table variables) (nodes_of_choices bs (number + 1) (from + 1) s) ≡ points_of form number from s
+  choosing_points form f bs number from s e =
+      ap (λ p. p ∷ map (point table variables) (nodes_of_choices bs (number + 1) (from + 1) s)) (point_is form f number (starts bs (from + 1) s.behind) s.catches (ap form_of_statement e))
+      ∙ sym (ap (λ x. map (point table variables) (nodes x number from s)) e)
 
-    pub repeating_points : (form : TypedForm) (f : Form) (b : Block) (number from : ℕ) (s : Surroundings) → typed_form_view form ≡ repeating f b → kept k (point_at table variables form number (start_of_block b (from + 1) (node from) ∷ s.behind ∷ []) s.catches) ∷ map (point_kept k table variables) (nodes_in b (number + 1) (from + 1) (in_loop from s)) ≡ points_of form number from s
-    repeating_points form f b number from s e =
-        ap (λ p. kept k p ∷ map (point_kept k table variables) (nodes_in b (number + 1) (from + 1) (in_loop from s))) (point_is form f number (start_of_block b (from + 1) (node from) ∷ s.behind ∷ []) s.catches (ap form_of_statement e))
-        ∙ sym (ap (λ x. map (point_kept k table variables) (nodes x number from s)) e)
+  pub repeating_points : (form : TypedForm) (f : Form) (b : Block) (number from : ℕ) (s : Surroundings) → typed_form_view form ≡ repeating f b → (point_at table variables form number (start_of_block b (from + 1) (node from) ∷ s.behind ∷ []) s.catches) ∷ map (point table variables) (nodes_in b (number + 1) (from + 1) (in_loop from s)) ≡ points_of form number from s
+  repeating_points form f b number from s e =
+      ap (λ p. p ∷ map (point table variables) (nodes_in b (number + 1) (from + 1) (in_loop from s))) (point_is form f number (start_of_block b (from + 1) (node from) ∷ s.behind ∷ []) s.catches (ap form_of_statement e))
+      ∙ sym (ap (λ x. map (point table variables) (nodes x number from s)) e)
 
-    pub leaving_points : (form : TypedForm) (number from : ℕ) (s : Surroundings) → typed_form_view form ≡ leaving → kept k (point_at table variables form number (s.exit ∷ []) s.catches) ∷ [] ≡ points_of form number from s
-    leaving_points form number from s e =
-        ap (λ p. kept k p ∷ []) (point_is form Leave number (s.exit ∷ []) s.catches (ap form_of_statement e))
-        ∙ sym (ap (λ x. map (point_kept k table variables) (nodes x number from s)) e)
+  pub leaving_points : (form : TypedForm) (number from : ℕ) (s : Surroundings) → typed_form_view form ≡ leaving → (point_at table variables form number (s.exit ∷ []) s.catches) ∷ [] ≡ points_of form number from s
+  leaving_points form number from s e =
+      ap (λ p. p ∷ []) (point_is form Leave number (s.exit ∷ []) s.catches (ap form_of_statement e))
+      ∙ sym (ap (λ x. map (point table variables) (nodes x number from s)) e)

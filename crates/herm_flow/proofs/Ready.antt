@@ -15,8 +15,11 @@ use Rattle.herm_model.proofs.NodePlaces.{edges-there}
 use Rattle.herm_model.proofs.DifferentOutcomes.{process-EdgesDiffer}
 use Rattle.herm_flow.specs.declared.flow.Flow.{Flow}
 use Rattle.herm_flow.specs.View.{point_view, flow_view}
-use Rattle.herm_flow.specs.Onward.{onward, onward_flow}
+use Rattle.herm_flow.specs.declared.onward.OnwardFlow.{OnwardFlow}
+use Rattle.herm_flow.specs.Onward.{AreOnward, IsOnwardFlow}
+use Rattle.herm_flow.specs.OnwardView.{onward_point_view, onward_flow_view}
 use Rattle.herm_flow.specs.Ready.{IsAllReached, IsReady}
+use Rattle.herm_flow.proofs.KeptPoints.{onward-length}
 
 abbrev a_flow : Target → List paths.Point → paths.Flow
 a_flow entry points = record { entry = entry; points = points }
@@ -44,8 +47,9 @@ module _ (types : TypeTable) (p : Process) (f : Flow) (same : map point_view f.p
   typed_ready exceptions processes typed =
       flow_ready typed.blocks (λ i h. typed.reached i (subst (λ n. i < n) (length-map (point types p.variables) (process_nodes p)) h))
 
--- without its edges to ends it begins there too
-pub onward_is : (types : TypeTable) (p : Process) (f : Flow) → map point_view f.points.items ≡ (onward_flow (flow_of types p)).points → IsAllReached (flow_of types p) → flow_view f ≡ onward_flow (flow_of types p)
-onward_is types p f same reached =
-    let many : length f.points.items ≡ length (flow_of types p).points = sym (length-map point_view f.points.items) ∙ (ap (λ (ps : List paths.Point). length ps) same ∙ length-map onward (flow_of types p).points) in
-    ap₂ (λ t ps. a_flow t ps) (ap first_of many ∙ sym (begins-first types p reached)) same
+-- without covered edges it begins there too
+pub onward_is : (types : TypeTable) (p : Process) (f : OnwardFlow) → AreOnward (flow_of types p).points (map onward_point_view f.points.items) → IsAllReached (flow_of types p) → IsOnwardFlow (flow_of types p) (onward_flow_view f)
+onward_is types p f are reached = record {
+  entry = ap first_of (sym (length-map onward_point_view f.points.items) ∙ onward-length (flow_of types p).points (map onward_point_view f.points.items) are) ∙ sym (begins-first types p reached);
+  points = are;
+}

@@ -6,7 +6,10 @@ pub mod Edges
 pub mod Around
 pub mod KnownOutcomes
 pub mod Onward
-pub mod Apart
+pub mod Some
 pub mod NumberTables
 pub mod Kept
+pub mod CoveredExceptions
 pub mod Ready
+pub mod OnwardView
+pub mod Listed

@@ -1,6 +1,6 @@
 -- Tables by exception number: the points to which exceptions lead, and the places at which they are declared.
-use Rattle.std.specs.Prelude.{ℕ, List, [], ◌∷◌, Bool, false, cond, ◌&&◌, nat_eq, Option, Some, None, option_map, is_some, slice_get}
-use Rattle.herm_model.specs.Lists.{map_or, list_of, same_numbers}
+use Rattle.std.specs.Prelude.{ℕ, List, [], ◌∷◌, Bool, cond, nat_eq, Option, Some, None, option_map, is_some, slice_get}
+use Rattle.herm_model.specs.Lists.{map_or, list_of}
 use Rattle.herm_model.specs.Types.{Raised}
 use Rattle.herm_model.specs.Outcomes.{disconnected}
 use Rattle.herm_model.specs.Targets.{Target, node, end, end_by}
@@ -24,14 +24,6 @@ kept_if_raised (r ∷ raises) e = cond (nat_eq r.exception e) (Some r.kept) (kep
 abbrev pub kept_at : List Raised → Option ℕ → Option (List ℕ)
 kept_at raises place = option_map (λ i. list_of (λ (r : Raised). r.kept) (slice_get raises i)) place
 
-abbrev pub same_point : Option ℕ → Option ℕ → Bool
-same_point (Some i) (Some j) = nat_eq i j
-same_point _ _ = false
-
 -- a number has an entry
 abbrev pub has_entry : List (Option ℕ) → ℕ → Bool
 has_entry table e = is_some (at_number table e)
-
--- two exceptions lead to the same point and keep the same, by the tables
-abbrev pub alike_by : (points declared : List (Option ℕ)) → List Raised → ℕ → ℕ → Bool
-alike_by points declared raises a b = same_point (at_number points a) (at_number points b) && same_numbers (list_of (λ k. k) (kept_at raises (at_number declared a))) (list_of (λ k. k) (kept_at raises (at_number declared b)))

@@ -1,9 +1,9 @@
--- A flow without its edges to ends and without repeats. No control path to a statement takes an edge to an end, and one that takes an edge that repeats another may take the other.
-use Rattle.std.specs.Prelude.{ℕ, List, [], ◌∷◌, map, filter, Bool, true, false, cond, take, ◌&&◌, nat_eq}
-use Rattle.herm_model.specs.Lists.{any_pass}
-use Rattle.herm_model.specs.Paths.{same_path, same_fact}
+-- A flow without its edges to ends, and without edges that others of their point cover. No control path to a statement takes an edge to an end; and where one takes an edge that is covered, another takes one that covers it, and holds no more behind it.
+use Rattle.std.specs.Prelude.{◌≡◌, List, [], ◌∷◌, Bool, true, false}
+use Rattle.herm_model.specs.Lists.{IsIn}
+use Rattle.herm_model.specs.Paths.{Fact}
 use Rattle.herm_model.specs.Targets.{Target, node, end, end_by}
-use Rattle.herm_model.specs.ControlPaths.{Edge, Point, Flow}
+use Rattle.herm_model.specs.ControlPaths.{Edge, Point, Flow, held_after_edge}
 
 abbrev pub is_node : Target → Bool
 is_node (node i) = true
@@ -14,36 +14,40 @@ is_node (end_by e) = false
 abbrev pub leads_on : Edge → Bool
 leads_on e = is_node e.target
 
--- both lead to the same statement
-abbrev pub same_node : Target → Target → Bool
-same_node (node i) (node j) = nat_eq i j
-same_node _ _ = false
+-- The two lead to the same place by the same outcome, and the same is held behind them.
+pub record IsSameEdge (d e : Edge) : Type 0 where
+  pub outcome : d.outcome ≡ e.outcome
+  pub target : d.target ≡ e.target
+  pub held : (f : Fact) (held : Bool) → held_after_edge d f held ≡ held_after_edge e f held
 
--- the two lists have the same elements in the same order, by a test of two elements
-abbrev pub same_all : {X : Type 0} → (X → X → Bool) → List X → List X → Bool
-same_all test [] [] = true
-same_all test [] (y ∷ ys) = false
-same_all test (x ∷ xs) [] = false
-same_all test (x ∷ xs) (y ∷ ys) = test x y && same_all test xs ys
+-- edges that are the same as some of these, in their order
+pub data ArePicked : List Edge → List Edge → Type 0 where
+  none : ArePicked [] []
+  picked : (d e : Edge) (left all : List Edge) → IsSameEdge d e → ArePicked left all → ArePicked (d ∷ left) (e ∷ all)
+  passed : (e : Edge) (left all : List Edge) → ArePicked left all → ArePicked left (e ∷ all)
 
--- the second edge leads to the statement to which the first leads, and makes and takes away the same
-abbrev pub repeats : Edge → Edge → Bool
-repeats d e = same_node d.target e.target && (same_all same_fact d.makes e.makes && same_all same_path d.kills e.kills)
+-- One of these leads where the edge leads; and each fact that is not held behind the edge is not held behind one of those that do, where it was held before both or before neither.
+pub record IsCovered (left : List Edge) (e : Edge) : Type 0 where
+  pub leads : (d : Edge) × IsIn d left × (d.target ≡ e.target)
+  pub lost : (f : Fact) (held : Bool) → held_after_edge e f held ≡ false → (d : Edge) × IsIn d left × (d.target ≡ e.target) × (held_after_edge d f held ≡ false)
 
--- how many of the edges before it an edge is compared with
-abbrev pub near : ℕ
-near = 64
+-- some of the edges, which lead on and cover each other one that does
+pub record AreOnwardEdges (left all : List Edge) : Type 0 where
+  pub picked : ArePicked left all
+  pub on : (e : Edge) → IsIn e left → leads_on e ≡ true
+  pub covered : (e : Edge) → IsIn e all → leads_on e ≡ true → IsCovered left e
 
--- edges without those that repeat one of the last 64 that are left; those left before them are given, the last one first
-abbrev pub unrepeated_behind : List Edge → List Edge → List Edge
-unrepeated_behind left [] = []
-unrepeated_behind left (e ∷ es) = cond (any_pass (λ d. repeats d e) (take near left)) (unrepeated_behind left es) (e ∷ unrepeated_behind (e ∷ left) es)
+-- the same statement with such edges
+pub record IsOnwardPoint (p q : Point) : Type 0 where
+  pub number : q.number ≡ p.number
+  pub needs : q.needs ≡ p.needs
+  pub edges : AreOnwardEdges q.edges p.edges
 
-abbrev pub unrepeated : List Edge → List Edge
-unrepeated es = unrepeated_behind [] es
+-- so it is of each
+pub data AreOnward : List Point → List Point → Type 0 where
+  none : AreOnward [] []
+  more : (p q : Point) (ps qs : List Point) → IsOnwardPoint p q → AreOnward ps qs → AreOnward (p ∷ ps) (q ∷ qs)
 
-abbrev pub onward : Point → Point
-onward p = record { number = p.number; needs = p.needs; edges = unrepeated (filter leads_on p.edges) }
-
-abbrev pub onward_flow : Flow → Flow
-onward_flow f = record { entry = f.entry; points = map onward f.points }
+pub record IsOnwardFlow (f g : Flow) : Type 0 where
+  pub entry : g.entry ≡ f.entry
+  pub points : AreOnward f.points g.points

@@ -1,33 +1,29 @@
-//! The outcomes of a call that lead on, without those that repeat one before them. A callmessage may declare many exceptions,
-//! and many handlers may be within reach: tables by exception number tell where exceptions lead and where they are declared.
-ghost use Rattle.std.specs.Prelude.{ℕ, ◌≡◌, ◌+◌, ◌∷◌, [], ◌++◌, ◌≤◌, List, length, map, reverse, cond, nat_eq, is_some, Some, None, IfOk, OnOk};
-ghost use Rattle.herm_model.specs.Lists.{list_of, range, same_numbers};
-ghost use Rattle.herm_model.specs.Types.{Raised};
-ghost use Rattle.herm_model.specs.Calls.{call_raises as raises_in};
-ghost use Rattle.herm_judge.specs.View.{table_of, variables_of};
-ghost use Rattle.herm_model.specs.Outcomes.{ok, raised, disconnected};
+//! The outcomes of a call that lead on, without those that others cover. A callmessage may declare many exceptions, and many
+//! handlers may be within reach: tables by exception number tell where exceptions lead and where they are declared.
+ghost use Rattle.std.specs.Prelude.{ℕ, ◌≡◌, ◌+◌, ◌∷◌, [], ◌≤◌, ◌⊎◌, List, length, map, drop, cond, option_map, nat_eq, is_some, true, false, Option, Some, None, IfOk, OnOk, IfSome, IsTrue};
+ghost use Rattle.herm_model.specs.Lists.{IsIn, any_pass, list_of};
+ghost use Rattle.herm_model.specs.laws.FlowLaws.{Rise};
+ghost use Rattle.herm_model.specs.Outcomes.{ok, raised};
 ghost use Rattle.herm_model.specs.Handlers.{caught};
 ghost use Rattle.herm_types.specs.View.{raise_decl_view};
-ghost use Rattle.herm_typed.specs.View.{outcome_view, typed_path_view};
+ghost use Rattle.herm_typed.specs.View.{outcome_view, typed_path_view, typed_atom_view};
+ghost use Rattle.herm_judge.specs.View.{table_of, variables_of};
 ghost use Rattle.herm_flow.specs.View.{target_view, catch_view};
-ghost use Rattle.herm_flow.specs.Apart.{apart, compared, is_like_one, added, added_all};
-ghost use Rattle.herm_flow.specs.NumberTables.{at_number, point_of, kept_if_raised, kept_at, same_point, has_entry, alike_by};
-ghost use Rattle.herm_flow.specs.Kept.{goes_on, goes_alike, rising_of};
+ghost use Rattle.herm_flow.specs.declared.calls.Head.{Head as HeadOf};
+ghost use Rattle.herm_flow.specs.NumberTables.{at_number, point_of, kept_if_raised, kept_at, has_entry};
+ghost use Rattle.herm_flow.specs.CoveredExceptions.{AreCovering, AreHeads, kept_by, AreFor, IsNoted, IsAdded, AreOnwardNumbers, root_of as root_in, has_root, HaveOwnRoots, AreCallNumbers, IsOnwardCall};
 
 use crate::counts::sum;
 use crate::flow::Target;
 use crate::starts::Catch;
-use herm_base::ExcNo;
+use herm_base::{ExcNo, VarNo};
 use herm_judge::{Frame, call_raises};
-use herm_typed::{Outcome, TypedPath};
+use herm_typed::{Outcome, TypedAtom, TypedPath};
 use herm_types::RaiseDecl;
 use std::alloc::{AllocError, Global};
 
 /// The number of Disconnected, which each call can raise.
 const DISCONNECTED: ExcNo = ExcNo(6);
-
-/// How many exceptions, with the normal outcome, have no more edges than an edge is compared with.
-const FEW: usize = 63;
 
 /// A table of more numbers than this one, with the same entries.
 #[tactic(auto, using(crate::proofs::NumberTables::entry_pushed))]
@@ -43,19 +39,19 @@ fn widen(table: &mut Vec<Option<usize>>, place: usize) -> Result<(), AllocError>
 
 /// Puts an entry at a number.
 #[tactic(auto, using(crate::proofs::NumberTables::entry_set))]
-fn put(table: &mut Vec<Option<usize>>, e: ExcNo, entry: Option<usize>) -> Result<(), AllocError>
-    ensures entries { OnOk result ((n : ℕ) → at_number table.new.items n ≡ cond (nat_eq e.0 n) entry (at_number table.old.items n)) }
+fn put(table: &mut Vec<Option<usize>>, n: u32, entry: Option<usize>) -> Result<(), AllocError>
+    ensures entries { OnOk result ((m : ℕ) → at_number table.new.items m ≡ cond (nat_eq n m) entry (at_number table.old.items m)) }
 {
-    widen(table, e.0 as usize)?;
-    table[e.0 as usize] = entry;
+    widen(table, n as usize)?;
+    table[n as usize] = entry;
     Ok(())
 }
 
 /// The entry of a number.
-fn number_at(table: &[Option<usize>], e: ExcNo) -> Option<usize>
-    ensures entry { result ≡ at_number table.now e.0 }
+fn number_at(table: &[Option<usize>], n: u32) -> Option<usize>
+    ensures entry { result ≡ at_number table.now n }
 {
-    match table.get(e.0 as usize) {
+    match table.get(n as usize) {
         Some(entry) => *entry,
         None => None,
     }
@@ -82,7 +78,7 @@ fn points_of(alloc: Global, catches: &[Catch]) -> Result<Vec<Option<usize>>, All
     'catches: while left > 0 {
         left -= 1;
         let c = catches[left];
-        put(&mut points, c.exception, point_in(c.target))?;
+        put(&mut points, c.exception.0, point_in(c.target))?;
     }
     Ok(points)
 }
@@ -96,10 +92,10 @@ fn put_declared(
 ) -> Result<(), AllocError>
     ensures entries { OnOk result ((n : ℕ) → at_number declared.new.items n ≡ cond (is_some (at_number points.now e.0)) (cond (nat_eq e.0 n) (Some place) (at_number declared.old.items n)) (at_number declared.old.items n)) }
 {
-    let point = number_at(points, e);
+    let point = number_at(points, e.0);
     match point {
         Some(_) => {
-            put(declared, e, Some(place))?;
+            put(declared, e.0, Some(place))?;
             Ok(())
         }
         None => Ok(()),
@@ -138,128 +134,319 @@ fn keeps_at(raises: &[RaiseDecl], place: Option<usize>) -> &[u32]
     }
 }
 
-/// Whether two entries are the same point.
-fn is_one_point(a: Option<usize>, b: Option<usize>) -> bool
-    ensures point { result ≡ same_point a b }
-{
-    match (a, b) {
-        (Some(a), Some(b)) => a == b,
-        _ => false,
-    }
+/// A point to which exceptions lead that were found, and parameters that they keep: the common ones, or those of the last.
+#[derive(Drop)]
+pub struct Head {
+    pub point: usize,
+    pub keeps: Vec<u32>,
 }
 
-/// Whether two lists of parameters are the same.
-fn keep_alike(a: &[u32], b: &[u32]) -> bool
-    ensures same { result ≡ same_numbers a.now b.now }
-{
-    a == b
+/// The exceptions of a call that were found, by rising number, and the points to which they lead.
+#[derive(Drop)]
+struct Found {
+    numbers: Vec<ExcNo>,
+    heads: Vec<Head>,
 }
 
-/// Whether two exceptions lead to one point and keep the same parameters.
-fn go_alike(
-    points: &[Option<usize>],
-    declared: &[Option<usize>],
-    raises: &[RaiseDecl],
-    a: ExcNo,
-    b: ExcNo,
-) -> bool
-    ensures alike { result ≡ alike_by points.now declared.now (map raise_decl_view raises.now) a.0 b.0 }
-{
-    let is_one = is_one_point(number_at(points, a), number_at(points, b));
-    if !is_one {
-        return false;
-    }
-    let keeps = keeps_at(raises, number_at(declared, a));
-    let other = keeps_at(raises, number_at(declared, b));
-    keep_alike(keeps, other)
+/// What is left from one call to the next, so that it is made once: the places of points among those that were found, where these
+/// are not of another call, and marks of parameters or of variables, which are taken back where they were put.
+#[derive(Drop)]
+pub struct Notes {
+    places: Vec<usize>,
+    marks: Vec<Option<usize>>,
 }
 
-/// With how many of so many exceptions the next one is compared: with all while they are few, so that none of their edges is out
-/// of sight, else with the last.
-fn compared_of(count: usize) -> usize
-    ensures count { result ≡ compared count }
-{
-    if count < FEW {
-        return FEW;
-    }
-    1
-}
-
-/// Whether an exception goes where one of these goes and keeps the same.
-fn goes_like_one(
-    numbers: &[ExcNo],
-    points: &[Option<usize>],
-    declared: &[Option<usize>],
-    raises: &[RaiseDecl],
-    e: ExcNo,
-) -> bool
-    ensures like { result ≡ is_like_one (alike_by points.now declared.now (map raise_decl_view raises.now)) (reverse (map (λ n. n.0) numbers.now)) e.0 }
-{
-    let first = numbers.len().saturating_sub(compared_of(numbers.len()));
-    'each: for i in first..numbers.len() {
-        if go_alike(points, declared, raises, numbers[i], e) {
-            return true;
+impl Notes {
+    /// No places and no marks.
+    pub fn none(alloc: Global) -> Notes {
+        Notes {
+            places: Vec::new(alloc),
+            marks: Vec::new(alloc),
         }
     }
-    false
 }
 
-/// An exception behind these, where a call can raise it and it leads to a point, unless it goes where one of them goes and keeps
-/// the same.
-fn add_number(
-    numbers: &mut Vec<ExcNo>,
-    points: &[Option<usize>],
-    declared: &[Option<usize>],
-    raises: &[RaiseDecl],
-    e: ExcNo,
-) -> Result<(), AllocError>
-    ensures numbers { IfOk result (λ u. map (λ n. n.0) numbers.new.items ≡ added (has_entry declared.now) (alike_by points.now declared.now (map raise_decl_view raises.now)) (map (λ n. n.0) numbers.old.items) e.0) }
+/// The place of the first of these parameters, from a place on, that is no less than this one.
+fn place_from(keeps: &[u32], from: usize, k: u32) -> usize {
+    'less: for i in from..keeps.len() {
+        if keeps[i] >= k {
+            return i;
+        }
+    }
+    keeps.len()
+}
+
+/// Whether the parameter stands at a place.
+fn stands_at(keeps: &[u32], place: usize, k: u32) -> bool
+    ensures member { IsTrue result → IsIn k keeps.now }
 {
-    let is_there = number_at(declared, e).is_some();
-    if !is_there {
-        return Ok(());
+    match keeps.get(place) {
+        Some(there) => *there == k,
+        None => false,
     }
-    let is_like = goes_like_one(numbers.as_slice(), points, declared, raises, e);
-    if is_like {
-        return Ok(());
+}
+
+/// Whether all of these parameters are found among the others. Where both rise, they are found where they are there.
+fn are_kept(ks: &[u32], keeps: &[u32]) -> bool
+    ensures within { IsTrue result → (k : ℕ) → IsIn k ks.now → IsIn k keeps.now }
+{
+    let mut at = 0;
+    'each: for k in ks {
+        at = place_from(keeps, at, *k);
+        let is_there = stands_at(keeps, at, *k);
+        if !is_there {
+            return false;
+        }
     }
-    numbers.push(e)?;
+    true
+}
+
+/// Marks these parameters.
+fn mark(marks: &mut Vec<Option<usize>>, keeps: &[u32]) -> Result<(), AllocError>
+    ensures marked { OnOk result ((k : ℕ) → IsIn k keeps.now → is_some (at_number marks.new.items k) ≡ true) }
+{
+    'each: for k in keeps {
+        put(marks, *k, Some(0))?;
+    }
     Ok(())
 }
 
-/// The exceptions of a call that lead to points, by rising number, without those that go where one before them goes and keep the
-/// same.
-fn numbers_of(
-    alloc: Global,
-    points: &[Option<usize>],
-    declared: &[Option<usize>],
-    raises: &[RaiseDecl],
-) -> Result<Vec<ExcNo>, AllocError>
-    ensures numbers { IfOk result (λ v. map (λ n. n.0) v.items ≡ added_all (has_entry declared.now) (alike_by points.now declared.now (map raise_decl_view raises.now)) [] (range 0 (length declared.now))) }
+/// Takes their marks back.
+fn unmark(marks: &mut Vec<Option<usize>>, keeps: &[u32]) -> Result<(), AllocError> {
+    'each: for k in keeps {
+        put(marks, *k, None)?;
+    }
+    Ok(())
+}
+
+/// The parameter behind others, where it is marked.
+fn add_marked(found: &mut Vec<u32>, k: u32, marks: &[Option<usize>]) -> Result<(), AllocError>
+    ensures added { OnOk result ((n : ℕ) → IsIn n found.old.items ⊎ ((n ≡ k) × (is_some (at_number marks.now k) ≡ true)) → IsIn n found.new.items) }
+{
+    let is_marked = number_at(marks, k).is_some();
+    if !is_marked {
+        return Ok(());
+    }
+    found.push(k)?;
+    Ok(())
+}
+
+/// Those of the parameters that are marked.
+fn marked_among(alloc: Global, ks: &[u32], marks: &[Option<usize>]) -> Result<Vec<u32>, AllocError>
+    ensures marked { IfOk result (λ v. (k : ℕ) → IsIn k ks.now → is_some (at_number marks.now k) ≡ true → IsIn k v.items) }
 {
     let mut found = Vec::new(alloc);
-    let mut e = 0;
-    'numbers: while (e as usize) < declared.len() {
-        add_number(&mut found, points, declared, raises, ExcNo(e))?;
-        e = sum(e, 1)?;
+    'each: for k in ks {
+        add_marked(&mut found, *k, marks)?;
     }
     Ok(found)
 }
 
-/// The same by the handlers within reach. Without one none leads on.
+/// The parameters that stand in both lists.
+fn common(
+    alloc: Global,
+    ks: &[u32],
+    keeps: &[u32],
+    marks: &mut Vec<Option<usize>>,
+) -> Result<Vec<u32>, AllocError>
+    ensures common { IfOk result (λ v. (k : ℕ) → IsIn k ks.now → IsIn k keeps.now → IsIn k v.items) }
+{
+    mark(marks, keeps)?;
+    let found = marked_among(alloc, ks, marks.as_slice())?;
+    unmark(marks, keeps)?;
+    Ok(found)
+}
+
+/// The same parameters.
+fn copied(alloc: Global, keeps: &[u32]) -> Result<Vec<u32>, AllocError>
+    ensures same { IfOk result (λ v. v.items ≡ keeps.now) }
+{
+    let mut found = Vec::with_capacity(alloc, keeps.len())?;
+    'each: for k in keeps {
+        found.push(*k)?;
+    }
+    Ok(found)
+}
+
+/// What was noted last of a point.
+fn head_of<'a>(heads: &'a [Head], places: &[usize], point: usize) -> Option<&'a Head>
+    ensures member { IfSome result (λ h. IsIn h.now heads.now) }
+    ensures point { IfSome result (λ h. h.now.point ≡ point) }
+{
+    let place = match places.get(point) {
+        Some(place) => *place,
+        None => return None,
+    };
+    if place >= heads.len() {
+        return None;
+    }
+    let head = &heads[place];
+    if head.point != point {
+        return None;
+    }
+    Some(head)
+}
+
+/// The parameters to note of a point, to which an exception leads that keeps these, where one was noted there that keeps those.
+fn narrowed(
+    alloc: Global,
+    single: bool,
+    head: &Head,
+    keeps: &[u32],
+    marks: &mut Vec<Option<usize>>,
+) -> Result<Vec<u32>, AllocError>
+    ensures narrowed { IfOk result (λ v. AreFor single (head.now ∷ []) head.now.point keeps.now v.items) }
+{
+    if single {
+        let found = common(alloc, head.keeps.as_slice(), keeps, marks)?;
+        return Ok(found);
+    }
+    let found = copied(alloc, keeps)?;
+    Ok(found)
+}
+
+/// The parameters to note of a point, to which an exception leads that keeps these; none where it is covered.
+fn kept_at_point(
+    alloc: Global,
+    single: bool,
+    heads: &[Head],
+    notes: &mut Notes,
+    point: usize,
+    keeps: &[u32],
+) -> Result<Option<Vec<u32>>, AllocError>
+    ensures kept { IfOk result (λ o. IsNoted single heads.now point keeps.now o) }
+{
+    let Some(head) = head_of(heads, notes.places.as_slice(), point) else {
+        let found = copied(alloc, keeps)?;
+        return Ok(Some(found));
+    };
+    let is_covered = are_kept(head.keeps.as_slice(), keeps);
+    if is_covered {
+        return Ok(None);
+    }
+    let found = narrowed(alloc, single, head, keeps, &mut notes.marks)?;
+    Ok(Some(found))
+}
+
+/// Notes parameters of a point.
+fn note(
+    heads: &mut Vec<Head>,
+    places: &mut Vec<usize>,
+    point: usize,
+    keeps: Vec<u32>,
+) -> Result<(), AllocError>
+    ensures heads { OnOk result ((h : HeadOf) → IsIn h heads.new.items → IsIn h heads.old.items ⊎ ((h.point ≡ point) × (h.keeps.items ≡ keeps.items))) }
+{
+    'more: while places.len() <= point {
+        places.push(0)?;
+    }
+    places[point] = heads.len();
+    heads.push(Head { point, keeps })?;
+    Ok(())
+}
+
+/// An exception that leads to a point and keeps these, behind those that were found, unless they cover it.
+fn add_at_point(
+    alloc: Global,
+    found: &mut Found,
+    notes: &mut Notes,
+    single: bool,
+    e: ExcNo,
+    point: usize,
+    keeps: &[u32],
+) -> Result<(), AllocError>
+    ensures added { OnOk result ((lead : ℕ → Option ℕ) (kept : ℕ → List ℕ) → lead e.0 ≡ Some point → keeps.now ≡ kept e.0 → IsAdded lead kept single true e.0 (map (λ n. n.0) found.old.numbers.items) (map (λ n. n.0) found.new.numbers.items) found.old.heads.items found.new.heads.items) }
+{
+    let kept = kept_at_point(alloc, single, found.heads.as_slice(), notes, point, keeps)?;
+    let Some(kept) = kept else {
+        return Ok(());
+    };
+    note(&mut found.heads, &mut notes.places, point, kept)?;
+    found.numbers.push(e)?;
+    Ok(())
+}
+
+/// An exception behind those that were found, where a call can raise it and it leads to a point, unless they cover it.
+fn add_number(
+    alloc: Global,
+    found: &mut Found,
+    notes: &mut Notes,
+    points: &[Option<usize>],
+    declared: &[Option<usize>],
+    raises: &[RaiseDecl],
+    single: bool,
+    e: ExcNo,
+) -> Result<(), AllocError>
+    ensures added { OnOk result (IsAdded (at_number points.now) (kept_by declared.now (map raise_decl_view raises.now)) single (has_entry declared.now e.0) e.0 (map (λ n. n.0) found.old.numbers.items) (map (λ n. n.0) found.new.numbers.items) found.old.heads.items found.new.heads.items) }
+{
+    let place = number_at(declared, e.0);
+    let is_raised = place.is_some();
+    if !is_raised {
+        return Ok(());
+    }
+    let Some(point) = number_at(points, e.0) else {
+        found.numbers.push(e)?;
+        return Ok(());
+    };
+    let keeps = keeps_at(raises, place);
+    add_at_point(alloc, found, notes, single, e, point, keeps)?;
+    Ok(())
+}
+
+/// The exceptions of a call that lead to points, by rising number, without those that others cover.
+fn numbers_of(
+    alloc: Global,
+    notes: &mut Notes,
+    points: &[Option<usize>],
+    declared: &[Option<usize>],
+    raises: &[RaiseDecl],
+    single: bool,
+) -> Result<Vec<ExcNo>, AllocError>
+    ensures rise { IfOk result (λ v. Rise (map (λ n. n.0) v.items)) }
+    ensures there { IfOk result (λ v. (m : ℕ) → IsIn m (map (λ n. n.0) v.items) → has_entry declared.now m ≡ true) }
+    ensures covered { IfOk result (λ v. (m : ℕ) → has_entry declared.now m ≡ true → AreCovering (at_number points.now) (kept_by declared.now (map raise_decl_view raises.now)) single (map (λ n. n.0) v.items) (at_number points.now m) (kept_by declared.now (map raise_decl_view raises.now) m)) }
+{
+    let mut found = Found {
+        numbers: Vec::new(alloc),
+        heads: Vec::new(alloc),
+    };
+    let mut e = 0;
+    'numbers: while (e as usize) < declared.len() {
+        add_number(
+            alloc,
+            &mut found,
+            notes,
+            points,
+            declared,
+            raises,
+            single,
+            ExcNo(e),
+        )?;
+        e = sum(e, 1)?;
+    }
+    Ok(found.numbers)
+}
+
+/// The same by the handlers within reach.
 fn onward_numbers(
     alloc: Global,
+    notes: &mut Notes,
     raises: &[RaiseDecl],
     catches: &[Catch],
+    single: bool,
 ) -> Result<Vec<ExcNo>, AllocError>
-    ensures numbers { IfOk result (λ v. map (λ n. n.0) v.items ≡ apart (goes_alike (map catch_view catches.now) (map raise_decl_view raises.now)) (rising_of (goes_on (map catch_view catches.now)) (disconnected ∷ map (λ r. r.exception) (map raise_decl_view raises.now)))) }
+    ensures numbers { IfOk result (λ v. AreOnwardNumbers (map catch_view catches.now) (map raise_decl_view raises.now) single (map (λ n. n.0) v.items)) }
 {
-    if catches.is_empty() {
-        return Ok(Vec::new(alloc));
-    }
     let points = points_of(alloc, catches)?;
     let declared = declared_of(alloc, raises, points.as_slice())?;
-    let found = numbers_of(alloc, points.as_slice(), declared.as_slice(), raises)?;
+    let found = numbers_of(
+        alloc,
+        notes,
+        points.as_slice(),
+        declared.as_slice(),
+        raises,
+        single,
+    )?;
     Ok(found)
 }
 
@@ -275,18 +462,112 @@ fn as_outcomes(alloc: Global, numbers: &[ExcNo]) -> Result<Vec<Outcome>, AllocEr
     Ok(found)
 }
 
-/// The outcomes of a call, without its exceptions that do not lead on, and without those that go where one before them goes and
-/// keep the same parameters: they make and take away the same.
+/// The variable of an argument that is a path.
+fn root_of(a: &TypedAtom) -> Option<VarNo>
+    ensures root { option_map (λ v. v.0) result ≡ root_in (typed_atom_view a.now) }
+{
+    match a {
+        TypedAtom::Literal(_) => None,
+        TypedAtom::Path(p) => Some(p.path.var),
+    }
+}
+
+/// Marks the variable of an argument. Whether it was not marked.
+fn mark_root(marks: &mut Vec<Option<usize>>, a: &TypedAtom) -> Result<bool, AllocError>
+    ensures own { IfOk result (λ b. IsTrue b → (v : ℕ) → root_in (typed_atom_view a.now) ≡ Some v → is_some (at_number marks.old.items v) ≡ false) }
+    ensures marked { IfOk result (λ b. (v : ℕ) → (has_root v (typed_atom_view a.now) ≡ true) ⊎ (is_some (at_number marks.old.items v) ≡ true) → is_some (at_number marks.new.items v) ≡ true) }
+{
+    let root = root_of(a);
+    let Some(v) = root else {
+        return Ok(true);
+    };
+    let is_marked = number_at(marks.as_slice(), v.0).is_some();
+    if is_marked {
+        return Ok(false);
+    }
+    put(marks, v.0, Some(0))?;
+    Ok(true)
+}
+
+/// Marks the variables of the arguments, the last first, until one is met that is marked. Whether there is none.
+fn mark_roots(marks: &mut Vec<Option<usize>>, arguments: &[TypedAtom]) -> Result<bool, AllocError>
+    ensures own { IfOk result (λ b. IsTrue b → HaveOwnRoots (map typed_atom_view arguments.now)) }
+{
+    let mut left = arguments.len();
+    'each: while left > 0 {
+        left -= 1;
+        let is_own = mark_root(marks, &arguments[left])?;
+        if !is_own {
+            return Ok(false);
+        }
+    }
+    Ok(true)
+}
+
+/// Takes the mark of the variable of an argument back.
+fn unmark_root(marks: &mut Vec<Option<usize>>, a: &TypedAtom) -> Result<(), AllocError> {
+    let root = root_of(a);
+    match root {
+        Some(v) => {
+            put(marks, v.0, None)?;
+            Ok(())
+        }
+        None => Ok(()),
+    }
+}
+
+/// Takes the marks of the variables of the arguments back.
+fn unmark_roots(marks: &mut Vec<Option<usize>>, arguments: &[TypedAtom]) -> Result<(), AllocError> {
+    'each: for a in arguments {
+        unmark_root(marks, a)?;
+    }
+    Ok(())
+}
+
+/// Whether the variable of each argument is that of no other one.
+fn have_own_roots(
+    marks: &mut Vec<Option<usize>>,
+    arguments: &[TypedAtom],
+) -> Result<bool, AllocError>
+    ensures own { IfOk result (λ b. IsTrue b → HaveOwnRoots (map typed_atom_view arguments.now)) }
+{
+    let are_own = mark_roots(marks, arguments)?;
+    unmark_roots(marks, arguments)?;
+    Ok(are_own)
+}
+
+/// The exceptions of a call with these arguments that lead on, without those that others cover. Without a handler none leads on.
+fn call_numbers(
+    alloc: Global,
+    notes: &mut Notes,
+    raises: &[RaiseDecl],
+    arguments: &[TypedAtom],
+    catches: &[Catch],
+) -> Result<Vec<ExcNo>, AllocError>
+    ensures numbers { IfOk result (λ v. AreCallNumbers (map typed_atom_view arguments.now) (map catch_view catches.now) (map raise_decl_view raises.now) (map (λ n. n.0) v.items)) }
+{
+    if catches.is_empty() {
+        return Ok(Vec::new(alloc));
+    }
+    let single = have_own_roots(&mut notes.marks, arguments)?;
+    let found = onward_numbers(alloc, notes, raises, catches, single)?;
+    Ok(found)
+}
+
+/// The outcomes of a call, without its exceptions that do not lead on, and without those that others cover: where each fact is
+/// made by one argument at most, at most one more than there are parameters is left for each point.
 pub fn call_outcomes(
     alloc: Global,
+    notes: &mut Notes,
     frame: &Frame,
     o: &TypedPath,
+    arguments: &[TypedAtom],
     catches: &[Catch],
 ) -> Result<Vec<Outcome>, AllocError>
-    ensures outcomes { IfOk result (λ v. map outcome_view v.items ≡ ok ∷ map raised (apart (goes_alike (map catch_view catches.now) (raises_in (table_of frame.now) (variables_of frame.now) (typed_path_view o.now))) (rising_of (goes_on (map catch_view catches.now)) (disconnected ∷ map (λ r. r.exception) (raises_in (table_of frame.now) (variables_of frame.now) (typed_path_view o.now)))))) }
+    ensures outcomes { IfOk result (λ v. IsOnwardCall (table_of frame.now) (variables_of frame.now) (typed_path_view o.now) (map typed_atom_view arguments.now) (map catch_view catches.now) (map outcome_view v.items)) }
 {
     let raises = call_raises(frame, o);
-    let numbers = onward_numbers(alloc, raises, catches)?;
+    let numbers = call_numbers(alloc, notes, raises, arguments, catches)?;
     let found = as_outcomes(alloc, numbers.as_slice())?;
     Ok(found)
 }

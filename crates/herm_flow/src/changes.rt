@@ -62,7 +62,7 @@ fn are_arms_alike(
 }
 
 /// Whether two outcomes of a form are found to make and take away the same. Where false, they may too.
-fn are_alike(frame: &Frame, form: &TypedForm, a: Outcome, b: Outcome) -> bool
+pub fn are_alike(frame: &Frame, form: &TypedForm, a: Outcome, b: Outcome) -> bool
     ensures makes { IsTrue result → makes_at frame.now form.now a ≡ makes_at frame.now form.now b }
     ensures kills { IsTrue result → kills_at frame.now form.now a ≡ kills_at frame.now form.now b }
 {

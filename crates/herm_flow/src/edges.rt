@@ -1,5 +1,5 @@
 //! A statement as a point, and where its outcomes lead.
-ghost use Rattle.std.specs.Prelude.{◌≡◌, ℕ, List, ◌∷◌, [], ◌++◌, IfOk, map, drop, option_map};
+ghost use Rattle.std.specs.Prelude.{◌≡◌, ℕ, List, ◌∷◌, [], ◌++◌, IfOk, OnOk, map, drop, option_map};
 ghost use Rattle.herm_model.specs.Handlers.{caught};
 ghost use Rattle.herm_typed.specs.declared.statements.TypedStmt.{out-TypedStmt};
 ghost use Rattle.herm_typed.specs.View.{outcome_view};
@@ -7,14 +7,9 @@ ghost use Rattle.herm_typed.specs.Outcomes.{KnowsOutcomes, outcomes_of};
 ghost use Rattle.herm_judge.specs.View.{table_of, variables_of};
 ghost use Rattle.herm_flow.specs.View.{target_view, catch_view, edge_view, point_view};
 ghost use Rattle.herm_flow.specs.Edges.{raised_in, exit_of, left_of, exits_from, an_exit, edge_at, point_at, AreEdgesOf};
-ghost use Rattle.herm_flow.specs.Kept.{pushed, pushed_all, kept_among, kept as kept_of};
-ghost use Rattle.herm_model.specs.Targets.{Target as TargetOf};
 
-use crate::calls::call_outcomes;
 use crate::changes::change_of;
 use crate::flow::{Edge, Point, Target};
-use crate::kept::{Kept, is_kept};
-use crate::repeats::is_left_out;
 use crate::starts::Catch;
 use herm_base::{ExcNo, StmtNo};
 use herm_effects::needs_of;
@@ -23,7 +18,7 @@ use herm_typed::{Outcome, TypedForm, TypedStmt, outcomes};
 use std::alloc::{AllocError, Global};
 
 /// Where an exception leads: to the nearest handler for it, or to the end by it.
-fn caught_at(catches: &[Catch], e: ExcNo) -> Target
+pub fn caught_at(catches: &[Catch], e: ExcNo) -> Target
     ensures target { target_view result ≡ caught (map catch_view catches.now) e.0 }
 {
     'each: for c in catches {
@@ -35,7 +30,7 @@ fn caught_at(catches: &[Catch], e: ExcNo) -> Target
 }
 
 /// The exception of an outcome, where it is one.
-fn exception_of(outcome: Outcome) -> Option<ExcNo>
+pub fn exception_of(outcome: Outcome) -> Option<ExcNo>
     ensures exception { option_map (λ e. e.0) result ≡ raised_in (outcome_view outcome) }
 {
     match outcome {
@@ -70,28 +65,19 @@ fn edge_of(
     })
 }
 
-/// One edge more, where it is kept.
+/// One edge more.
 fn push_edge(
     alloc: Global,
     frame: &Frame,
     form: &TypedForm,
     outcome: Outcome,
     to: Target,
-    kept: Kept,
     edges: &mut Vec<Edge>,
 ) -> Result<(), AllocError>
     requires edges { AreEdgesOf (table_of frame.now) (variables_of frame.now) form.now (map edge_view edges.old.items) }
-    ensures edges { IfOk result (λ u. map edge_view edges.new.items ≡ pushed kept (map edge_view edges.old.items) (edge_at (table_of frame.now) (variables_of frame.now) form.now (an_exit (outcome_view outcome) (target_view to)))) }
+    ensures edges { OnOk result (map edge_view edges.new.items ≡ map edge_view edges.old.items ++ (edge_at (table_of frame.now) (variables_of frame.now) form.now (an_exit (outcome_view outcome) (target_view to)) ∷ [])) }
 {
-    let is_wanted = is_kept(kept, to);
-    if !is_wanted {
-        return Ok(());
-    }
     let edge = edge_of(alloc, frame, form, outcome, to, edges.as_slice())?;
-    let is_repeated = is_left_out(kept, edges.as_slice(), &edge);
-    if is_repeated {
-        return Ok(());
-    }
     edges.push(edge)?;
     Ok(())
 }
@@ -106,31 +92,30 @@ fn follow(
     leads: &[Target],
     taken: usize,
     catches: &[Catch],
-    kept: Kept,
     edges: &mut Vec<Edge>,
 ) -> Result<usize, AllocError>
     requires edges { AreEdgesOf (table_of frame.now) (variables_of frame.now) form.now (map edge_view edges.old.items) }
-    ensures edges { IfOk result (λ n. map edge_view edges.new.items ≡ pushed_all kept (map edge_view edges.old.items) (map (edge_at (table_of frame.now) (variables_of frame.now) form.now) (exit_of (outcome_view outcome) (raised_in (outcome_view outcome)) (map target_view (drop taken leads.now)) (map catch_view catches.now)))) }
+    ensures edges { IfOk result (λ n. map edge_view edges.new.items ≡ map edge_view edges.old.items ++ map (edge_at (table_of frame.now) (variables_of frame.now) form.now) (exit_of (outcome_view outcome) (raised_in (outcome_view outcome)) (map target_view (drop taken leads.now)) (map catch_view catches.now))) }
     ensures left { IfOk result (λ n. map target_view (drop n leads.now) ≡ left_of (raised_in (outcome_view outcome)) (map target_view (drop taken leads.now))) }
 {
     let exception = exception_of(outcome);
     match exception {
         Some(e) => {
             let to = caught_at(catches, e);
-            push_edge(alloc, frame, form, outcome, to, kept, edges)?;
+            push_edge(alloc, frame, form, outcome, to, edges)?;
             Ok(taken)
         }
         None => {
             if taken >= leads.len() {
                 return Ok(taken);
             }
-            push_edge(alloc, frame, form, outcome, leads[taken], kept, edges)?;
+            push_edge(alloc, frame, form, outcome, leads[taken], edges)?;
             Ok(taken + 1)
         }
     }
 }
 
-/// The edges that are kept of a statement with these outcomes, of which the normal ones lead to these targets in their order.
+/// The edges of a statement with these outcomes, of which the normal ones lead to these targets in their order.
 fn edges_of(
     alloc: Global,
     frame: &Frame,
@@ -138,15 +123,14 @@ fn edges_of(
     outcomes: &[Outcome],
     leads: &[Target],
     catches: &[Catch],
-    kept: Kept,
 ) -> Result<Vec<Edge>, AllocError>
-    ensures edges { IfOk result (λ v. map edge_view v.items ≡ kept_among kept (map (edge_at (table_of frame.now) (variables_of frame.now) form.now) (exits_from (map outcome_view outcomes.now) (map target_view leads.now) (map catch_view catches.now)))) }
+    ensures edges { IfOk result (λ v. map edge_view v.items ≡ map (edge_at (table_of frame.now) (variables_of frame.now) form.now) (exits_from (map outcome_view outcomes.now) (map target_view leads.now) (map catch_view catches.now))) }
 {
     let mut edges = Vec::with_capacity(alloc, outcomes.len())?;
     let mut taken = 0;
     'each: for outcome in outcomes {
         let n = follow(
-            alloc, frame, form, *outcome, leads, taken, catches, kept, &mut edges,
+            alloc, frame, form, *outcome, leads, taken, catches, &mut edges,
         )?;
         taken = n;
     }
@@ -154,7 +138,7 @@ fn edges_of(
 }
 
 /// The outcomes of a statement, in order.
-fn outcomes_at(alloc: Global, frame: &Frame, s: &TypedStmt) -> Result<Vec<Outcome>, AllocError>
+pub fn outcomes_at(alloc: Global, frame: &Frame, s: &TypedStmt) -> Result<Vec<Outcome>, AllocError>
     ghost variables: { List ℕ }
     requires known { KnowsOutcomes (table_of frame.now) variables (out-TypedStmt s.now).form }
     ensures outcomes { IfOk result (λ v. map outcome_view v.items ≡ outcomes_of (table_of frame.now) variables (out-TypedStmt s.now).form) }
@@ -163,73 +147,24 @@ fn outcomes_at(alloc: Global, frame: &Frame, s: &TypedStmt) -> Result<Vec<Outcom
     Ok(found)
 }
 
-/// Those of them from which the edges come that are kept, and what others come with them.
-#[tactic(auto, using(crate::proofs::KeptCalls::call_outcomes_kept))]
-fn kept_outcomes(
-    alloc: Global,
-    frame: &Frame,
-    s: &TypedStmt,
-    catches: &[Catch],
-    kept: Kept,
-) -> Result<Vec<Outcome>, AllocError>
-    requires known { KnowsOutcomes (table_of frame.now) (variables_of frame.now) (out-TypedStmt s.now).form }
-    ensures edges { IfOk result (λ v. (leads : List TargetOf) → kept_among kept (map (edge_at (table_of frame.now) (variables_of frame.now) (out-TypedStmt s.now).form) (exits_from (map outcome_view v.items) leads (map catch_view catches.now))) ≡ kept_among kept (map (edge_at (table_of frame.now) (variables_of frame.now) (out-TypedStmt s.now).form) (exits_from (outcomes_of (table_of frame.now) (variables_of frame.now) (out-TypedStmt s.now).form) leads (map catch_view catches.now)))) }
-{
-    if let Kept::Onward = kept {
-        if let TypedForm::Call(o, _) = &s.form {
-            let found = call_outcomes(alloc, frame, o, catches)?;
-            return Ok(found);
-        }
-    }
-    let found = outcomes_at(alloc, frame, s)?;
-    Ok(found)
-}
-
-/// The edges that are kept of a statement, whose normal outcomes lead to these targets.
-fn kept_edges(
-    alloc: Global,
-    frame: &Frame,
-    s: &TypedStmt,
-    leads: &[Target],
-    catches: &[Catch],
-    kept: Kept,
-) -> Result<Vec<Edge>, AllocError>
-    requires known { KnowsOutcomes (table_of frame.now) (variables_of frame.now) (out-TypedStmt s.now).form }
-    ensures edges { IfOk result (λ v. map edge_view v.items ≡ kept_among kept (map (edge_at (table_of frame.now) (variables_of frame.now) (out-TypedStmt s.now).form) (exits_from (outcomes_of (table_of frame.now) (variables_of frame.now) (out-TypedStmt s.now).form) (map target_view leads.now) (map catch_view catches.now)))) }
-{
-    let found = kept_outcomes(alloc, frame, s, catches, kept)?;
-    let edges = edges_of(
-        alloc,
-        frame,
-        &s.form,
-        found.as_slice(),
-        leads,
-        catches,
-        kept,
-    )?;
-    Ok(edges)
-}
-
-/// One point more: a statement by its number, whose normal outcomes lead to these targets, with the edges that are kept.
-pub fn push_point(
+/// The point of a statement by its number, with all its edges, of which the normal ones lead to these targets.
+pub fn whole_point(
     alloc: Global,
     frame: &Frame,
     s: &TypedStmt,
     number: u32,
     leads: &[Target],
     catches: &[Catch],
-    kept: Kept,
-    points: &mut Vec<Point>,
-) -> Result<(), AllocError>
+) -> Result<Point, AllocError>
     requires known { KnowsOutcomes (table_of frame.now) (variables_of frame.now) (out-TypedStmt s.now).form }
-    ensures points { IfOk result (λ u. map point_view points.new.items ≡ map point_view points.old.items ++ (kept_of kept (point_at (table_of frame.now) (variables_of frame.now) (out-TypedStmt s.now).form number (map target_view leads.now) (map catch_view catches.now)) ∷ [])) }
+    ensures point { IfOk result (λ p. point_view p ≡ point_at (table_of frame.now) (variables_of frame.now) (out-TypedStmt s.now).form number (map target_view leads.now) (map catch_view catches.now)) }
 {
     let needs = needs_of(alloc, frame, &s.form)?;
-    let edges = kept_edges(alloc, frame, s, leads, catches, kept)?;
-    points.push(Point {
+    let found = outcomes_at(alloc, frame, s)?;
+    let edges = edges_of(alloc, frame, &s.form, found.as_slice(), leads, catches)?;
+    Ok(Point {
         stmt: StmtNo(number),
         needs,
         edges,
-    })?;
-    Ok(())
+    })
 }

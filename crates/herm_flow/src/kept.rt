@@ -1,35 +1,33 @@
-//! Which edges a flow has.
-ghost use Rattle.std.specs.Prelude.{◌≡◌};
-ghost use Rattle.herm_flow.specs.View.{target_view};
-ghost use Rattle.herm_flow.specs.Onward.{is_node};
-ghost use Rattle.herm_flow.specs.Kept.{keeps};
+//! Which edges the points of a walk have.
+ghost use Rattle.std.specs.Prelude.{◌≡◌, []};
 
-use crate::flow::Target;
+use crate::flow::Point;
+use crate::onward::OnwardPoint;
+use std::alloc::Global;
 
-/// All edges, or those alone that lead on to points and do not repeat the one before them.
+/// All edges, or those alone that lead on to points and are not covered by others.
 #[derive(Clone, Copy)]
 pub enum Kept {
     All,
     Onward,
 }
 
-/// Whether a target is a point.
-pub fn is_point(to: Target) -> bool
-    ensures point { result ≡ is_node (target_view to) }
-{
-    match to {
-        Target::Point(_) => true,
-        Target::End => false,
-        Target::EndBy(_) => false,
-    }
+/// The points that a walk adds: with all edges, or as points of the flow that is checked. One of the two lists stays empty.
+#[derive(Drop)]
+pub struct Points {
+    pub whole: Vec<Point>,
+    pub onward: Vec<OnwardPoint>,
 }
 
-/// Whether an edge to a target is kept, where it repeats none.
-pub fn is_kept(kept: Kept, to: Target) -> bool
-    ensures kept { result ≡ keeps kept (target_view to) }
-{
-    match kept {
-        Kept::All => true,
-        Kept::Onward => is_point(to),
+impl Points {
+    /// No points.
+    pub fn none(alloc: Global) -> Points
+        ensures whole { result.whole.items ≡ [] }
+        ensures onward { result.onward.items ≡ [] }
+    {
+        Points {
+            whole: Vec::new(alloc),
+            onward: Vec::new(alloc),
+        }
     }
 }

@@ -1,17 +1,23 @@
 //! The flow of a process: its statements as points, and where each outcome leads.
 #![tactic(auto)]
 
+mod called;
 mod calls;
 mod changes;
 mod counts;
 mod edges;
 mod flow;
 mod kept;
+mod leads;
+mod lists;
+mod marks;
+mod onward;
 mod parts;
+mod points;
 mod process;
-mod repeats;
 mod starts;
 mod walk;
 
 pub use flow::{Change, Edge, Flow, Point, Target};
+pub use onward::{NO_LIST, OnwardEdge, OnwardFlow, OnwardPoint};
 pub use process::{flow_of, onward_flow_of};

@@ -6,11 +6,14 @@ ghost use Rattle.herm_typed.specs.View.{typed_process_view};
 ghost use Rattle.herm_typed.specs.Beside.{KnowsTypes};
 ghost use Rattle.herm_flow.specs.View.{point_view, flow_view};
 ghost use Rattle.herm_flow.specs.Ready.{IsAllReached, IsReady};
-ghost use Rattle.herm_flow.specs.Onward.{onward_flow};
-ghost use Rattle.herm_flow.specs.Kept.{kept as kept_of};
+ghost use Rattle.herm_flow.specs.Onward.{AreOnward, IsOnwardFlow};
+ghost use Rattle.herm_flow.specs.OnwardView.{onward_point_view, onward_flow_view};
+ghost use Rattle.herm_flow.specs.Kept.{AreKept, points_view};
 
-use crate::flow::{Flow, Point, Target};
-use crate::kept::Kept;
+use crate::calls::Notes;
+use crate::flow::{Flow, Target};
+use crate::kept::{Kept, Points};
+use crate::onward::OnwardFlow;
 use crate::walk::{Around, Place, walk_block};
 use herm_base::TypeNo;
 use herm_judge::Frame;
@@ -35,9 +38,9 @@ fn points_of(
     types: &TypeTable,
     p: &TypedProcess,
     kept: Kept,
-) -> Result<Vec<Point>, AllocError>
+) -> Result<Points, AllocError>
     requires known { KnowsTypes types.now.shapes p.now }
-    ensures points { IfOk result (λ v. map point_view v.items ≡ map (kept_of kept) (flow_of types.now.shapes (typed_process_view p.now)).points) }
+    ensures points { IfOk result (λ v. AreKept kept (flow_of types.now.shapes (typed_process_view p.now)).points (points_view kept v)) }
 {
     let of = types_of(alloc, p.vars.as_slice())?;
     let frame = Frame {
@@ -52,13 +55,15 @@ fn points_of(
         kept,
     };
     let first = Place { number: 1, from: 0 };
-    let mut points = Vec::new(alloc);
+    let mut notes = Notes::none(alloc);
+    let mut points = Points::none(alloc);
     walk_block(
         alloc,
         &frame,
         p.body.as_slice(),
         first,
         &around,
+        &mut notes,
         &mut points,
     )?;
     Ok(points)
@@ -81,14 +86,16 @@ pub fn flow_of(alloc: Global, types: &TypeTable, p: &TypedProcess) -> Result<Flo
     ensures ready { IfOk result (λ f. IsWellFormedBlock (typed_process_view p.now).body → IsAllReached (flow_of types.now.shapes (typed_process_view p.now)) → IsReady types.now.shapes (typed_process_view p.now) f) }
 {
     let points = points_of(alloc, types, p, Kept::All)?;
-    Ok(Flow { points })
+    Ok(Flow {
+        points: points.whole,
+    })
 }
 
-/// The flow of a process without its edges to ends, which no control path to a statement takes, and without repeats, in place of
-/// which a path may take the edge that they repeat: what is held at points, what is missing there and how long the paths are that
-/// show it are the same. An edge is left out where it leads where one of the last 64 that are left leads, and makes and takes away
-/// the same. Exceptions that no handler catches cost nothing, however many a callmessage declares. The types beside the paths of
-/// the process are those of the values at them.
+/// The flow of a process without its edges to ends, which no control path to a statement takes, and without edges that others of
+/// their point cover: in place of such an edge a path may take one that leads to the same statement and holds no more behind it, so
+/// what is held at points, what is missing there and how long the paths are that show it are the same. Which of the edges that are
+/// covered are left out is not said. Exceptions that no handler catches cost nothing, however many a callmessage declares. The types
+/// beside the paths of the process are those of the values at them.
 ///
 /// Where control reaches each statement, the flow begins at its first point.
 ///
@@ -99,11 +106,13 @@ pub fn onward_flow_of(
     alloc: Global,
     types: &TypeTable,
     p: &TypedProcess,
-) -> Result<Flow, AllocError>
+) -> Result<OnwardFlow, AllocError>
     requires known { KnowsTypes types.now.shapes p.now }
-    ensures points { IfOk result (λ f. map point_view f.points.items ≡ (onward_flow (flow_of types.now.shapes (typed_process_view p.now))).points) }
-    ensures flow { IfOk result (λ f. IsAllReached (flow_of types.now.shapes (typed_process_view p.now)) → flow_view f ≡ onward_flow (flow_of types.now.shapes (typed_process_view p.now))) }
+    ensures points { IfOk result (λ f. AreOnward (flow_of types.now.shapes (typed_process_view p.now)).points (map onward_point_view f.points.items)) }
+    ensures flow { IfOk result (λ f. IsAllReached (flow_of types.now.shapes (typed_process_view p.now)) → IsOnwardFlow (flow_of types.now.shapes (typed_process_view p.now)) (onward_flow_view f)) }
 {
     let points = points_of(alloc, types, p, Kept::Onward)?;
-    Ok(Flow { points })
+    Ok(OnwardFlow {
+        points: points.onward,
+    })
 }

@@ -8,18 +8,20 @@ ghost use Rattle.herm_typed.specs.View.{typed_form_view, typed_stmts_view};
 ghost use Rattle.herm_typed.specs.Within.{statements_within, all_statements};
 ghost use Rattle.herm_typed.specs.Blocks.{handlers_list};
 ghost use Rattle.herm_judge.specs.View.{table_of, variables_of};
-ghost use Rattle.herm_flow.specs.View.{target_view, catch_view, point_view};
+ghost use Rattle.herm_flow.specs.View.{target_view, catch_view};
 ghost use Rattle.herm_flow.specs.Parts.{blocks_of};
 ghost use Rattle.herm_flow.specs.Edges.{point_at};
 ghost use Rattle.herm_flow.specs.Around.{around_view, in_loop};
 ghost use Rattle.herm_flow.specs.KnownOutcomes.{AllKnow};
-ghost use Rattle.herm_flow.specs.Kept.{kept as kept_of, point_kept};
+ghost use Rattle.herm_flow.specs.Kept.{points_view, Adds};
+ghost use Rattle.herm_model.specs.ControlPaths.{point};
 
+use crate::calls::Notes;
 use crate::counts::{Count, count_block, count_form, sum};
-use crate::edges::push_point;
-use crate::flow::{Point, Target};
-use crate::kept::Kept;
+use crate::flow::Target;
+use crate::kept::{Kept, Points};
 use crate::parts::{Parts, parts_of};
+use crate::points::push_point;
 use crate::starts::{Catch, reach_of, start_from, starts_of};
 use herm_base::ExcNo;
 use herm_judge::Frame;
@@ -71,14 +73,15 @@ fn walk_blocks(
     blocks: &[&[TypedStmt]],
     first: Place,
     around: &Around<'_>,
-    points: &mut Vec<Point>,
+    notes: &mut Notes,
+    points: &mut Points,
 ) -> Result<(), AllocError>
     requires known { AllKnow (table_of frame.now) (variables_of frame.now) (flat_map all_statements (map (λ b. b.now) blocks.now)) }
-    ensures points { IfOk result (λ u. map point_view points.new.items ≡ map point_view points.old.items ++ map (point_kept around.now.kept (table_of frame.now) (variables_of frame.now)) (nodes_of_choices (blocks_of (map (λ b. b.now) blocks.now)) first.number first.from (around_view around.now))) }
+    ensures points { IfOk result (λ u. Adds around.now.kept (points_view around.now.kept points.old) (points_view around.now.kept points.new) (map (point (table_of frame.now) (variables_of frame.now)) (nodes_of_choices (blocks_of (map (λ b. b.now) blocks.now)) first.number first.from (around_view around.now)))) }
 {
     let mut at = first;
     'each: for block in blocks {
-        walk_block(alloc, frame, block, at, around, points)?;
+        walk_block(alloc, frame, block, at, around, notes, points)?;
         let count = count_block(alloc, block)?;
         at = behind(at, count)?;
     }
@@ -93,14 +96,15 @@ fn walk_handlers(
     handled: &[(ExcNo, Vec<TypedStmt>)],
     first: Place,
     around: &Around<'_>,
-    points: &mut Vec<Point>,
+    notes: &mut Notes,
+    points: &mut Points,
 ) -> Result<(), AllocError>
     requires known { AllKnow (table_of frame.now) (variables_of frame.now) (flat_map (λ h. all_statements h.1.items) handled.now) }
-    ensures points { IfOk result (λ u. map point_view points.new.items ≡ map point_view points.old.items ++ map (point_kept around.now.kept (table_of frame.now) (variables_of frame.now)) (nodes_of_catches (handlers_list handled.now) first.number first.from (around_view around.now))) }
+    ensures points { IfOk result (λ u. Adds around.now.kept (points_view around.now.kept points.old) (points_view around.now.kept points.new) (map (point (table_of frame.now) (variables_of frame.now)) (nodes_of_catches (handlers_list handled.now) first.number first.from (around_view around.now)))) }
 {
     let mut at = first;
     'each: for (_, body) in handled {
-        walk_block(alloc, frame, body.as_slice(), at, around, points)?;
+        walk_block(alloc, frame, body.as_slice(), at, around, notes, points)?;
         let count = count_block(alloc, body.as_slice())?;
         at = behind(at, count)?;
     }
@@ -116,10 +120,11 @@ fn walk_choosing(
     blocks: &[&[TypedStmt]],
     at: Place,
     around: &Around<'_>,
-    points: &mut Vec<Point>,
+    notes: &mut Notes,
+    points: &mut Points,
 ) -> Result<(), AllocError>
     requires known { AllKnow (table_of frame.now) (variables_of frame.now) (s.now ∷ flat_map all_statements (map (λ b. b.now) blocks.now)) }
-    ensures points { IfOk result (λ u. map point_view points.new.items ≡ map point_view points.old.items ++ (kept_of around.now.kept (point_at (table_of frame.now) (variables_of frame.now) (out-TypedStmt s.now).form at.number (starts (blocks_of (map (λ b. b.now) blocks.now)) (at.from + 1) (target_view around.now.behind)) (map catch_view around.now.catches.now)) ∷ map (point_kept around.now.kept (table_of frame.now) (variables_of frame.now)) (nodes_of_choices (blocks_of (map (λ b. b.now) blocks.now)) (at.number + 1) (at.from + 1) (around_view around.now)))) }
+    ensures points { IfOk result (λ u. Adds around.now.kept (points_view around.now.kept points.old) (points_view around.now.kept points.new) (point_at (table_of frame.now) (variables_of frame.now) (out-TypedStmt s.now).form at.number (starts (blocks_of (map (λ b. b.now) blocks.now)) (at.from + 1) (target_view around.now.behind)) (map catch_view around.now.catches.now) ∷ map (point (table_of frame.now) (variables_of frame.now)) (nodes_of_choices (blocks_of (map (λ b. b.now) blocks.now)) (at.number + 1) (at.from + 1) (around_view around.now)))) }
 {
     let within = next(at)?;
     let leads = starts_of(alloc, blocks, within.from, around.behind)?;
@@ -131,9 +136,10 @@ fn walk_choosing(
         leads.as_slice(),
         around.catches,
         around.kept,
+        notes,
         points,
     )?;
-    walk_blocks(alloc, frame, blocks, within, around, points)?;
+    walk_blocks(alloc, frame, blocks, within, around, notes, points)?;
     Ok(())
 }
 
@@ -146,10 +152,11 @@ fn walk_repeating(
     body: &[TypedStmt],
     at: Place,
     around: &Around<'_>,
-    points: &mut Vec<Point>,
+    notes: &mut Notes,
+    points: &mut Points,
 ) -> Result<(), AllocError>
     requires known { AllKnow (table_of frame.now) (variables_of frame.now) (s.now ∷ all_statements body.now) }
-    ensures points { IfOk result (λ u. map point_view points.new.items ≡ map point_view points.old.items ++ (kept_of around.now.kept (point_at (table_of frame.now) (variables_of frame.now) (out-TypedStmt s.now).form at.number (start_of_block (typed_stmts_view body.now) (at.from + 1) (node at.from) ∷ target_view around.now.behind ∷ []) (map catch_view around.now.catches.now)) ∷ map (point_kept around.now.kept (table_of frame.now) (variables_of frame.now)) (nodes_in (typed_stmts_view body.now) (at.number + 1) (at.from + 1) (in_loop at.from (around_view around.now))))) }
+    ensures points { IfOk result (λ u. Adds around.now.kept (points_view around.now.kept points.old) (points_view around.now.kept points.new) (point_at (table_of frame.now) (variables_of frame.now) (out-TypedStmt s.now).form at.number (start_of_block (typed_stmts_view body.now) (at.from + 1) (node at.from) ∷ target_view around.now.behind ∷ []) (map catch_view around.now.catches.now) ∷ map (point (table_of frame.now) (variables_of frame.now)) (nodes_in (typed_stmts_view body.now) (at.number + 1) (at.from + 1) (in_loop at.from (around_view around.now))))) }
 {
     let within = next(at)?;
     let back = Target::Point(at.from);
@@ -163,6 +170,7 @@ fn walk_repeating(
         &leads,
         around.catches,
         around.kept,
+        notes,
         points,
     )?;
     let inner = Around {
@@ -171,7 +179,7 @@ fn walk_repeating(
         catches: around.catches,
         kept: around.kept,
     };
-    walk_block(alloc, frame, body, within, &inner, points)?;
+    walk_block(alloc, frame, body, within, &inner, notes, points)?;
     Ok(())
 }
 
@@ -184,10 +192,11 @@ fn walk_trying(
     handled: &[(ExcNo, Vec<TypedStmt>)],
     at: Place,
     around: &Around<'_>,
-    points: &mut Vec<Point>,
+    notes: &mut Notes,
+    points: &mut Points,
 ) -> Result<(), AllocError>
     requires known { AllKnow (table_of frame.now) (variables_of frame.now) (all_statements body.now ++ flat_map (λ h. all_statements h.1.items) handled.now) }
-    ensures points { IfOk result (λ u. map point_view points.new.items ≡ map point_view points.old.items ++ map (point_kept around.now.kept (table_of frame.now) (variables_of frame.now)) (nodes (trying (typed_stmts_view body.now) (handlers_list handled.now)) at.number at.from (around_view around.now))) }
+    ensures points { IfOk result (λ u. Adds around.now.kept (points_view around.now.kept points.old) (points_view around.now.kept points.new) (map (point (table_of frame.now) (variables_of frame.now)) (nodes (trying (typed_stmts_view body.now) (handlers_list handled.now)) at.number at.from (around_view around.now)))) }
 {
     let number = sum(at.number, 1)?;
     let first = Place {
@@ -203,8 +212,8 @@ fn walk_trying(
         catches: catches.as_slice(),
         kept: around.kept,
     };
-    walk_block(alloc, frame, body, first, &inner, points)?;
-    walk_handlers(alloc, frame, handled, second, around, points)?;
+    walk_block(alloc, frame, body, first, &inner, notes, points)?;
+    walk_handlers(alloc, frame, handled, second, around, notes, points)?;
     Ok(())
 }
 
@@ -216,10 +225,11 @@ fn walk_form(
     s: &TypedStmt,
     at: Place,
     around: &Around<'_>,
-    points: &mut Vec<Point>,
+    notes: &mut Notes,
+    points: &mut Points,
 ) -> Result<(), AllocError>
     requires known { AllKnow (table_of frame.now) (variables_of frame.now) (s.now ∷ statements_within (out-TypedStmt s.now).form) }
-    ensures points { IfOk result (λ u. map point_view points.new.items ≡ map point_view points.old.items ++ map (point_kept around.now.kept (table_of frame.now) (variables_of frame.now)) (nodes (typed_form_view (out-TypedStmt s.now).form) at.number at.from (around_view around.now))) }
+    ensures points { IfOk result (λ u. Adds around.now.kept (points_view around.now.kept points.old) (points_view around.now.kept points.new) (map (point (table_of frame.now) (variables_of frame.now)) (nodes (typed_form_view (out-TypedStmt s.now).form) at.number at.from (around_view around.now)))) }
 {
     let parts = parts_of(alloc, &s.form)?;
     match parts {
@@ -233,16 +243,26 @@ fn walk_form(
                 &leads,
                 around.catches,
                 around.kept,
+                notes,
                 points,
             )?;
             Ok(())
         }
         Parts::Choosing(blocks) => {
-            walk_choosing(alloc, frame, s, blocks.as_slice(), at, around, points)?;
+            walk_choosing(
+                alloc,
+                frame,
+                s,
+                blocks.as_slice(),
+                at,
+                around,
+                notes,
+                points,
+            )?;
             Ok(())
         }
         Parts::Repeating(body) => {
-            walk_repeating(alloc, frame, s, body, at, around, points)?;
+            walk_repeating(alloc, frame, s, body, at, around, notes, points)?;
             Ok(())
         }
         Parts::Leaving => {
@@ -255,12 +275,13 @@ fn walk_form(
                 &leads,
                 around.catches,
                 around.kept,
+                notes,
                 points,
             )?;
             Ok(())
         }
         Parts::Trying(body, handled) => {
-            walk_trying(alloc, frame, body, handled, at, around, points)?;
+            walk_trying(alloc, frame, body, handled, at, around, notes, points)?;
             Ok(())
         }
     }
@@ -274,10 +295,11 @@ pub fn walk_block(
     list: &[TypedStmt],
     first: Place,
     around: &Around<'_>,
-    points: &mut Vec<Point>,
+    notes: &mut Notes,
+    points: &mut Points,
 ) -> Result<(), AllocError>
     requires known { AllKnow (table_of frame.now) (variables_of frame.now) (all_statements list.now) }
-    ensures points { IfOk result (λ u. map point_view points.new.items ≡ map point_view points.old.items ++ map (point_kept around.now.kept (table_of frame.now) (variables_of frame.now)) (nodes_in (typed_stmts_view list.now) first.number first.from (around_view around.now))) }
+    ensures points { IfOk result (λ u. Adds around.now.kept (points_view around.now.kept points.old) (points_view around.now.kept points.new) (map (point (table_of frame.now) (variables_of frame.now)) (nodes_in (typed_stmts_view list.now) first.number first.from (around_view around.now)))) }
 {
     let mut at = first;
     'statements: for i in 0..list.len() {
@@ -291,7 +313,7 @@ pub fn walk_block(
             catches: around.catches,
             kept: around.kept,
         };
-        walk_form(alloc, frame, s, at, &inner, points)?;
+        walk_form(alloc, frame, s, at, &inner, notes, points)?;
         at = then;
     }
     Ok(())

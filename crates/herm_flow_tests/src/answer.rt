@@ -2,7 +2,7 @@
 ghost use Rattle.herm_typed.specs.Beside.{KnowTypes};
 
 use crate::examples::{BEFORE, BEHIND, DEFINITIONS};
-use crate::text::line_of;
+use crate::text::{line_of, onward_line_of};
 use herm_defs::{DefsFault, define};
 use herm_flow::{flow_of, onward_flow_of};
 use herm_lexer::{LexFault, lex};
@@ -27,7 +27,7 @@ fn modules_of(alloc: Global, source: &str) -> Result<Vec<Module>, AllocError> {
     }
 }
 
-/// Which flow is asked for: the whole, or the one without edges to ends.
+/// Which flow is asked for: the whole, or one of edges alone that lead on and cover the others.
 #[derive(Clone, Copy)]
 pub enum Asked {
     Whole,
@@ -47,12 +47,16 @@ fn first_line(
         return String::from_str(alloc, "no process");
     }
     let p = &processes[0];
-    let flow = match asked {
-        Asked::Whole => flow_of(alloc, types, p)?,
-        Asked::Onward => onward_flow_of(alloc, types, p)?,
-    };
-    let line = line_of(alloc, &flow)?;
-    Ok(line)
+    match asked {
+        Asked::Whole => {
+            let flow = flow_of(alloc, types, p)?;
+            line_of(alloc, &flow)
+        }
+        Asked::Onward => {
+            let flow = onward_flow_of(alloc, types, p)?;
+            onward_line_of(alloc, &flow)
+        }
+    }
 }
 
 /// The flow of the first process of modules, as a line.

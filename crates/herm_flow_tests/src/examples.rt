@@ -27,13 +27,17 @@ exception h;
 type many = callmessage (out r: integer, out s: integer) raises (e { full(r) }, g { full(s) }, f { full(r) }, h { full(r) });
 type many_in = inport of many;
 type many_out = outport of many_in;
+type each = callmessage (out r: integer, out s: integer) raises (e { full(r) }, f { full(s) }, g);
+type each_in = inport of each;
+type each_out = outport of each_in;
+type two = record { m: integer, n: integer };
 }
 ";
 
 /// Stands before the statements of a row.
 pub const BEFORE: &str = "\
 process main(start: main_start) { var i: integer, j: integer, s: string, t: string, b: boolean, c: color, r: rec, k: rec, v: var_t, w: var_t, \
-x: tab, li: li, lo: lo, q: ask, ai: ask_in, ao: ask_out, p: polymorph, o: polymorph, pr: pr, pt: pt, cv: cv, vr: vr, po: pair_out, mo: many_out, lj: li; ";
+x: tab, li: li, lo: lo, q: ask, ai: ask_in, ao: ask_out, p: polymorph, o: polymorph, pr: pr, pt: pt, cv: cv, vr: vr, po: pair_out, mo: many_out, lj: li, ro: each_out, u: two; ";
 
 /// Stands behind the statements of a row.
 pub const BEHIND: &str = " }\n\

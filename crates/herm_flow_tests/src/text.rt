@@ -1,6 +1,7 @@
 //! A flow as a line of text. Between two points stands `; `. A point is its number, `/`, how many facts it needs, and its edges. An edge is a letter for its outcome,
 //! `>`, and the place of the point to which it leads, `.` for the end, or `!` and a number for the end by an exception.
-use herm_flow::{Edge, Flow, Point, Target};
+use herm_base::StmtNo;
+use herm_flow::{Flow, OnwardFlow, Target};
 use herm_typed::Outcome;
 use std::alloc::{AllocError, Global};
 
@@ -33,34 +34,44 @@ fn put_target(alloc: Global, out: &mut String, to: Target) -> Put {
     }
 }
 
-fn put_edge(alloc: Global, out: &mut String, edge: &Edge) -> Put {
+fn put_edge(alloc: Global, out: &mut String, outcome: Outcome, to: Target) -> Put {
     out.push_str(" ")?;
-    put_outcome(alloc, out, edge.outcome)?;
+    put_outcome(alloc, out, outcome)?;
     out.push_str(">")?;
-    put_target(alloc, out, edge.to)?;
+    put_target(alloc, out, to)?;
     Ok(())
 }
 
-fn put_point(alloc: Global, out: &mut String, point: &Point) -> Put {
-    let count = point.needs.len();
-    let word = format!(in alloc; "{}/{count}", point.stmt.0)?;
-    out.push_str(word.as_str())?;
-    for edge in &point.edges {
-        put_edge(alloc, out, edge)?;
+/// The number of a point and how many facts it needs. Between it and the one before it stands `; `.
+fn put_start(alloc: Global, out: &mut String, stmt: StmtNo, needs: usize) -> Put {
+    if !out.is_empty() {
+        out.push_str("; ")?;
     }
+    let word = format!(in alloc; "{}/{needs}", stmt.0)?;
+    out.push_str(word.as_str())?;
     Ok(())
 }
 
 /// A flow as a line.
 pub fn line_of(alloc: Global, flow: &Flow) -> Result<String, AllocError> {
     let mut out = String::new(alloc);
-    let mut is_first = true;
     for point in &flow.points {
-        if !is_first {
-            out.push_str("; ")?;
+        put_start(alloc, &mut out, point.stmt, point.needs.len())?;
+        for edge in &point.edges {
+            put_edge(alloc, &mut out, edge.outcome, edge.to)?;
         }
-        is_first = false;
-        put_point(alloc, &mut out, point)?;
+    }
+    Ok(out)
+}
+
+/// An onward flow as a line.
+pub fn onward_line_of(alloc: Global, flow: &OnwardFlow) -> Result<String, AllocError> {
+    let mut out = String::new(alloc);
+    for point in &flow.points {
+        put_start(alloc, &mut out, point.stmt, point.needs.len())?;
+        for edge in &point.edges {
+            put_edge(alloc, &mut out, edge.outcome, Target::Point(edge.to))?;
+        }
     }
     Ok(out)
 }

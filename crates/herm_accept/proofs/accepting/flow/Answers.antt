@@ -5,4 +5,4 @@ pub flow_of-requires : goal.flow_of-requires
 flow_of-requires c = record { known = c.requires.known }
 
 pub returns : goal.returns
-returns c = c.in_ok-flow.ensures.ready c.requires.typed.blocks (all_reached c.args.types.now c.args.p.now c.requires)
+returns c = c.in_ok-flow.ensures.flow (all_reached c.args.types.now c.args.p.now c.requires)

@@ -6,7 +6,7 @@ use Rattle.herm_model.specs.ControlPaths.{Point}
 use Rattle.herm_model.proofs.Lists.{length-map}
 use Rattle.herm_typestate.specs.declared.state.State.{State}
 use Rattle.herm_typestate.specs.Facts.{has_fact}
-use Rattle.herm_flow.specs.View.{point_view, flow_view}
+use Rattle.herm_flow.specs.OnwardView.{onward_point_view, onward_flow_view}
 use Rattle.herm_check.specs.Missing.{IsNoted}
 use Rattle.herm_check.proofs.Joined.{same_or_not}
 use Rattle.herm_check.proofs.Places.{point-at}
@@ -29,7 +29,7 @@ loop-i-preserved c = record {
   some = λ f n at. omega arith;
 }
   where
-    by : (i : ℕ) (p : Point) (s : State) (f : Fact) → i < c.loop-i.i + 1 → slice_get (flow_view c.args.flow.now).points i ≡ Some p → slice_get c.args.labels.now.at.items i ≡ Some s → IsIn f p.needs → has_fact s f ≡ false → (i ≡ c.loop-i.i) ⊎ (i ≢ c.loop-i.i) → IsNoted c.note_point.new.lost f
+    by : (i : ℕ) (p : Point) (s : State) (f : Fact) → i < c.loop-i.i + 1 → slice_get (onward_flow_view c.args.flow.now).points i ≡ Some p → slice_get c.args.labels.now.at.items i ≡ Some s → IsIn f p.needs → has_fact s f ≡ false → (i ≡ c.loop-i.i) ⊎ (i ≢ c.loop-i.i) → IsNoted c.note_point.new.lost f
     by i p s f before at label member lacks (inr d) = noted-kept c.loop-i.lost c.note_point.new.lost f c.in_ok-note_point.ensures.kept (c.loop-i.invariant.noted i p s f (omega (arith, before, d)) at label member lacks)
     by i p s f before at label member lacks (inl e) =
         let point = c.point-item.result in
@@ -39,7 +39,7 @@ loop-i-preserved c = record {
         let inside : c.loop-i.i < length c.args.labels.now.at.items = omega (arith, c.requires, many) in
         let is = subst (λ xs. point ≡ get_or xs c.loop-i.i point) c.as_slice-point-items.ensures.value c.point-item.is in
         let here = point-at c.args.flow.now.points.items c.loop-i.i point within is in
-        let one : p ≡ point_view point = one-at (slice_get (map point_view c.args.flow.now.points.items) i) p (point_view point) at (subst (λ n. slice_get (map point_view c.args.flow.now.points.items) n ≡ Some (point_view point)) (sym e) here) in
+        let one : p ≡ onward_point_view point = one-at (slice_get (map onward_point_view c.args.flow.now.points.items) i) p (onward_point_view point) at (subst (λ n. slice_get (map onward_point_view c.args.flow.now.points.items) n ≡ Some (onward_point_view point)) (sym e) here) in
         let read = slice_get_read c.args.labels.now.at.items (length c.args.labels.now.at.items) c.loop-i.i state refl inside c.index.ensures in
         let two : s ≡ state = one-at (slice_get c.args.labels.now.at.items i) s state label (subst (λ n. slice_get c.args.labels.now.at.items n ≡ Some state) (sym e) read) in
         c.in_ok-note_point.ensures.noted f (subst (λ (q : Point). IsIn f q.needs) one member) (subst (λ x. has_fact x f ≡ false) two lacks)
@@ -48,8 +48,8 @@ pub returns-clause-noted : goal.returns-clause-noted
 returns-clause-noted c i p s f at label member lacks =
     let points = c.args.flow.now.points.items in
     let many : length c.as_slice-point-items.result.now ≡ length points = ap length c.as_slice-point-items.ensures.value in
-    let all = length-map point_view points in
-    let within = slice_get_within (map point_view points) i p at in
+    let all = length-map onward_point_view points in
+    let within = slice_get_within (map onward_point_view points) i p at in
     c.loop-i.invariant.noted i p s f (omega (arith, within, all, many, c.loop-i-test.false)) at label member lacks
 
 pub returns-clause-some : goal.returns-clause-some

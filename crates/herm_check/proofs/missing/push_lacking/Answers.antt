@@ -3,7 +3,7 @@ use Rattle.std.proofs.lemmas.Option.{slice_get_read, slice_get_within}
 use Rattle.herm_model.specs.Paths.{Fact}
 use Rattle.herm_model.specs.ControlPaths.{Flow, Holds}
 use Rattle.herm_types.specs.View.{fact_view}
-use Rattle.herm_flow.specs.View.{flow_view}
+use Rattle.herm_flow.specs.OnwardView.{onward_flow_view}
 use Rattle.herm_facts.specs.declared.fact_numbers.FactNumbers.{FactNumbers}
 use Rattle.herm_facts.specs.FactNumbers.{number_of}
 use Rattle.herm_check.specs.declared.search.Search.{Search}
@@ -21,7 +21,7 @@ use Rattle.herm_check.proofs.missing.push_lacking.Goals as goal
 pub returns-then-holds : goal.returns-then-holds
 returns-then-holds c ds facts are h =
     let f = fact_view c.args.fact.now in
-    missing-held (flow_view c.args.flow.now) (demand c.args.at c.args.stmt.0 f) ds (missing_of c.args.lost.now facts c.args.out.now) h ((c.requires.exact f).0 (sym c.holds.ensures ∙ c.if-holds.true))
+    missing-held (onward_flow_view c.args.flow.now) (demand c.args.at c.args.stmt.0 f) ds (missing_of c.args.lost.now facts c.args.out.now) h ((c.requires.exact f).0 (sym c.holds.ensures ∙ c.if-holds.true))
 
 none-some : (n : ℕ) → ◌≡◌ {A = Option ℕ} None (Some n) → ⊥
 none-some n e = cc
@@ -49,11 +49,11 @@ searched-at flow numbers ss f n s are number is =
 
 pub lost_place-requires-clause-visits : goal.lost_place-requires-clause-visits
 lost_place-requires-clause-visits c =
-    (searched-at (flow_view c.args.flow.now) c.args.lost.now.numbers c.args.lost.now.searches.items (fact_view c.args.fact.now) c.in-Some.number c.index.result.now c.requires.searched (sym c.number_of.ensures ∙ c.in-Some.is) c.index.ensures).1.visits
+    (searched-at (onward_flow_view c.args.flow.now) c.args.lost.now.numbers c.args.lost.now.searches.items (fact_view c.args.fact.now) c.in-Some.number c.index.result.now c.requires.searched (sym c.number_of.ensures ∙ c.in-Some.is) c.index.ensures).1.visits
 
 pub unreachable-requires-in_default-lost_place : goal.unreachable-requires-in_default-lost_place
 unreachable-requires-in_default-lost_place c =
-    let flow = flow_view c.args.flow.now in
+    let flow = onward_flow_view c.args.flow.now in
     let f = fact_view c.args.fact.now in
     let n = c.in-Some.number in
     let at = searched-at flow c.args.lost.now.numbers c.args.lost.now.searches.items f n c.index.result.now c.requires.searched (sym c.number_of.ensures ∙ c.in-Some.is) c.index.ensures in
@@ -62,7 +62,7 @@ unreachable-requires-in_default-lost_place c =
 
 pub returns : goal.returns
 returns c ds facts are h =
-    let flow = flow_view c.args.flow.now in
+    let flow = onward_flow_view c.args.flow.now in
     let f = fact_view c.args.fact.now in
     let lost = c.args.lost.now in
     let i = c.args.at in

@@ -5,15 +5,14 @@ use Rattle.herm_model.specs.Paths.{Fact}
 use Rattle.herm_model.proofs.Lists.{length-map}
 use Rattle.herm_types.specs.declared.fact.Fact.{Fact as FactHere}
 use Rattle.herm_types.specs.View.{fact_view}
-use Rattle.herm_flow.specs.View.{flow_view}
+use Rattle.herm_flow.specs.OnwardView.{onward_flow_view}
 use Rattle.herm_facts.specs.FactNumbers.{number_of}
 use Rattle.herm_check.specs.declared.search.Search.{Search}
-use Rattle.herm_check.specs.Known.{share, AreKnownIn}
+use Rattle.herm_check.specs.Lists.{AreListsIn}
 use Rattle.herm_check.specs.Searched.{IsSearched}
 use Rattle.herm_check.proofs.Joined.{same_or_not}
-use Rattle.herm_check.proofs.Changes.{share-has}
 use Rattle.herm_check.proofs.Following.{kept-more, at-end}
-use Rattle.herm_check.proofs.Searched.{length-more}
+use Rattle.herm_check.proofs.Searched.{length-more, some-at}
 use Rattle.herm_check.proofs.missing.searches_of.Goals as goal
 
 none-at : (xs : List FactHere) (n : ℕ) (f : Fact) → length xs ≡ 0 → slice_get (map fact_view xs) n ≡ Some f → ⊥
@@ -24,28 +23,30 @@ returns-then-is_empty c f n at = absurd (none-at c.args.facts.now n f (eqb-true 
 
 pub loop-first-init : goal.loop-first-init
 loop-first-init c = record {
-  known = c.in_ok-known.ensures;
+  lists = c.in_ok-lists.ensures;
   first = let none = ap length c.new-searches.ensures.items in omega (arith, none);
-  searched = λ b j f before at. absurd (let none = ap length c.new-searches.ensures.items in omega (arith, none, before));
+  searched = λ b j f before less number. absurd (let none = ap length c.new-searches.ensures.items in omega (arith, none, before));
 }
 
-pub search_for-requires : goal.search_for-requires
-search_for-requires c = (
-  refl,
-  (
-    c.requires.there,
-    (
-      subst (AreKnownIn (flow_view c.args.flow.now) (map fact_view c.args.facts.now)) (sym c.as_slice.ensures.value) c.loop-first.invariant.known,
-      (c.requires.some (omega (arith, c.loop-first-test.true)), omega (arith, c.loop-first-test.true, c.loop-first.invariant.first, c.len-number.ensures, c.loop-first.searches.ok)),
-    ),
-  ),
-)
+pub search_for-requires-clause-lists : goal.search_for-requires-clause-lists
+search_for-requires-clause-lists c = subst (AreListsIn c.args.lost.now c.args.flow.now) (sym c.as_slice.ensures.value) c.loop-first.invariant.lists
+
+pub search_for-requires-clause-some : goal.search_for-requires-clause-some
+search_for-requires-clause-some c = c.requires.some (omega (arith, c.loop-first-test.true))
+
+pub search_for-requires-clause-first : goal.search_for-requires-clause-first
+search_for-requires-clause-first c =
+    let facts = map fact_view c.args.facts.now in
+    let many = length-map fact_view c.args.facts.now in
+    let n = 64 * c.len-number.result in
+    let some = some-at facts n (omega (arith, many, c.loop-first-test.true, c.loop-first.invariant.first, c.len-number.ensures, c.loop-first.searches.ok)) in
+    (some.0, (c.requires.numbers some.0 n).0 some.1)
 
 pub loop-first-preserved : goal.loop-first-preserved
 loop-first-preserved c = record {
-  known = c.loop-first.invariant.known;
+  lists = c.loop-first.invariant.lists;
   first = let more = ap length c.in_ok-push.ensures.items in let one = length-more old new in omega (arith, more, one, c.loop-first.invariant.first);
-  searched = λ b j f before at. subst (λ ss. (s : Search) × (slice_get ss b ≡ Some s) × IsSearched (flow_view c.args.flow.now) f j s) (sym c.in_ok-push.ensures.items) (by b j f before at (same_or_not b (length old)));
+  searched = λ b j f before less number. subst (λ ss. (s : Search) × (slice_get ss b ≡ Some s) × IsSearched (onward_flow_view c.args.flow.now) f j s) (sym c.in_ok-push.ensures.items) (by b j f before less number (same_or_not b (length old)));
 }
   where
     old : List Search
@@ -54,22 +55,21 @@ loop-first-preserved c = record {
     new : Search
     new = c.in_ok-search_for.field-0
 
-    by : (b j : ℕ) (f : Fact) → b < length c.push.new.self.items → slice_get (share (map fact_view c.args.facts.now) b) j ≡ Some f → (b ≡ length old) ⊎ (b ≢ length old) → (s : Search) × (slice_get (old ++ new ∷ []) b ≡ Some s) × IsSearched (flow_view c.args.flow.now) f j s
-    by b j f before at (inr d) =
+    by : (b j : ℕ) (f : Fact) → b < length c.push.new.self.items → j < 64 → number_of c.args.lost.now f ≡ Some (64 * b + j) → (b ≡ length old) ⊎ (b ≢ length old) → (s : Search) × (slice_get (old ++ new ∷ []) b ≡ Some s) × IsSearched (onward_flow_view c.args.flow.now) f j s
+    by b j f before less number (inr d) =
         let more = ap length c.in_ok-push.ensures.items in
         let one = length-more old new in
-        let h = c.loop-first.invariant.searched b j f (omega (arith, before, more, one, d)) at in
+        let h = c.loop-first.invariant.searched b j f (omega (arith, before, more, one, d)) less number in
         (h.0, kept-more old new b h.0 h.1, h.2)
-    by b j f before at (inl e) =
+    by b j f before less number (inl e) =
         let same : b ≡ c.len-number.result = omega (arith, e, c.len-number.ensures, c.loop-first.searches.ok) in
-        (new, subst (λ n. slice_get (old ++ new ∷ []) n ≡ Some new) (sym e) (at-end old new), c.in_ok-search_for.ensures j f (subst (λ n. slice_get (share (map fact_view c.args.facts.now) n) j ≡ Some f) same at))
+        (new, subst (λ n. slice_get (old ++ new ∷ []) n ≡ Some new) (sym e) (at-end old new), c.in_ok-search_for.ensures j f less (subst (λ n. number_of c.args.lost.now f ≡ Some (64 * n + j)) same number))
 
 pub returns : goal.returns
 returns c f n number =
-    let facts = map fact_view c.args.facts.now in
     let at = (c.requires.numbers f n).1 number in
-    let within = slice_get_within facts n f at in
+    let within = slice_get_within (map fact_view c.args.facts.now) n f at in
     let many = length-map fact_view c.args.facts.now in
     let parts : 64 * (n / 64) + n % 64 ≡ n = omega (arith, div-add-mod' n 64) in
     let less : n % 64 < 64 = (let some : 0 < 64 = omega arith in mod-lt n some) in
-    c.loop-first.invariant.searched (n / 64) (n % 64) f (omega (arith, within, many, c.loop-first.invariant.first, c.loop-first-test.false, parts, less)) (share-has facts (n / 64) (n % 64) f less (subst (λ m. slice_get facts m ≡ Some f) (sym parts) at))
+    c.loop-first.invariant.searched (n / 64) (n % 64) f (omega (arith, within, many, c.loop-first.invariant.first, c.loop-first-test.false, parts, less)) less (subst (λ m. number_of c.args.lost.now f ≡ Some m) (sym parts) number)

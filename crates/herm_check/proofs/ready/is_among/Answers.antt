@@ -1,7 +1,7 @@
 use Rattle.std.proofs.Common.{sym, ◌∙◌}
 use Rattle.herm_model.specs.Outcomes.{same_outcome}
 use Rattle.herm_typed.specs.View.{outcome_view}
-use Rattle.herm_flow.specs.declared.flow.Edge.{Edge}
+use Rattle.herm_flow.specs.declared.onward.OnwardEdge.{OnwardEdge as Edge}
 use Rattle.herm_check.proofs.Begun.{some-pass}
 use Rattle.herm_check.proofs.ready.is_among.Goals as goal
 

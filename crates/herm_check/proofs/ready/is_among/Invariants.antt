@@ -2,7 +2,7 @@ use Rattle.std.proofs.Common.{◌≡◌, map, take, false}
 use Rattle.herm_model.specs.Lists.{any_pass}
 use Rattle.herm_model.specs.Outcomes.{same_outcome}
 use Rattle.herm_typed.specs.View.{outcome_view}
-use Rattle.herm_flow.specs.declared.flow.Edge.{Edge}
+use Rattle.herm_flow.specs.declared.onward.OnwardEdge.{OnwardEdge as Edge}
 use Rattle.herm_check.proofs.ready.is_among.Given as goal
 
 abbrev pub invariant-loop-edge : goal.invariant-loop-edge

@@ -7,8 +7,8 @@ use Rattle.herm_model.specs.Lists.{IsIn}
 use Rattle.herm_model.specs.ControlPaths.{Flow}
 use Rattle.herm_model.proofs.Lists.{length-map, each-joined, each-first, each-none}
 use Rattle.herm_model.proofs.FactTests.{got-IsIn}
-use Rattle.herm_flow.specs.declared.flow.Point.{Point}
-use Rattle.herm_flow.specs.View.{flow_view, point_view}
+use Rattle.herm_flow.specs.declared.onward.OnwardPoint.{OnwardPoint}
+use Rattle.herm_flow.specs.OnwardView.{onward_flow_view, onward_point_view}
 use Rattle.herm_facts.specs.FactSets.{has}
 use Rattle.herm_facts.specs.declared.fact_set.FactSet.{FactSet}
 use Rattle.herm_check.specs.declared.search.Visit.{Visit}
@@ -18,9 +18,9 @@ use Rattle.herm_check.proofs.Searched.{one-at, lost-nearest, lost-holds}
 use Rattle.herm_check.proofs.search.lost_place.Goals as goal
 
 -- the row of a point with facts not held
-row-at : (points : List Point) (places : Places) (at slot : ℕ) (row : Vec ℕ Global) → length places ≡ 2 * length (map point_view points) → at < length points → slot ≡ slot_of at false → row ≡ get_or places slot row → slice_get places (slot_of at false) ≡ Some row
+row-at : (points : List OnwardPoint) (places : Places) (at slot : ℕ) (row : Vec ℕ Global) → length places ≡ 2 * length (map onward_point_view points) → at < length points → slot ≡ slot_of at false → row ≡ get_or places slot row → slice_get places (slot_of at false) ≡ Some row
 row-at points places at slot row rows within slot_is is =
-    let many = length-map point_view points in
+    let many = length-map onward_point_view points in
     subst (λ n. slice_get places n ≡ Some row) slot_is (slice_get_read places (length places) slot row refl (omega (arith, many, slot_is, within, rows)) is)
 
 place-in : (items row : List ℕ) (i : ℕ) → items ≡ row → i < length items → IsIn (get_or items i 0) row
@@ -32,12 +32,12 @@ place-within flow vs seen places visits at k row here member = let h = visits.li
 
 pub slot-requires : goal.slot-requires
 slot-requires c =
-    let many = length-map point_view c.args._flow.now.points.items in
+    let many = length-map onward_point_view c.args._flow.now.points.items in
     omega (arith, many, c.requires.within, c.requires.visits.rows, c.args.search.now.places.small)
 
 pub index-requires : goal.index-requires
 index-requires c =
-    let many = length-map point_view c.args._flow.now.points.items in
+    let many = length-map onward_point_view c.args._flow.now.points.items in
     omega (arith, many, c.slot.ensures, c.requires.within, c.requires.visits.rows)
 
 pub loop-place-init : goal.loop-place-init
@@ -50,7 +50,7 @@ index-requires-in-loop-place c =
     let row = c.index.result.now in
     let i = c.loop-place.place-index in
     let here = row-at c.args._flow.now.points.items s.places.items c.args.at c.slot.result row c.requires.visits.rows c.requires.within c.slot.ensures c.index.ensures in
-    let within = place-within (flow_view c.args._flow.now) s.visits.items s.seen.items s.places.items c.requires.visits c.args.at (get_or items i 0) row here (place-in items row.items i c.deref-place-items.ensures.value c.loop-place-test.true) in
+    let within = place-within (onward_flow_view c.args._flow.now) s.visits.items s.seen.items s.places.items c.requires.visits c.args.at (get_or items i 0) row here (place-in items row.items i c.deref-place-items.ensures.value c.loop-place-test.true) in
     omega (arith, within, s.visits.ok)
 
 pub returns-then-holds-clause-some : goal.returns-then-holds-clause-some
@@ -61,7 +61,7 @@ returns-then-holds-clause-some c f searched =
     let row = c.index.result.now in
     let k = get_or items c.loop-place.place-index 0 in
     let v = c.index-in-loop-place.result.now in
-    let flow = flow_view c.args._flow.now in
+    let flow = onward_flow_view c.args._flow.now in
     let here = row-at points s.places.items c.args.at c.slot.result row c.requires.visits.rows c.requires.within c.slot.ensures c.index.ensures in
     let member = place-in items row.items c.loop-place.place-index c.deref-place-items.ensures.value c.loop-place-test.true in
     let within = place-within flow s.visits.items s.seen.items s.places.items c.requires.visits c.args.at k row here member in
@@ -78,7 +78,7 @@ loop-place-preserved c k member =
     let i = c.loop-place.place-index in
     let place = get_or items i 0 in
     let w = c.index-in-loop-place.result.now in
-    let flow = flow_view c.args._flow.now in
+    let flow = onward_flow_view c.args._flow.now in
     let here = row-at points s.places.items c.args.at c.slot.result row c.requires.visits.rows c.requires.within c.slot.ensures c.index.ensures in
     let within = place-within flow vs s.seen.items s.places.items c.requires.visits c.args.at place row here (place-in items row.items i c.deref-place-items.ensures.value c.loop-place-test.true) in
     let at = slice_get_read vs (length vs) place w refl within c.index-in-loop-place.ensures in
@@ -95,5 +95,5 @@ returns-clause-none c f searched =
     let row = c.index.result.now in
     let here = row-at points s.places.items c.args.at c.slot.result row c.requires.visits.rows c.requires.within c.slot.ensures c.index.ensures in
     let all = take_all c.loop-place.place-index items c.loop-place-test.false ∙ c.deref-place-items.ensures.value in
-    lost-holds (flow_view c.args._flow.now) f c.args.number s.visits.items s.seen.items s.places.items searched.visits searched.search (first-node (length points) (omega (arith, c.requires.within))) searched.left c.args.at row here
+    lost-holds (onward_flow_view c.args._flow.now) f c.args.number s.visits.items s.seen.items s.places.items searched.visits searched.search (first-node (length points) (omega (arith, c.requires.within))) searched.left c.args.at row here
     (λ k v member is of. c.loop-place.invariant k (subst (IsIn k) (sym all) member) v is of)

@@ -1,19 +1,34 @@
-use Rattle.std.proofs.Common.{ℕ, List, ◌-◌, length, map, sym, ap, ◌∙◌, arith}
-use Rattle.herm_model.specs.Lists.{range}
+use Rattle.std.proofs.Common.{map, ap, arith}
 use Rattle.herm_types.specs.View.{raise_decl_view}
-use Rattle.herm_flow.specs.Apart.{added_all}
-use Rattle.herm_flow.specs.NumberTables.{has_entry, alike_by}
-use Rattle.herm_flow.proofs.OnwardNumbers.{range-next}
+use Rattle.herm_flow.specs.NumberTables.{at_number, has_entry}
+use Rattle.herm_flow.specs.CoveredExceptions.{kept_by}
+use Rattle.herm_flow.proofs.NumberTables.{entry-within}
+use Rattle.herm_flow.proofs.Covering.{found-none, found-next}
 use Rattle.herm_flow.proofs.calls.numbers_of.Goals as goal
+
+pub numbers-init : goal.numbers-init
+numbers-init c = record {
+  within = omega arith;
+  found = found-none (at_number c.args.points.now) (kept_by c.args.declared.now (map raise_decl_view c.args.raises.now)) c.args.single (has_entry c.args.declared.now) _ _ (ap (map (λ n. n.0)) c.new.ensures.items) c.new-2.ensures.items;
+}
 
 pub numbers-preserved : goal.numbers-preserved
 numbers-preserved c =
     let test = c.numbers-test.true in
     let next = c.in_ok-e.ensures in
-    let many = length c.args.declared.now in
-    let all : List ℕ → List ℕ → List ℕ = λ xs ns. added_all (has_entry c.args.declared.now) (alike_by c.args.points.now c.args.declared.now (map raise_decl_view c.args.raises.now)) xs ns in
     record {
       within = omega (arith, test, next);
-      found = ap (λ xs. all xs (range c.in_ok-e.e (many - c.in_ok-e.e))) c.in_ok-add_number.ensures.numbers
-          ∙ (sym (ap (all (map (λ n. n.0) c.numbers.found.items)) (range-next c.numbers.e many c.in_ok-e.e next test)) ∙ c.numbers.invariant.found);
+      found = found-next (at_number c.args.points.now) (kept_by c.args.declared.now (map raise_decl_view c.args.raises.now)) c.args.single (has_entry c.args.declared.now) c.numbers.e c.in_ok-e.e _ _ _ _ next c.numbers.invariant.found c.in_ok-add_number.ensures.added;
     }
+
+pub returns-clause-rise : goal.returns-clause-rise
+returns-clause-rise c = c.numbers.invariant.found.rise
+
+pub returns-clause-there : goal.returns-clause-there
+returns-clause-there c = λ m i. (c.numbers.invariant.found.there m i).1
+
+pub returns-clause-covered : goal.returns-clause-covered
+returns-clause-covered c = λ m h.
+    let test = c.numbers-test.false in
+    let within = entry-within c.args.declared.now m h in
+    c.numbers.invariant.found.covered m (omega (arith, test, within)) h

@@ -1,31 +1,31 @@
-use Rattle.std.proofs.Common.{◌≡◌, ◌+◌, ◌*◌, ◌++◌, map, drop}
+use Rattle.std.proofs.Common.{◌+◌, ◌*◌, List, map, drop}
 use Rattle.herm_model.specs.Nodes.{nodes_in, nodes_of_choices, nodes_of_catches}
 use Rattle.herm_model.specs.Statements.{numbers_of, numbers_of_block, numbers_of_blocks, numbers_of_handlers}
+use Rattle.herm_model.specs.ControlPaths.{Point, point}
 use Rattle.herm_typed.specs.declared.statements.TypedStmt.{out-TypedStmt}
 use Rattle.herm_typed.specs.View.{typed_form_view, typed_stmts_view}
 use Rattle.herm_typed.specs.Blocks.{handlers_list}
 use Rattle.herm_judge.specs.View.{table_of, variables_of}
-use Rattle.herm_flow.specs.View.{point_view}
 use Rattle.herm_flow.specs.Parts.{blocks_of}
 use Rattle.herm_flow.specs.Around.{around_view}
-use Rattle.herm_flow.specs.Kept.{point_kept}
+use Rattle.herm_flow.specs.Kept.{points_view, Adds}
 use Rattle.herm_flow.proofs.walk.+walking.Given as goal
 
--- Each invariant: the points so far, with those of what is left, are those of the whole.
+-- Each invariant: the points so far, with those of what is left behind them, are those of the whole.
 abbrev pub invariant-walk_blocks-each : goal.invariant-walk_blocks-each
-invariant-walk_blocks-each l =
-    map point_view l.points.items ++ map (point_kept l.around.kept (table_of l.frame) (variables_of l.frame)) (nodes_of_choices (blocks_of (map (λ b. b.now) (drop l.block-index l.blocks))) l.at.number l.at.from (around_view l.around))
-    ≡ map point_view l.fn.points.items ++ map (point_kept l.around.kept (table_of l.frame) (variables_of l.frame)) (nodes_of_choices (blocks_of (map (λ b. b.now) l.blocks)) l.fn.first.number l.fn.first.from (around_view l.around))
+invariant-walk_blocks-each l = (last : List Point) →
+    Adds l.around.kept (points_view l.around.kept l.points) last (map (point (table_of l.frame) (variables_of l.frame)) (nodes_of_choices (blocks_of (map (λ b. b.now) (drop l.block-index l.blocks))) l.at.number l.at.from (around_view l.around)))
+    → Adds l.around.kept (points_view l.around.kept l.fn.points) last (map (point (table_of l.frame) (variables_of l.frame)) (nodes_of_choices (blocks_of (map (λ b. b.now) l.blocks)) l.fn.first.number l.fn.first.from (around_view l.around)))
 
 abbrev pub invariant-walk_handlers-each : goal.invariant-walk_handlers-each
-invariant-walk_handlers-each l =
-    map point_view l.points.items ++ map (point_kept l.around.kept (table_of l.frame) (variables_of l.frame)) (nodes_of_catches (handlers_list (drop l.body-index l.handled)) l.at.number l.at.from (around_view l.around))
-    ≡ map point_view l.fn.points.items ++ map (point_kept l.around.kept (table_of l.frame) (variables_of l.frame)) (nodes_of_catches (handlers_list l.handled) l.fn.first.number l.fn.first.from (around_view l.around))
+invariant-walk_handlers-each l = (last : List Point) →
+    Adds l.around.kept (points_view l.around.kept l.points) last (map (point (table_of l.frame) (variables_of l.frame)) (nodes_of_catches (handlers_list (drop l.body-index l.handled)) l.at.number l.at.from (around_view l.around)))
+    → Adds l.around.kept (points_view l.around.kept l.fn.points) last (map (point (table_of l.frame) (variables_of l.frame)) (nodes_of_catches (handlers_list l.handled) l.fn.first.number l.fn.first.from (around_view l.around)))
 
 abbrev pub invariant-walk_block-statements : goal.invariant-walk_block-statements
-invariant-walk_block-statements l =
-    map point_view l.points.items ++ map (point_kept l.around.kept (table_of l.frame) (variables_of l.frame)) (nodes_in (typed_stmts_view (drop l.i l.list)) l.at.number l.at.from (around_view l.around))
-    ≡ map point_view l.fn.points.items ++ map (point_kept l.around.kept (table_of l.frame) (variables_of l.frame)) (nodes_in (typed_stmts_view l.list) l.fn.first.number l.fn.first.from (around_view l.around))
+invariant-walk_block-statements l = (last : List Point) →
+    Adds l.around.kept (points_view l.around.kept l.points) last (map (point (table_of l.frame) (variables_of l.frame)) (nodes_in (typed_stmts_view (drop l.i l.list)) l.at.number l.at.from (around_view l.around)))
+    → Adds l.around.kept (points_view l.around.kept l.fn.points) last (map (point (table_of l.frame) (variables_of l.frame)) (nodes_in (typed_stmts_view l.list) l.fn.first.number l.fn.first.from (around_view l.around)))
 
 -- The measures: statements within, and how far the call is from them.
 abbrev pub decreases-walk_blocks : goal.decreases-walk_blocks

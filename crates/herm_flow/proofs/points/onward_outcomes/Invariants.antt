@@ -1,0 +1,6 @@
+use Rattle.herm_judge.specs.View.{variables_of}
+use Rattle.herm_flow.proofs.points.onward_outcomes.Given as goal
+
+-- the types of the variables are those of the frame
+abbrev pub ghost-outcomes_at : goal.ghost-outcomes_at
+ghost-outcomes_at a = variables_of a.frame.now
