@@ -145,7 +145,7 @@ def beside_variables(calls, raised, body):
     return f"{head}process p(start:ti){{var A:co,{','.join(f'{name}:integer' for name in several)};receive A from start;{x}:=1;{y}:=1;{tried}{several[1]}:={several[0]};}}\n{EMPTY_MAIN}"
 
 
-def parted(walk, raised):
+def parted(walk, raised, body=""):
     """63 records of 60 fields, each lost in one branch of a selection and received in the other, then calls within so many handlers, and at the end all fields are read."""
     several, exceptions = [f"R{i}" for i in range(63)], [f"E{i}" for i in range(raised)]
     fields = list(itertools.islice(names(), 60))
@@ -154,7 +154,7 @@ def parted(walk, raised):
         f"type c=callmessage() raises({','.join(exceptions)});type ci=inport of c;type co=outport of ci;type t=record{{i:ri,o:co}};type ti=inport of t;}}\n"
     )
     lost = "".join(f"if 1<2{{discard {name};}}else{{receive {name} from m.i;}}" for name in several)
-    tried = f"try{{{'call m.o();' * walk}}}" + "".join(f"on {name}{{}}" for name in exceptions)
+    tried = f"try{{{'call m.o();' * walk}}}" + "".join(f"on {name}{{{body}}}" for name in exceptions)
     sums = "".join(f"k:={'+'.join(f'{name}.{field}' for name in several)};" for field in fields)
     return f"{head}process p(start:ti){{var m:t,k:integer,{','.join(f'{name}:r' for name in several)};receive m from start;{lost}{tried}{sums}}}\n{EMPTY_MAIN}"
 
@@ -192,6 +192,50 @@ def coming_back(calls, raised, count, fields, kept, last="k:=1;"):
     )
     tried = f"try{{{f'call o({chr(44).join(several)});' * calls}}}" + "".join(f"on {name}{{k:=1;}}" for name in exceptions)
     return f"{head}process p(start:ti){{var {''.join(f'{name}:{of},' for name in several)}R0:r,R1:r,R2:r,x:r,k:integer,o:co;receive o from start;k:=1;{tried}{last}}}\n{EMPTY_MAIN}"
+
+
+def losing_loops(within, depth):
+    """So many loops within each other, each of which makes and loses a field, and these statements in the outermost."""
+    return "while k<9{" + within + "".join(f"while k<9{{d.f{i}:=1;discard d.f{i};" for i in range(1, depth)) + "}" * depth
+
+
+def results_in_loops(calls, raised):
+    """A `try` of calls with a record of 1,000 fields, which no exception keeps, and a handler of its own for each exception, in the outermost of 58 loops."""
+    exceptions = [f"E{i}" for i in range(raised)]
+    fields = ",".join(f"f{i}:integer" for i in range(1_000))
+    head = (
+        f"definitions w{{{''.join(f'exception {name};' for name in exceptions)}type r=record{{{fields}}};type c=callmessage(out q:r)raises({','.join(exceptions)});"
+        "type ci=inport of c;type co=outport of ci;type ri=inport of r;type t=record{o:co,i:ri};type ti=inport of t;}\n"
+    )
+    tried = f"try{{{'call m.o(e);' * calls}}}" + "".join(f"on {name}{{k:=1;}}" for name in exceptions)
+    first = "receive m from start;k:=1;receive d from m.i;receive a from m.i;receive b from m.i;"
+    return f"{head}process p(start:ti){{var m:t,d:r,a:r,b:r,e:r,k:integer;{first}{losing_loops(tried, 58)}}}\n{EMPTY_MAIN}"
+
+
+def cases_in_loops():
+    """100 cases of a variant of 1,000 components, in the outermost of 58 loops."""
+    components = list(itertools.islice(names(), 1_000))
+    fields = ",".join(f"f{i}:integer" for i in range(1_000))
+    head = (
+        f"definitions w{{type v=variant{{{','.join(f'{name}:integer' for name in components)}}};type r=record{{{fields}}};type ri=inport of r;type vi=inport of v;"
+        "type t=record{i:ri,v:vi};type ti=inport of t;}\n"
+    )
+    case = f"case V{{{''.join(f'when {name}{{}}' for name in components)}}}"
+    first = "receive m from start;k:=1;receive V from m.v;receive d from m.i;"
+    return f"{head}process p(start:ti){{var m:t,d:r,a:r,V:v,k:integer;{first}{losing_loops(case * 100, 58)}}}\n{EMPTY_MAIN}"
+
+
+def nested_records():
+    """A `try` of 500 calls with 30 records, each within 25 others, of which each of 500 exceptions keeps one, and a handler of its own for each."""
+    exceptions, several = [f"E{i}" for i in range(500)], [f"R{i}" for i in range(30)]
+    types = "type d0=record{a:integer};" + "".join(f"type d{i}=record{{a:d{i - 1}}};" for i in range(1, 26))
+    raising = ",".join(f"{name}{{full({several[i % 30]})}}" for i, name in enumerate(exceptions))
+    head = (
+        f"definitions w{{{''.join(f'exception {name};' for name in exceptions)}{types}type c=callmessage({','.join(f'out {name}:d25' for name in several)})raises({raising});"
+        "type ci=inport of c;type co=outport of ci;type ti=inport of co;}\n"
+    )
+    tried = f"try{{{f'call o({chr(44).join(several)});' * 500}}}" + "".join(f"on {name}{{k:=1;}}" for name in exceptions)
+    return f"{head}process p(start:ti){{var {''.join(f'{name}:d25,' for name in several)}k:integer,o:co;receive o from start;k:=1;{tried}k:=1;}}\n{EMPTY_MAIN}"
 
 
 def told_apart():
@@ -256,6 +300,8 @@ def at_the_limits():
         "refusals behind 260,000 exceptions": handled(506, 506, "k:=1;", "x:=a;x:=b;x:=c;", records=3),
         "refusals that are told apart": told_apart(),
         "refusals of facts that parted": parted(700, 200),
+        "the same behind handlers of their own": parted(380, 380, "k:=1;"),
+        "cases of 1,000 components in loops": cases_in_loops(),
         "refusals after a read backwards": backwards(),
         "refusals behind calls of 270 results": results_taken(8),
         "refusals behind 250,000 that keep": handled(500, 500, "k:=1;", "x:=a;x:=b;x:=c;", records=3, kept=2),
@@ -268,6 +314,9 @@ def at_the_limits():
         "250,000 that keep a record": coming_back(500, 500, 1, 980, lambda i, n: True),
         "250,000 that keep some of eight records": coming_back(500, 500, 8, 125, lambda i, n: i >> n & 1),
         "refusals behind 250,000 that lose 270": coming_back(490, 490, 270, 0, lambda i, n: False, "x:=R0;x:=R1;x:=R2;"),
+        "150,000 that lose a record in loops": results_in_loops(390, 390),
+        "250,000 that keep one of 30 nested records": nested_records(),
+        "refusals behind 230,000 that keep 20 of 50": coming_back(480, 480, 50, 0, lambda i, n: n < 18 or (n - 18 - i) % 32 in (0, i // 32 + 1), "x:=R0;"),
         "refusals behind 250,000 that keep some": coming_back(490, 490, 8, 125, lambda i, n: i >> n & 1, "x:=R0;x:=R1;x:=R2;"),
         "260,000 exceptions": handled(510, 510, "k:=1;", "k:=1;"),
         "2,000,000 exceptions": handled(1_000, 2_000, "", "k:=1;"),
