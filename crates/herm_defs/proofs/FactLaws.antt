@@ -42,7 +42,7 @@ marks-some : (n r : List ℕ) → [] ≡ marked_bytes n r → ⊥
 marks-some [] r e = absurd cc
 marks-some (b ∷ bs) r e = absurd cc
 
-same-path : (p q : List Letters) → path_key p ≡ path_key q → p ≡ q
+pub same-path : (p q : List Letters) → path_key p ≡ path_key q → p ≡ q
 same-path [] [] e = refl
 same-path [] (n ∷ ns) e = absurd (marks-some n (path_key ns) e)
 same-path (n ∷ ns) [] e = absurd (marks-some n (path_key ns) (sym e))
@@ -311,7 +311,7 @@ module _ (table : NamedTable) (t : ℕ) (name : Letters) where
       by None h = ap (λ c. on c (λ u. walked_as (walk table u rest))) (sym h)
       by (Some s) h = field (field_type s i) h
 
-mark-end : (n r : List ℕ) → marked_bytes n [] ++ r ≡ marked_bytes n r
+pub mark-end : (n r : List ℕ) → marked_bytes n [] ++ r ≡ marked_bytes n r
 mark-end [] r = refl
 mark-end (b ∷ bs) r = ap (λ xs. 1 ∷ b ∷ xs) (mark-end bs r)
 

@@ -9,3 +9,4 @@ pub mod Shapes
 pub mod FactLaws
 pub mod KeepLaws
 pub mod Judging
+pub mod DistinctLaws

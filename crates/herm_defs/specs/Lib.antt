@@ -10,3 +10,4 @@ pub mod View
 pub mod Plain
 pub mod PlainFacts
 pub mod Refused
+pub mod Distinct

@@ -50,6 +50,12 @@ fact_key (InitFact p) = 2 ∷ []
 fact_key (FullFact p) = 2 ∷ []
 fact_key (CaseFact p c) = path_key p
 
+-- those of a declared fact, by which it is told from all others
+abbrev pub written_key : DeclaredFact → List ℕ
+written_key (InitFact p) = 0 ∷ path_key p
+written_key (FullFact p) = 1 ∷ path_key p
+written_key (CaseFact p c) = 2 ∷ path_key (c ∷ p)
+
 -- ---- facts beside others
 
 -- another fact is a case with another component

@@ -9,7 +9,7 @@ ghost use Rattle.herm_meaning.specs.DefinitionFaults.{HasBadFacts};
 ghost use Rattle.herm_graph.specs.Tells.{Tells};
 ghost use Rattle.herm_defs.specs.declared.facts.Walked.TheVariants.{Ended, Left};
 ghost use Rattle.herm_defs.specs.Plain.{passes};
-ghost use Rattle.herm_defs.specs.PlainFacts.{walked_as, has_left, no_component, case_test, bad_fact, path_key, fact_key, marked_bytes, differs, has_bad_fact};
+ghost use Rattle.herm_defs.specs.PlainFacts.{walked_as, has_left, no_component, case_test, bad_fact, path_key, fact_key, written_key, marked_bytes, differs, has_bad_fact};
 
 use crate::context::Context;
 use crate::judge::is_record_at;
@@ -143,15 +143,62 @@ fn push_name(bytes: &mut Vec<u8>, name: &Name) -> Result<(), AllocError>
     Ok(())
 }
 
+fn push_path(bytes: &mut Vec<u8>, path: &[Name]) -> Result<(), AllocError>
+    ensures { OnOk result (bytes.new.items ≡ bytes.old.items ++ path_key (map name_view path.now)) }
+{
+    for name in path {
+        push_name(bytes, name)?;
+    }
+    Ok(())
+}
+
 /// A word by which a path is told from all others.
 fn path_key(alloc: Global, path: &[Name]) -> Result<Word, AllocError>
     ensures { IfOk result (λ w. w ≡ path_key (map name_view path.now)) }
 {
     let mut bytes = Vec::new(alloc);
-    for name in path {
-        push_name(&mut bytes, name)?;
-    }
+    push_path(&mut bytes, path)?;
     Ok(Word::from_vec(bytes))
+}
+
+/// A word by which a path is told from all others of its kind and those of the other kinds.
+fn kind_key(alloc: Global, kind: u8, path: &[Name]) -> Result<Word, AllocError>
+    ensures { IfOk result (λ w. w ≡ kind ∷ path_key (map name_view path.now)) }
+{
+    let mut bytes = Vec::new(alloc);
+    bytes.push(kind)?;
+    push_path(&mut bytes, path)?;
+    Ok(Word::from_vec(bytes))
+}
+
+fn case_key(alloc: Global, path: &[Name], component: &Name) -> Result<Word, AllocError>
+    ensures { IfOk result (λ w. w ≡ 2 ∷ path_key (component.now.text ∷ map name_view path.now)) }
+{
+    let mut bytes = Vec::new(alloc);
+    bytes.push(2)?;
+    push_name(&mut bytes, component)?;
+    push_path(&mut bytes, path)?;
+    Ok(Word::from_vec(bytes))
+}
+
+/// A word by which a declared fact is told from all others.
+pub fn written_key(alloc: Global, fact: &DFact) -> Result<Word, AllocError>
+    ensures { IfOk result (λ w. w ≡ written_key (dfact_view fact.now)) }
+{
+    match fact {
+        DFact::Init(path) => {
+            let key = kind_key(alloc, 0, path.as_slice())?;
+            Ok(key)
+        }
+        DFact::Full(path) => {
+            let key = kind_key(alloc, 1, path.as_slice())?;
+            Ok(key)
+        }
+        DFact::Case(path, component) => {
+            let key = case_key(alloc, path.as_slice(), component)?;
+            Ok(key)
+        }
+    }
 }
 
 fn no_path(alloc: Global) -> Result<Word, AllocError>

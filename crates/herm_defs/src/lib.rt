@@ -4,6 +4,7 @@
 mod calls;
 mod context;
 mod definitions;
+mod distinct;
 mod facts;
 mod fault;
 mod few;

@@ -1,20 +1,25 @@
 //! Keys, declared facts and kept parameters are looked up in the outline of definitions.
-ghost use Rattle.std.specs.Prelude.{◌≡◌, ◌<◌, ◌^◌, ◌++◌, [], ◌∷◌, IfOk, OnOk, map, flat_map, length};
+ghost use Rattle.std.specs.Prelude.{◌≡◌, ◌<◌, ◌^◌, ◌++◌, [], ◌∷◌, List, IfOk, OnOk, map, flat_map, length};
+ghost use Rattle.herm_syntax.specs.Trees.{DeclaredFact};
 ghost use Rattle.herm_syntax.specs.View.{name_view, dfact_view, shape_form_view};
 ghost use Rattle.herm_types.specs.View.{fact_view, shape_view, parts_view};
 ghost use Rattle.herm_meaning.specs.Walks.{place_of, parts_of};
 ghost use Rattle.herm_meaning.specs.Meaning.{fact_meant, meant_shape, part_names};
-ghost use Rattle.herm_model.specs.Facts.{full_facts};
+ghost use Rattle.herm_model.specs.Facts.{full_facts, without_repeats};
+ghost use Rattle.herm_defs.specs.Distinct.{AreListed};
 ghost use Rattle.herm_defs.specs.Few.{part_total};
 ghost use Rattle.herm_defs.specs.Steps.{init_meant, full_meant, case_meant};
 
 use crate::calls::call_of;
+use crate::distinct::DistinctFacts;
+use crate::facts::written_key;
 use crate::fields::{place_in, walk_fields};
 use crate::names::Names;
 use crate::outline::numbered_shape;
-use herm_base::{Name, TypeNo, VarNo};
+use herm_base::{Name, TypeNo, VarNo, Word};
 use herm_syntax::{DFact, ShapeForm};
 use herm_types::{Fact, Path, Shape, TypeTable};
+use indexmap::IndexSet;
 use std::alloc::{AllocError, Global};
 
 /// The place of a part with a name, or the number of parts, none for a type that is not there.
@@ -45,25 +50,23 @@ fn keys_of(
     Ok(places)
 }
 
-/// Appends the facts that `init` of a path lists.
-fn push_init(
+/// The fact that `init` of a path lists, none where it ends nowhere.
+fn init_facts(
     alloc: Global,
     table: &TypeTable,
     message: TypeNo,
     path: &[Name],
-    facts: &mut Vec<Fact>,
-) -> Result<(), AllocError>
-    ensures { OnOk result (map fact_view facts.new.items ≡ map fact_view facts.old.items ++ init_meant table.now message.0 (map name_view path.now)) }
+) -> Result<Vec<Fact>, AllocError>
+    ensures { IfOk result (λ v. map fact_view v.items ≡ init_meant table.now message.0 (map name_view path.now)) }
 {
+    let mut facts = Vec::new(alloc);
     match walk_fields(alloc, table, message, path)? {
         Some((parts, _)) => {
-            facts.push(Fact::Init(Path {
-                var: VarNo(0),
-                parts,
-            }))?;
-            Ok(())
+            let var = VarNo(0);
+            facts.push(Fact::Init(Path { var, parts }))?;
+            Ok(facts)
         }
-        None => Ok(()),
+        None => Ok(facts),
     }
 }
 
@@ -87,97 +90,127 @@ fn full_of(
     Ok(facts)
 }
 
-fn append(facts: &mut Vec<Fact>, more: Vec<Fact>) -> Result<(), AllocError>
-    ensures { OnOk result (facts.new.items ≡ facts.old.items ++ more.items) }
-{
-    for fact in more {
-        facts.push(fact)?;
-    }
-    Ok(())
-}
-
-/// Appends the facts that `full` of a path lists.
-fn push_full(
+/// The facts that `full` of a path lists.
+fn full_path_facts(
     alloc: Global,
     table: &TypeTable,
     message: TypeNo,
     path: &[Name],
-    facts: &mut Vec<Fact>,
-) -> Result<(), AllocError>
-    ensures { OnOk result (map fact_view facts.new.items ≡ map fact_view facts.old.items ++ full_meant table.now message.0 (map name_view path.now)) }
+) -> Result<Vec<Fact>, AllocError>
+    ensures { IfOk result (λ v. map fact_view v.items ≡ full_meant table.now message.0 (map name_view path.now)) }
 {
     match walk_fields(alloc, table, message, path)? {
         Some((parts, t)) => {
             let full = full_of(alloc, table, parts, t)?;
-            append(facts, full)?;
-            Ok(())
+            Ok(full)
         }
-        None => Ok(()),
+        None => Ok(Vec::new(alloc)),
     }
 }
 
-/// Appends the fact that `case` of a path lists.
-fn push_case(
+/// The fact that `case` of a path lists.
+fn case_facts(
     alloc: Global,
     table: &TypeTable,
     message: TypeNo,
     path: &[Name],
     component: &Name,
-    facts: &mut Vec<Fact>,
-) -> Result<(), AllocError>
-    ensures { OnOk result (map fact_view facts.new.items ≡ map fact_view facts.old.items ++ case_meant table.now message.0 (map name_view path.now) (name_view component.now)) }
+) -> Result<Vec<Fact>, AllocError>
+    ensures { IfOk result (λ v. map fact_view v.items ≡ case_meant table.now message.0 (map name_view path.now) (name_view component.now)) }
 {
+    let mut facts = Vec::new(alloc);
     match walk_fields(alloc, table, message, path)? {
         Some((parts, t)) => {
             let place = part_place(table, t, component.text.bytes());
             let var = VarNo(0);
             facts.push(Fact::Case(Path { var, parts }, place))?;
-            Ok(())
+            Ok(facts)
         }
-        None => Ok(()),
+        None => Ok(facts),
     }
 }
 
-/// Appends the facts that a declared fact lists, for a message of a type.
-fn push_fact(
+/// The facts that a declared fact lists, for a message of a type.
+fn meant_facts(
     alloc: Global,
     table: &TypeTable,
     message: TypeNo,
     fact: &DFact,
-    facts: &mut Vec<Fact>,
-) -> Result<(), AllocError>
-    ensures { OnOk result (map fact_view facts.new.items ≡ map fact_view facts.old.items ++ fact_meant table.now message.0 (dfact_view fact.now)) }
+) -> Result<Vec<Fact>, AllocError>
+    ensures { IfOk result (λ v. map fact_view v.items ≡ fact_meant table.now message.0 (dfact_view fact.now)) }
 {
     match fact {
         DFact::Init(path) => {
-            push_init(alloc, table, message, path.as_slice(), facts)?;
-            Ok(())
+            let facts = init_facts(alloc, table, message, path.as_slice())?;
+            Ok(facts)
         }
         DFact::Full(path) => {
-            push_full(alloc, table, message, path.as_slice(), facts)?;
-            Ok(())
+            let facts = full_path_facts(alloc, table, message, path.as_slice())?;
+            Ok(facts)
         }
         DFact::Case(path, component) => {
-            push_case(alloc, table, message, path.as_slice(), component, facts)?;
-            Ok(())
+            let facts = case_facts(alloc, table, message, path.as_slice(), component)?;
+            Ok(facts)
         }
     }
 }
 
-/// The facts that are declared of a message.
+/// Adds the facts that a declared fact lists, where it was not written before.
+fn add_written(
+    alloc: Global,
+    table: &TypeTable,
+    message: TypeNo,
+    fact: &DFact,
+    written: &mut IndexSet<Word>,
+    facts: &mut DistinctFacts,
+) -> Result<(), AllocError>
+    ensures { OnOk result ((ds : List DeclaredFact) → AreListed table.now message.0 ds written.old.keys facts.old → AreListed table.now message.0 (ds ++ dfact_view fact.now ∷ []) written.new.keys facts.new) }
+{
+    let key = written_key(alloc, fact)?;
+    if !written.insert(key)? {
+        return Ok(());
+    }
+    let meant = meant_facts(alloc, table, message, fact)?;
+    facts.append(alloc, meant)?;
+    Ok(())
+}
+
+/// The facts that declared facts list, each once. What is written twice is looked up once.
+fn distinct_facts(
+    alloc: Global,
+    table: &TypeTable,
+    message: TypeNo,
+    list: &[DFact],
+) -> Result<Vec<Fact>, AllocError>
+    ensures { IfOk result (λ v. map fact_view v.items ≡ without_repeats (flat_map (fact_meant table.now message.0) (map dfact_view list.now))) }
+{
+    let mut written = IndexSet::new(alloc);
+    let mut facts = DistinctFacts::new(alloc);
+    for fact in list {
+        add_written(alloc, table, message, fact, &mut written, &mut facts)?;
+    }
+    Ok(facts.into_facts())
+}
+
+/// The facts that are declared of a message. A declared fact alone lists none twice.
 fn facts_of(
     alloc: Global,
     table: &TypeTable,
     message: TypeNo,
     list: &[DFact],
 ) -> Result<Vec<Fact>, AllocError>
-    ensures { IfOk result (λ v. map fact_view v.items ≡ flat_map (fact_meant table.now message.0) (map dfact_view list.now)) }
+    ensures { IfOk result (λ v. map fact_view v.items ≡ without_repeats (flat_map (fact_meant table.now message.0) (map dfact_view list.now))) }
 {
-    let mut facts = Vec::new(alloc);
-    for fact in list {
-        push_fact(alloc, table, message, fact, &mut facts)?;
+    match list {
+        [fact] => {
+            let facts = meant_facts(alloc, table, message, fact)?;
+            Ok(facts)
+        }
+        _ => {
+            let facts = distinct_facts(alloc, table, message, list)?;
+            Ok(facts)
+        }
     }
-    Ok(facts)
 }
 
 /// A shape with its key, its declared facts and its kept parameters, which are looked up in the outline.

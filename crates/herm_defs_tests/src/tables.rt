@@ -15,7 +15,7 @@ fn means(rt: &impl Abort, alloc: Global, row: &str, due: &str) -> Result<(), Fai
 
 #[test]
 fn definitions_mean_tables(rt: HostRuntime) -> Result<(), Fail> {
-    let rows: [(&str, &str); 13] = [
+    let rows: [(&str, &str); 15] = [
         (
             "type a = record { x: integer, y: b }; type b = enum { p, q };",
             "table a record x:1 y:9; b enum p q;",
@@ -30,7 +30,15 @@ fn definitions_mean_tables(rt: HostRuntime) -> Result<(), Fail> {
         ),
         (
             "type i = inport of r { full(y), init(x), full(y) }; type r = record { x: integer, y: q }; type q = record { w: string, z: integer };",
-            "table i inport 9 init 0.1 init 0.1.0 init 0.1.1 init 0.0 init 0.1 init 0.1.0 init 0.1.1; r record x:1 y:10; q record w:2 z:1;",
+            "table i inport 9 init 0.1 init 0.1.0 init 0.1.1 init 0.0; r record x:1 y:10; q record w:2 z:1;",
+        ),
+        (
+            "type i = inport of r { init(y.z), full(y), init(x), init(y), init(y.z) }; type r = record { x: integer, y: q }; type q = record { w: string, z: integer };",
+            "table i inport 9 init 0.1.1 init 0.1 init 0.1.0 init 0.0; r record x:1 y:10; q record w:2 z:1;",
+        ),
+        (
+            "type i = inport of r { case(s.v, q), init(u), case(u, p), case(s.v, q), case(t, q) }; type r = record { u: w, s: n, t: w }; type n = record { v: w }; type w = variant { p: integer, q: string };",
+            "table i inport 9 case 0.1.0=1 init 0.0 case 0.0=0 case 0.2=1; r record u:11 s:10 t:11; n record v:11; w variant p:1 q:2;",
         ),
         (
             "type i = inport of r { case(s.v, q), case(u, p) }; type r = record { u: w, s: n }; type n = record { v: w }; type w = variant { p: integer, q: string };",

@@ -17,6 +17,13 @@ turned f g = by (same_fact f g) (same_fact g f) refl refl
     by true false e h = sym (same_fact_self g) ∙ subst (λ x. same_fact g x ≡ false) (same_fact-is f g e) h
     by false true e h = sym e ∙ subst (λ x. same_fact x g ≡ true) (same_fact-is g f h) (same_fact_self g)
 
+any-turned : (x : Fact) (fs : List Fact) → any_pass (same_fact x) fs ≡ any_pass (λ g. same_fact g x) fs
+any-turned x [] = refl
+any-turned x (g ∷ fs) = ap₂ (λ a b. a || b) (turned x g) (any-turned x fs)
+
+one-more : (xs : List Fact) (x : Fact) → without_repeats (xs ++ x ∷ []) ≡ without_repeats xs ++ cond (any_pass (λ g. same_fact g x) (without_repeats xs)) [] (x ∷ [])
+one-more xs x = repeats-more xs x ∙ ap (λ b. without_repeats xs ++ cond b [] (x ∷ [])) (any-turned x (without_repeats xs))
+
 -- what is in a set already is in it when it is added once more
 pub held_already : (has : Fact → Bool) (x f : Fact) → has x ≡ true → has f ≡ (same_fact f x || has f)
 held_already has x f h = by (same_fact f x) refl
@@ -47,7 +54,7 @@ either false false = refl
 pub pushed_more : (has more : Fact → Bool) (x : Fact) (pushed new facts : List Fact) → ((f : Fact) → more f ≡ (same_fact f x || has f)) → new ≡ pushed ++ cond (has x) [] (x ∷ []) → IsPushed has pushed facts → IsPushed more new (facts ++ x ∷ [])
 pushed_more has more x pushed new facts add is p = record {
   tells = λ f. add f ∙ (by f (has x) refl ∙ ap (any_pass (λ g. same_fact g f)) (sym is));
-  once = is ∙ (ap₂ (λ b fs. fs ++ cond b [] (x ∷ [])) (p.tells x ∙ ap (any_pass (λ g. same_fact g x)) p.once) p.once ∙ sym (repeats-more facts x));
+  once = is ∙ (ap₂ (λ b fs. fs ++ cond b [] (x ∷ [])) (p.tells x ∙ ap (any_pass (λ g. same_fact g x)) p.once) p.once ∙ sym (one-more facts x));
 }
   where
     by : (f : Fact) (b : Bool) → has x ≡ b → (same_fact f x || has f) ≡ any_pass (λ g. same_fact g f) (pushed ++ cond b [] (x ∷ []))
@@ -56,7 +63,7 @@ pushed_more has more x pushed new facts add is p = record {
 
 -- the same where the facts that were pushed are themselves looked through
 pub pushed_once : (pushed new facts : List Fact) (x : Fact) → new ≡ pushed ++ cond (any_pass (λ g. same_fact g x) pushed) [] (x ∷ []) → pushed ≡ without_repeats facts → new ≡ without_repeats (facts ++ x ∷ [])
-pushed_once pushed new facts x is e = is ∙ (ap (λ fs. fs ++ cond (any_pass (λ g. same_fact g x) fs) [] (x ∷ [])) e ∙ sym (repeats-more facts x))
+pushed_once pushed new facts x is e = is ∙ (ap (λ fs. fs ++ cond (any_pass (λ g. same_fact g x) fs) [] (x ∷ [])) e ∙ sym (one-more facts x))
 
 -- a fact at a place that passes the test is among them
 pub one-passes : {X : Type 0} (test : Fact → Bool) (view : X → Fact) (xs : List X) (i : ℕ) (x : X) → i < length xs → x ≡ get_or xs i x → test (view x) ≡ true → any_pass test (map view xs) ≡ true
@@ -90,7 +97,7 @@ in-some f (g ∷ fs) (inr h) = by (same_fact g f) (in-some f fs h)
 absorbed : (facts more : List Fact) → ((g : Fact) → IsIn g more → IsIn g (without_repeats facts)) → without_repeats facts ≡ without_repeats (facts ++ more)
 absorbed facts [] all = ap without_repeats (sym (append-nil facts))
 absorbed facts (x ∷ more) all =
-    let same : without_repeats facts ≡ without_repeats (facts ++ x ∷ []) = sym (repeats-more facts x ∙ (ap (λ b. without_repeats facts ++ cond b [] (x ∷ [])) (in-some x (without_repeats facts) (all x (inl refl))) ∙ append-nil (without_repeats facts))) in
+    let same : without_repeats facts ≡ without_repeats (facts ++ x ∷ []) = sym (one-more facts x ∙ (ap (λ b. without_repeats facts ++ cond b [] (x ∷ [])) (in-some x (without_repeats facts) (all x (inl refl))) ∙ append-nil (without_repeats facts))) in
     same ∙ (absorbed (facts ++ x ∷ []) more (λ g h. subst (IsIn g) same (all g (inr h))) ∙ ap without_repeats (append_assoc facts (x ∷ []) more))
 
 pub pushed_already : (has : Fact → Bool) (pushed facts more : List Fact) → ((g : Fact) → IsIn g more → IsIn g pushed) → IsPushed has pushed facts → IsPushed has pushed (facts ++ more)

@@ -6,9 +6,10 @@ use Rattle.herm_model.specs.Lists.{IsIn, map_or}
 use Rattle.herm_model.specs.Paths.{Fact, init, case}
 use Rattle.herm_model.specs.Types as types
 use Rattle.herm_model.specs.Types.{TypeTable, named_types, full_parts, part_paths, greatest_depth}
-use Rattle.herm_model.specs.Facts.{full_facts, component_count}
+use Rattle.herm_model.specs.Facts.{full_facts, without_repeats, component_count}
 use Rattle.herm_model.specs.TypedExpressions.{HasShape}
 use Rattle.herm_model.specs.WellFormedTables.{IsType, field_type, field_below, IsFieldPath, IsOfField, IsOfFullField}
+use Rattle.herm_model.proofs.ClosedFacts.{once-IsIn, IsIn-once}
 use Rattle.herm_model.proofs.Lists.{cons-not_nil, cons-head, cons-tail, in-map_from, in-flat_map, in-flat_map_from}
 use Rattle.herm_model.proofs.Options.{some-injective, none-not_some}
 use Rattle.herm_syntax.specs.Trees.{Letters, DeclaredFact, InitFact, FullFact, CaseFact}
@@ -136,8 +137,14 @@ module _ (o : NamedTable) (full : TypeTable) (sound : IsSound o full) where
     full-same t p = ap (map (λ q. init (p ++ q))) (ap (λ ss. part_paths full_parts ss t) sound.same ∙ steps-bare full full_parts bare-full greatest_depth t)
 
     module _ (facts : List DeclaredFact) (right : (f : DeclaredFact) → IsIn f facts → IsBadFact o message f → ⊥) where
+      abbrev listed : List Fact
+      listed = flat_map (fact_meant o message) facts
+
       abbrev declared : List Fact
-      declared = flat_map (fact_meant o message) facts
+      declared = without_repeats listed
+
+      listed-from : (f : Fact) → IsIn f declared → (d : DeclaredFact) × IsIn d facts × IsIn f (fact_meant o message d)
+      listed-from f h = in-flat_map_from (fact_meant o message) f facts (once-IsIn f listed h)
 
       of-one : (d : DeclaredFact) → IsIn d facts → (f : Fact) → IsIn f (fact_meant o message d) → IsOfField full message f ⊎ IsOfFullField full message declared f
       of-one (InitFact p) i f h = by (walk_fields o message p) refl h
@@ -153,7 +160,7 @@ module _ (o : NamedTable) (full : TypeTable) (sound : IsSound o full) where
           by (ended ps t) e k =
               let same = full-same t (0 ∷ ps) in
               let meant : fact_meant o message (FullFact p) ≡ full_facts full t (0 ∷ ps) = ap (λ w. at_end w (λ places t. full_facts o.shapes t (0 ∷ places))) e ∙ same in
-              inr ((0 ∷ ps), t, field-path p ps t e, subst (IsIn f) same k, λ g j. in-flat_map (fact_meant o message) (FullFact p) g facts i (subst (IsIn g) (sym meant) j))
+              inr ((0 ∷ ps), t, field-path p ps t e, subst (IsIn f) same k, λ g j. IsIn-once g listed (in-flat_map (fact_meant o message) (FullFact p) g facts i (subst (IsIn g) (sym meant) j)))
           by left_fields e k = absurd k
           by met_unknown e k = absurd k
       of-one (CaseFact p c) i f h = by (walk_fields o message p) refl h
@@ -175,7 +182,7 @@ module _ (o : NamedTable) (full : TypeTable) (sound : IsSound o full) where
           by met_unknown e k = absurd k
 
       pub of-fields : (f : Fact) → IsIn f declared → IsOfField full message f ⊎ IsOfFullField full message declared f
-      of-fields f h = let from = in-flat_map_from (fact_meant o message) f facts h in of-one from.0 from.1 f from.2
+      of-fields f h = let from = listed-from f h in of-one from.0 from.1 f from.2
 
       -- where a case comes from
       abbrev FromCase : List ℕ → ℕ → DeclaredFact → Type 0
@@ -205,9 +212,9 @@ module _ (o : NamedTable) (full : TypeTable) (sound : IsSound o full) where
 
       pub one-case : (HasTwoCases o message facts → ⊥) → (p : List ℕ) (c d : ℕ) → IsIn (case p c) declared → IsIn (case p d) declared → c ≡ d
       one-case apart p c d h k =
-          let from = in-flat_map_from (fact_meant o message) (case p c) facts h in
+          let from = listed-from (case p c) h in
           let one = case-from from.0 from.1 p c from.2 in
-          let from' = in-flat_map_from (fact_meant o message) (case p d) facts k in
+          let from' = listed-from (case p d) k in
           let two = case-from from'.0 from'.1 p d from'.2 in
           let places : two.2 ≡ one.2 = cons-tail (sym two.6 ∙ one.6) in
           let two_ended : walk o message two.0 ≡ ended one.2 two.3 = two.5 ∙ ap (λ ps. ended ps two.3) places in

@@ -4,7 +4,7 @@ use Rattle.std.specs.Str.{bytes_eq}
 use Rattle.std.specs.List.{list_any}
 use Rattle.herm_model.specs.Paths.{Fact, init, case}
 use Rattle.herm_model.specs.Types as types
-use Rattle.herm_model.specs.Facts.{full_facts}
+use Rattle.herm_model.specs.Facts.{full_facts, without_repeats}
 use Rattle.herm_syntax.specs.Trees.{Letters, Mode, In, Inout, Out, Param, Raising, DeclaredFact, InitFact, FullFact, CaseFact, Shape, Names, Fields, Cases, Rows, Inport, Outport, CallMessage}
 use Rattle.herm_meaning.specs.Names.{NamedTable, behind_predefined, predefined_names, predefined_exception_names}
 use Rattle.herm_meaning.specs.Walks.{place_of, parts_of, at_end, walk_fields}
@@ -77,10 +77,11 @@ fact_meant table message (InitFact p) = at_end (walk_fields table message p) (λ
 fact_meant table message (FullFact p) = at_end (walk_fields table message p) (λ places t. full_facts table.shapes t (0 ∷ places))
 fact_meant table message (CaseFact p c) = at_end (walk_fields table message p) (λ places t. case (0 ∷ places) (place_of (parts_of table t) c) ∷ [])
 
--- the shape with its key, its declared facts and its kept parameters, which are looked up in an outline
+-- The shape with its key, its declared facts and its kept parameters, which are looked up in an outline. Declared facts say a set: each
+-- fact stands once, where it is listed first.
 abbrev pub meant_shape : NamedTable → Shape → types.Shape
 meant_shape table (Rows row keys) = types.rows (place_of table.names row) (map (place_of (parts_of table (place_of table.names row))) keys)
-meant_shape table (Inport message facts) = types.inport (place_of table.names message) (flat_map (fact_meant table (place_of table.names message)) facts)
+meant_shape table (Inport message facts) = types.inport (place_of table.names message) (without_repeats (flat_map (fact_meant table (place_of table.names message)) facts))
 meant_shape table (CallMessage params raises) = meant_call table.names table.exceptions params raises
 meant_shape table s = numbered_shape table.names table.exceptions s
 

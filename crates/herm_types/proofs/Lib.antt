@@ -5,3 +5,4 @@ pub mod Walks
 pub mod Few
 pub mod PathFacts
 pub mod Repeats
+pub mod ClosedLists

@@ -1,12 +1,13 @@
 -- Facts are compared, and those that stand before are left out.
-use Rattle.std.proofs.Common.{◌≡◌, ℕ, zero, suc, ◌+◌, ◌-◌, List, [], ◌∷◌, ◌++◌, Bool, true, false, cond, not, ◌&&◌, ◌||◌, map, filter, length, take, slice_get, nat_eq, refl, sym, ◌∙◌, ap, ap₂, subst, arith, IsTrue}
-use Rattle.std.specs.List.{list_any}
+use Rattle.std.proofs.Common.{inl, inr, append_assoc, append-nil, ◌≡◌, ℕ, zero, suc, ◌+◌, ◌-◌, List, [], ◌∷◌, ◌++◌, Bool, true, false, cond, not, ◌&&◌, ◌||◌, map, filter, length, take, slice_get, nat_eq, refl, sym, ◌∙◌, ap, ap₂, subst, arith, IsTrue}
 use lib.Pointwise.{pointwise}
-use Rattle.herm_model.specs.Lists.{same_numbers, any_pass}
+use Rattle.herm_model.specs.Lists.{IsIn, same_numbers, any_pass}
 use Rattle.herm_model.specs.Paths.{Fact, init, same_fact, parent}
 use Rattle.herm_model.specs.Types.{TypeTable}
 use Rattle.herm_model.specs.Facts.{without_repeats, facts_from, prefixes}
-use Rattle.herm_model.proofs.Equality.{same_fact-is}
+use Rattle.herm_model.proofs.Equality.{same_fact-is, same_fact_self}
+use Rattle.herm_model.proofs.Lists.{in-append_left}
+use Rattle.herm_model.proofs.ClosedFacts.{IsIn-once}
 use Rattle.herm_types.proofs.Extended.{map-append}
 
 pub same-slices : (a b : List ℕ) → pointwise nat_eq a b ≡ same_numbers a b
@@ -14,10 +15,6 @@ same-slices [] [] = refl
 same-slices [] (y ∷ b) = refl
 same-slices (x ∷ a) [] = refl
 same-slices (x ∷ a) (y ∷ b) = ap (λ t. nat_eq x y && t) (same-slices a b)
-
-pub any-some : {X Y : Type 0} (test : Y → Bool) (f : X → Y) (xs : List X) → list_any (λ x. test (f x)) xs ≡ any_pass test (map f xs)
-any-some test f [] = refl
-any-some test f (x ∷ xs) = rw (any-some test f xs) refl
 
 parent-take : (i : ℕ) (p : List ℕ) → parent (i ∷ p) ≡ take (length p) (i ∷ p)
 parent-take i [] = refl
@@ -53,12 +50,44 @@ last-kept f x true false e = rw e refl
 last-kept f x false true e = refl
 last-kept f x false false e = rw e refl
 
+or-true : (b : Bool) → (b || true) ≡ true
+or-true true = refl
+or-true false = refl
+
+any-true : (f : Fact) (fs : List Fact) → IsIn f fs → any_pass (same_fact f) fs ≡ true
+any-true f [] h = absurd h
+any-true f (g ∷ fs) (inl e) = rw (subst (λ x. same_fact f x ≡ true) e (same_fact_self f)) refl
+any-true f (g ∷ fs) (inr h) = ap (λ b. same_fact f g || b) (any-true f fs h) ∙ or-true (same_fact f g)
+
+pub any-in : (f : Fact) (fs : List Fact) → any_pass (same_fact f) fs ≡ true → IsIn f fs
+any-in f [] e = absurd cc
+any-in f (g ∷ fs) e = by (same_fact f g) refl (any-in f fs) e
+  where
+    by : (b : Bool) → same_fact f g ≡ b → (any_pass (same_fact f) fs ≡ true → IsIn f fs) → (b || any_pass (same_fact f) fs) ≡ true → IsIn f (g ∷ fs)
+    by true s again h = inl (same_fact-is f g s)
+    by false s again h = inr (again h)
+
+together : (a b : Bool) → (a ≡ true → b ≡ true) → (b ≡ true → a ≡ true) → a ≡ b
+together true b f g = sym (f refl)
+together false true f g = g refl
+together false false f g = refl
+
+turned : (f g : Fact) → same_fact f g ≡ same_fact g f
+turned f g = together (same_fact f g) (same_fact g f) (one f g) (one g f)
+  where
+    one : (f g : Fact) → same_fact f g ≡ true → same_fact g f ≡ true
+    one f g e = subst (λ x. same_fact x f ≡ true) (same_fact-is f g e) (same_fact_self f)
+
+any-turned : (x : Fact) (fs : List Fact) → any_pass (λ g. same_fact g x) fs ≡ any_pass (same_fact x) fs
+any-turned x [] = refl
+any-turned x (g ∷ fs) = ap₂ (λ a b. a || b) (turned g x) (any-turned x fs)
+
 -- one fact more
-pub repeats-more : (xs : List Fact) (x : Fact) → without_repeats (xs ++ x ∷ []) ≡ without_repeats xs ++ cond (any_pass (λ g. same_fact g x) (without_repeats xs)) [] (x ∷ [])
-repeats-more [] x = refl
-repeats-more (f ∷ xs) x =
+repeats-one : (xs : List Fact) (x : Fact) → without_repeats (xs ++ x ∷ []) ≡ without_repeats xs ++ cond (any_pass (λ g. same_fact g x) (without_repeats xs)) [] (x ∷ [])
+repeats-one [] x = refl
+repeats-one (f ∷ xs) x =
     ap (f ∷◌)
-    (ap (filter (λ g. not (same_fact f g))) (repeats-more xs x)
+    (ap (filter (λ g. not (same_fact f g))) (repeats-one xs x)
     ∙ (filter-append (λ g. not (same_fact f g)) (without_repeats xs) (cond (any_pass (λ g. same_fact g x) (without_repeats xs)) [] (x ∷ []))
     ∙ ap (filter (λ g. not (same_fact f g)) (without_repeats xs) ++◌) (by (same_fact f x) refl)))
   where
@@ -66,6 +95,19 @@ repeats-more (f ∷ xs) x =
     by true e = last-kept f x true _ e ∙ rw e refl
     by false e = last-kept f x false _ e ∙ rw (e, some-filter f x (without_repeats xs) e) refl
 
+pub repeats-more : (xs : List Fact) (x : Fact) → without_repeats (xs ++ x ∷ []) ≡ without_repeats xs ++ cond (any_pass (same_fact x) (without_repeats xs)) [] (x ∷ [])
+repeats-more xs x = repeats-one xs x ∙ ap (λ b. without_repeats xs ++ cond b [] (x ∷ [])) (any-turned x (without_repeats xs))
+
 -- the loop's step
-pub repeats-step : {X : Type 0} (view : X → Fact) (seen : List X) (x : X) (out : List Fact) (new : List Fact) → out ≡ without_repeats (map view seen) → new ≡ out ++ cond (any_pass (λ g. same_fact g (view x)) out) [] (view x ∷ []) → new ≡ without_repeats (map view (seen ++ x ∷ []))
-repeats-step view seen x out new e n = n ∙ (rw (e, map-append view seen (x ∷ [])) (sym (repeats-more (map view seen) (view x))))
+pub repeats-step : {X : Type 0} (view : X → Fact) (before : List Fact) (seen : List X) (x : X) (out : List Fact) (new : List Fact) → out ≡ without_repeats (before ++ map view seen) → new ≡ out ++ cond (any_pass (same_fact (view x)) out) [] (view x ∷ []) → new ≡ without_repeats (before ++ map view (seen ++ x ∷ []))
+repeats-step view before seen x out new e n =
+    n ∙ (rw e (sym (repeats-more (before ++ map view seen) (view x))) ∙ ap without_repeats (append_assoc before (map view seen) (view x ∷ []) ∙ ap (before ++◌) (sym (map-append view seen (x ∷ [])))))
+
+-- facts that are all there add nothing
+pub nothing-new : (xs ys : List Fact) → ((g : Fact) → IsIn g ys → IsIn g xs) → without_repeats (xs ++ ys) ≡ without_repeats xs
+nothing-new xs [] all = ap without_repeats (append-nil xs)
+nothing-new xs (y ∷ ys) all =
+    ap without_repeats (sym (append_assoc xs (y ∷ []) ys))
+    ∙ (nothing-new (xs ++ y ∷ []) ys (λ g h. in-append_left g xs (y ∷ []) (all g (inr h)))
+    ∙ (repeats-more xs y
+    ∙ (ap (λ b. without_repeats xs ++ cond b [] (y ∷ [])) (any-true y (without_repeats xs) (IsIn-once y xs (all y (inl refl)))) ∙ append-nil (without_repeats xs))))

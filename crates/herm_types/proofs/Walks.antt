@@ -44,7 +44,7 @@ part-within c (suc d) table t s i u w e h =
     let less : d ≡ suc d - 1 = omega arith in
     subst (λ n. IsTrue (is_within_depth n table u)) less (every-in (is_within_depth d table) u (named_types s) all (chosen-named c s i u h))
 
-flat-snoc : {X Y : Type 0} (f : X → List Y) (xs : List X) (x : X) → flat_map f (xs ++ x ∷ []) ≡ flat_map f xs ++ f x
+pub flat-snoc : {X Y : Type 0} (f : X → List Y) (xs : List X) (x : X) → flat_map f (xs ++ x ∷ []) ≡ flat_map f xs ++ f x
 flat-snoc f [] x = append-nil (f x)
 flat-snoc f (y ∷ ys) x = ap (f y ++◌) (flat-snoc f ys x) ∙ sym (append_assoc (f y) (flat_map f ys) (f x))
 

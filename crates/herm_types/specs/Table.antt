@@ -5,9 +5,13 @@ use Rattle.herm_model.specs.Copyable as copyable
 use Rattle.herm_model.specs.Lists.{map_or, all_pass}
 use Rattle.herm_syntax.specs.Trees.{Letters}
 use Rattle.herm_meaning.specs.Names.{NamedTable, behind_predefined, IsWellNamed}
+use Rattle.std.specs.declared.vec.Vec.{Vec}
+use Rattle.std.specs.declared.alloc.Global.{Global}
+use Rattle.herm_types.specs.declared.fact.Fact.{Fact}
 use Rattle.herm_types.specs.declared.shape.Shape.{Shape}
 use Rattle.herm_types.specs.declared.table.TypeTable.TheInside.{Inside}
-use Rattle.herm_types.specs.View.{shape_view, parts_view}
+use Rattle.herm_types.specs.View.{shape_view, parts_view, fact_view}
+use Rattle.herm_types.specs.Messages.{closed_list_of}
 
 -- the shapes of the model
 abbrev pub shapes_view : List Shape → types.TypeTable
@@ -36,15 +40,21 @@ copies tests s = copyable.is_plain s || (copyable.is_composed s && all_pass (say
 abbrev pub SayCopyable : ℕ → types.TypeTable → List Bool → Type 0
 SayCopyable n table tests = (t : ℕ) → says tests t ≡ copyable.is_copyable_within n table t
 
+-- each type has what is closed of what it lists
+abbrev pub AreDeclared : List Shape → List (Vec Fact Global) → Type 0
+AreDeclared shapes declared = map (λ v. map fact_view v.items) declared ≡ map (λ s. closed_list_of (shapes_view shapes) (shape_view s)) shapes
+
 -- the numbers of types are of 32 bits, and those of each type's parts
 pub record IsSized (t : NamedTable) : Type 0 where
   pub few : length t.shapes < 2 ^ 32
   pub few_parts : (t' : ℕ) (names : List Letters) → slice_get t.parts t' ≡ Some names → length names < 2 ^ 32
 
--- A table is well formed, its names are found by their bytes, and its tests say which types are copyable.
+-- A table is well formed, its names are found by their bytes, its tests say which types are copyable, and what each type
+-- lists is closed.
 pub record IsKept (a : Inside) : Type 0 where
   pub well_named : IsWellNamed (type_table_view a)
   pub sized : IsSized (type_table_view a)
   pub tested : length a.copyable.items ≡ length a.shapes.items
   pub indexed : map (λ k. k.items) a.index.keys ≡ a.names.items
   pub copyable : SayCopyable types.greatest_depth (shapes_view a.shapes.items) a.copyable.items
+  pub declared : AreDeclared a.shapes.items a.declared.items

@@ -6,6 +6,7 @@ ghost use Rattle.herm_types.specs.Table.{table_of, defined_table, IsSized};
 
 use crate::copyable::copyable_of;
 use crate::copying::{copy_shapes, copy_words};
+use crate::declared::all_declared;
 use crate::predefined::{predefined_exceptions, predefined_names, predefined_shapes};
 use crate::shape::Shape;
 use crate::table::TypeTable;
@@ -38,6 +39,7 @@ pub fn assemble(
     ensures { IfOk result (λ t. t ≡ table_of names.items shapes.items exceptions.items) }
 {
     let copyable = copyable_of(alloc, shapes.as_slice())?;
+    let declared = all_declared(alloc, shapes.as_slice())?;
     let index = index_of(alloc, names.as_slice())?;
     Ok(TypeTable {
         names,
@@ -45,6 +47,7 @@ pub fn assemble(
         shapes,
         exceptions,
         copyable,
+        declared,
     })
 }
 

@@ -2,14 +2,14 @@
 use herm_base::VarNo;
 
 /// Where a value is: a variable, then the parts to go down.
-#[derive(Drop)]
+#[derive(Drop, PartialEq, Eq, Hash)]
 pub struct Path {
     pub var: VarNo,
     pub parts: Vec<u32>,
 }
 
 /// What is known of a path: that it holds a value, or that its value has this component.
-#[derive(Drop)]
+#[derive(Drop, PartialEq, Eq, Hash)]
 pub enum Fact {
     Init(Path),
     Case(Path, u32),

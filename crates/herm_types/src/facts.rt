@@ -8,7 +8,7 @@ ghost use Rattle.herm_types.specs.Chosen.{lists};
 ghost use Rattle.herm_types.specs.Messages.{IsInport, number_of};
 
 use crate::fact::{Fact, Path};
-use crate::messages::{all_said, listed, push_facts_to, without_repeats};
+use crate::messages::{all_said, push_facts_to};
 use crate::paths::{Choice, paths_from};
 use crate::shape::Shape;
 use crate::table::TypeTable;
@@ -91,9 +91,8 @@ impl TypeTable {
                     let full = self.full_facts(alloc, p, *message)?;
                     return Ok(full);
                 }
-                let listed = listed(alloc, self.shapes.as_slice(), *message, facts.as_slice())?;
-                let distinct = without_repeats(alloc, listed)?;
-                let said = all_said(alloc, p, distinct.as_slice())?;
+                let declared = &self.declared[port.0 as usize];
+                let said = all_said(alloc, p, declared.as_slice())?;
                 Ok(said)
             }
             _ => Ok(Vec::new(alloc)),

@@ -4,6 +4,7 @@
 mod build;
 mod copyable;
 mod copying;
+mod declared;
 mod fact;
 mod facts;
 mod messages;

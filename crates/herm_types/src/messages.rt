@@ -1,8 +1,6 @@
 //! The facts at which messages travel.
-ghost use Rattle.std.specs.Prelude.{◌≡◌, ◌++◌, [], ◌∷◌, false, IfOk, OnOk, map, cond, slice_get, option_map, Some, flat_map};
-ghost use Rattle.std.specs.List.{list_any};
+ghost use Rattle.std.specs.Prelude.{◌≡◌, ◌++◌, [], ◌∷◌, false, IfOk, OnOk, map, cond, slice_get, option_map, Some};
 ghost use Rattle.herm_model.specs.Paths as model;
-ghost use Rattle.herm_model.specs.Lists.{any_pass};
 ghost use Rattle.herm_model.specs.Types as types;
 ghost use Rattle.herm_model.specs.Facts as facts;
 ghost use Rattle.herm_types.specs.View.{path_view, fact_view, shape_view};
@@ -172,7 +170,7 @@ fn push_prefixes(
 }
 
 /// Appends a fact, and the facts before it in front.
-fn push_with_prefixes(
+pub fn push_with_prefixes(
     alloc: Global,
     shapes: &[Shape],
     message: TypeNo,
@@ -185,83 +183,6 @@ fn push_with_prefixes(
     let copy = copy_fact(alloc, fact)?;
     out.push(copy)?;
     Ok(())
-}
-
-/// `init` of the message, and the listed facts, each behind those before it.
-pub fn listed(
-    alloc: Global,
-    shapes: &[Shape],
-    message: TypeNo,
-    declared: &[Fact],
-) -> Result<Vec<Fact>, AllocError>
-    ensures { IfOk result (λ v. map fact_view v.items ≡ model.init (0 ∷ []) ∷ flat_map (facts.with_prefixes (shapes_view shapes.now) (message.0 ∷ [])) (map fact_view declared.now)) }
-{
-    let mut out = Vec::new(alloc);
-    let parts = Vec::new(alloc);
-    out.push(Fact::Init(Path {
-        var: VarNo(0),
-        parts,
-    }))?;
-    for fact in declared {
-        push_with_prefixes(alloc, shapes, message, fact, &mut out)?;
-    }
-    Ok(out)
-}
-
-fn same_path(a: &Path, b: &Path) -> bool
-    ensures { result ≡ model.same_path (path_view a.now) (path_view b.now) }
-{
-    a.var == b.var && a.parts.as_slice() == b.parts.as_slice()
-}
-
-fn same_fact(a: &Fact, b: &Fact) -> bool
-    ensures { result ≡ model.same_fact (fact_view a.now) (fact_view b.now) }
-{
-    match a {
-        Fact::Init(p) => match b {
-            Fact::Init(q) => same_path(p, q),
-            Fact::Case(_, _) => false,
-        },
-        Fact::Case(p, c) => match b {
-            Fact::Init(_) => false,
-            Fact::Case(q, d) => same_path(p, q) && *c == *d,
-        },
-    }
-}
-
-fn any_same(list: &[Fact], fact: &Fact) -> bool
-    ensures { result ≡ list_any (λ f. model.same_fact (fact_view f) (fact_view fact.now)) list.now }
-{
-    list.iter().any(|other| same_fact(other, fact))
-}
-
-/// Whether a fact is in the list.
-fn is_listed(list: &[Fact], fact: &Fact) -> bool
-    ensures { result ≡ any_pass (λ f. model.same_fact f (fact_view fact.now)) (map fact_view list.now) }
-{
-    any_same(list, fact)
-}
-
-/// Appends a fact that is not yet in the list.
-fn push_new(list: &mut Vec<Fact>, fact: Fact) -> Result<(), AllocError>
-    ensures { OnOk result (map fact_view list.new.items ≡ map fact_view list.old.items ++ cond (any_pass (λ f. model.same_fact f (fact_view fact)) (map fact_view list.old.items)) [] (fact_view fact ∷ [])) }
-{
-    if is_listed(list.as_slice(), &fact) {
-        return Ok(());
-    }
-    list.push(fact)?;
-    Ok(())
-}
-
-/// The facts without those that stand before.
-pub fn without_repeats(alloc: Global, list: Vec<Fact>) -> Result<Vec<Fact>, AllocError>
-    ensures { IfOk result (λ v. map fact_view v.items ≡ facts.without_repeats (map fact_view list.items)) }
-{
-    let mut out = Vec::new(alloc);
-    for fact in list {
-        push_new(&mut out, fact)?;
-    }
-    Ok(out)
 }
 
 /// A fact of variable 0, said of the value at a path.

@@ -7,6 +7,7 @@ ghost use Rattle.herm_model.specs.Copyable.{IsCopyable};
 ghost use Rattle.herm_meaning.specs.Names.{IsWellNamed};
 ghost use Rattle.herm_types.specs.Table.{IsSized};
 
+use crate::fact::Fact;
 use crate::shape::Shape;
 use herm_base::{TypeNo, Word};
 use indexmap::IndexSet;
@@ -20,6 +21,7 @@ pub struct TypeTable {
     pub(crate) shapes: Vec<Shape>,
     pub(crate) exceptions: Vec<Word>,
     pub(crate) copyable: Vec<bool>,
+    pub(crate) declared: Vec<Vec<Fact>>,
 }
 
 impl Model for TypeTable {

@@ -84,11 +84,22 @@ pub fn kill(trees: &mut Vec<Tree>, at: u32, rest: &[u32])
     }
 }
 
+/// Makes room for the trees up to a place and no more, where there is none yet.
+fn make_room(trees: &mut Vec<Tree>, at: u32) -> Result<(), AllocError>
+    ensures { trees.new.items ≡ trees.old.items }
+{
+    if trees.is_empty() {
+        trees.reserve_exact(at as usize + 1)?;
+    }
+    Ok(())
+}
+
 /// Appends trees without marks until there is one at the place.
 fn reach(alloc: Global, trees: &mut Vec<Tree>, at: u32) -> Result<(), AllocError>
     ensures kept { (m : Sign) (q : List ℕ) → has_mark trees.new.items m q ≡ has_mark trees.old.items m q }
     ensures reached { OnOk result (at < length trees.new.items) }
 {
+    make_room(trees, at)?;
     while trees.len() <= at as usize {
         trees.push(nothing_known(alloc))?;
     }
