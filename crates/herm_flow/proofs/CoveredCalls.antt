@@ -25,25 +25,13 @@ use Rattle.herm_flow.specs.Edges.{an_exit, exits_from, edge_at}
 use Rattle.herm_flow.specs.NumberTables.{point_of}
 use Rattle.herm_flow.specs.Onward.{is_node, leads_on, ArePicked, none, picked, passed, IsCovered, AreOnwardEdges}
 use Rattle.herm_flow.specs.Kept.{goes_on}
-use Rattle.herm_flow.specs.CoveredExceptions.{makes_by, HaveOwnRoots, raised_numbers, AreOnwardNumbers, IsOnwardCall}
+use Rattle.herm_flow.specs.Touched.{makes_by}
+use Rattle.herm_flow.specs.CoveredExceptions.{raised_numbers, AreCallNumbers, IsOnwardCall}
+use Rattle.herm_flow.proofs.Tests.{any-flat}
 use Rattle.herm_flow.proofs.Rising.{rising-Rise, rising-IsIn, in-rising}
 use Rattle.herm_flow.proofs.KeptEdges.{same-self, picked-append, picked-through, covered-through}
-use Rattle.herm_flow.proofs.Roots.{made-once}
 
--- ---- tests of lists
-
-module _ {X : Type 0} (test : X → Bool) where
-  any-append : (xs ys : List X) → any_pass test (xs ++ ys) ≡ (any_pass test xs || any_pass test ys)
-  any-append [] ys = refl
-  any-append (x ∷ xs) ys = go (test x) (any-append xs ys)
-    where
-      go : (b : Bool) → any_pass test (xs ++ ys) ≡ (any_pass test xs || any_pass test ys) → (b || any_pass test (xs ++ ys)) ≡ ((b || any_pass test xs) || any_pass test ys)
-      go true again = refl
-      go false again = again
-
-any-flat : {X Y : Type 0} (test : Y → Bool) (f : X → List Y) (xs : List X) → any_pass test (flat_map f xs) ≡ any_pass (λ x. any_pass test (f x)) xs
-any-flat test f [] = refl
-any-flat test f (x ∷ xs) = any-append test (f x) (flat_map f xs) ∙ ap (λ b. any_pass test (f x) || b) (any-flat test f xs)
+-- ---- tests of facts
 
 same-tests : (a b : Bool) → (a ≡ true → b ≡ true) → (b ≡ true → a ≡ true) → a ≡ b
 same-tests true b f g = sym (f refl)
@@ -52,10 +40,6 @@ same-tests false false f g = refl
 
 any-once : (f : Fact) (fs : List Fact) → any_pass (same_fact f) (without_repeats fs) ≡ any_pass (same_fact f) fs
 any-once f fs = same-tests _ _ (λ h. IsIn-listed f fs (once-IsIn f fs (listed-IsIn f (without_repeats fs) h))) (λ h. IsIn-listed f (without_repeats fs) (IsIn-once f fs (listed-IsIn f fs h)))
-
-none-passes : (ks : List ℕ) → any_pass (λ k. false) ks ≡ false
-none-passes [] = refl
-none-passes (k ∷ ks) = none-passes ks
 
 -- ---- rising numbers among rising ones
 
@@ -134,19 +118,17 @@ module _ (table : TypeTable) (variables : List ℕ) (o : TypedPath) (arguments :
   raised-edges [] leads = refl
   raised-edges (e ∷ es) leads = ap (edge_by e ∷◌) (raised-edges es leads)
 
-  module _ (single : Bool) (ns : List ℕ) (own : single ≡ true → HaveOwnRoots atoms) (onward : AreOnwardNumbers catches raises single ns) where
+  module _ (ns : List ℕ) (onward : AreCallNumbers table variables atoms catches raises ns) where
     number-covers : (e : ℕ) → IsIn e (raised_numbers raises) → goes_on catches e ≡ true → (f : Fact) (held : Bool) → held_after_edge (edge_by e) f held ≡ false → (d : ℕ) × IsIn d ns × (caught catches d ≡ caught catches e) × (held_after_edge (edge_by d) f held ≡ false)
     number-covers e m on f held lost =
         let both = not-held (any_pass (same_fact f) (edge_by e).makes) (left_held f held) lost in
-        let by = onward.covered e m on (makes_by table variables atoms f) (λ s. made-once table variables atoms (own s) f) (sym (makes-any f e) ∙ both.0) in
+        let by = onward.lost e m on f (sym (makes-any f e) ∙ both.0) in
         (by.0, by.1, lead-same (caught catches by.0) (caught catches e) on by.2, ap (λ b. cond b true (left_held f held)) (makes-any f by.0 ∙ by.3) ∙ both.1)
 
     -- edges with those of the numbers cover that of each exception that leads on
     exception-covered : (es : List Edge) → ((d : ℕ) → IsIn d ns → IsIn (edge_by d) es) → (e : ℕ) → IsIn e (raised_numbers raises) → goes_on catches e ≡ true → IsCovered es (edge_by e)
     exception-covered es within e m on = record {
-      leads =
-          let by = onward.covered e m on (λ k. false) (λ s i j h k. cc) (none-passes (kept_for raises e)) in
-          (edge_by by.0, within by.0 by.1, lead-same (caught catches by.0) (caught catches e) on by.2);
+      leads = let by = onward.leads e m on in (edge_by by.0, within by.0 by.1, lead-same (caught catches by.0) (caught catches e) on by.2);
       lost = λ f held h. let by = number-covers e m on f held h in (edge_by by.0, within by.0 by.1, by.2, by.3);
     }
 
@@ -187,5 +169,5 @@ call_outcomes_onward table variables form o arguments list catches found e f c l
     Onward-of form = AreOnwardEdges left (map (edge_at table variables form) (exits_from found leads catches)) → AreOnwardEdges left (map (edge_at table variables form) (exits_from (outcomes_of table variables form) leads catches))
 
     from : Onward-of (Call o arguments)
-    from p = all-onward table variables o arguments catches c.covering.single c.numbers (λ s. subst (λ xs. HaveOwnRoots (map typed_atom_view xs)) f (c.covering.own s)) c.covering.onward leads left
+    from p = all-onward table variables o arguments catches c.numbers (subst (λ xs. AreCallNumbers table variables (map typed_atom_view xs) catches (call_raises table variables (typed_path_view o)) c.numbers) f c.covering) leads left
         (subst (λ os. AreOnwardEdges left (map (edge_at table variables (Call o arguments)) (exits_from os leads catches))) c.outcomes_are p)

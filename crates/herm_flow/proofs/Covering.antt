@@ -4,7 +4,8 @@ use Rattle.herm_model.specs.Lists.{IsIn, any_pass}
 use Rattle.herm_model.specs.laws.FlowLaws.{Rise}
 use Rattle.herm_model.proofs.Lists.{in-append_cases, in-append_left, in-append_right, or-either, or-left, or-right, not_true}
 use Rattle.herm_flow.specs.declared.calls.Head.{Head}
-use Rattle.herm_flow.specs.CoveredExceptions.{IsOneAtMost, AreCovering, AreHeads, AreFor, IsWithin, IsAdded}
+use Rattle.herm_flow.specs.Touched.{IsOneAtMost}
+use Rattle.herm_flow.specs.CoveredExceptions.{AreCovering, AreHeads, AreFor, IsWithin, IsAdded}
 
 -- ---- tests of lists
 
@@ -57,7 +58,7 @@ module _ (lead : ℕ → Option ℕ) (kept : ℕ → List ℕ) (single : Bool) w
           not-both (any_pass among ks) (any-in among ks i.0 (within i.0 i.1 (subst (λ n. IsIn n keeps) (sym same) j.1)) i.2) none
 
   pub heads-more : (ns ms : List ℕ) (heads : List Head) → ((m : ℕ) → IsIn m ns → IsIn m ms) → AreHeads lead kept single ns heads → AreHeads lead kept single ms heads
-  heads-more ns ms heads within are = λ h m. covering-more ns ms (Some h.point) h.keeps.items within (are h m)
+  heads-more ns ms heads within are = λ h m. covering-more ns ms (Some h.point) h.touched.items within (are h m)
 
   -- ---- an exception more
 
@@ -85,19 +86,19 @@ module _ (lead : ℕ → Option ℕ) (kept : ℕ → List ℕ) (single : Bool) w
       covered = λ are k. covering-own new e (kept e) (last is) (λ n m. m);
     }
 
-    pub added_covered : (has : Bool) (point : ℕ) (keeps : List ℕ) → lead e ≡ Some point → keeps ≡ kept e → IsWithin heads point keeps → new ≡ old → more ≡ heads → IsAdded lead kept single has e old new heads more
+    pub added_covered : (has : Bool) (point : ℕ) (keeps : List ℕ) → lead e ≡ Some point → ((n : ℕ) → IsIn n keeps → IsIn n (kept e)) → IsWithin heads point keeps → new ≡ old → more ≡ heads → IsAdded lead kept single has e old new heads more
     added_covered has point keeps l k within is same = record {
       numbers = inl is;
       heads_are = λ are. subst (AreHeads lead kept single new) (sym same) (subst (λ ns. AreHeads lead kept single ns heads) (sym is) are);
       covered = λ are has.
-          subst (λ ks. AreCovering lead kept single new (lead e) ks) k
+          covering-less new (lead e) keeps (kept e) k
           (subst (λ ns. AreCovering lead kept single ns (lead e) keeps) (sym is)
-          (covering-less old (lead e) within.0.keeps.items keeps within.3
-          (subst (λ p. AreCovering lead kept single old p within.0.keeps.items) (ap Some within.2 ∙ sym l) (are within.0 within.1))));
+          (covering-less old (lead e) within.0.touched.items keeps within.3
+          (subst (λ p. AreCovering lead kept single old p within.0.touched.items) (ap Some within.2 ∙ sym l) (are within.0 within.1))));
     }
 
-    pub added_noted : (has : Bool) (point : ℕ) (keeps ks : List ℕ) → has ≡ true → lead e ≡ Some point → keeps ≡ kept e → AreFor single heads point keeps ks
-        → ((h : Head) → IsIn h more → IsIn h heads ⊎ ((h.point ≡ point) × (h.keeps.items ≡ ks))) → new ≡ old ++ e ∷ [] → IsAdded lead kept single has e old new heads more
+    pub added_noted : (has : Bool) (point : ℕ) (keeps ks : List ℕ) → has ≡ true → lead e ≡ Some point → ((n : ℕ) → IsIn n (kept e) → IsIn n keeps) → AreFor single heads point keeps ks
+        → ((h : Head) → IsIn h more → IsIn h heads ⊎ ((h.point ≡ point) × (h.touched.items ≡ ks))) → new ≡ old ++ e ∷ [] → IsAdded lead kept single has e old new heads more
     added_noted has point keeps ks h l k for noted is = record {
       numbers = inr (h, is);
       heads_are = λ are g m. by are g (noted g m);
@@ -105,19 +106,19 @@ module _ (lead : ℕ → Option ℕ) (kept : ℕ → List ℕ) (single : Bool) w
     }
       where
         own : AreCovering lead kept single new (lead e) keeps
-        own = covering-own new e keeps (last is) (λ n m. subst (IsIn n) (sym k) m)
+        own = covering-own new e keeps (last is) k
 
         narrow : AreHeads lead kept single old heads → AreFor single heads point keeps ks → AreCovering lead kept single new (lead e) ks
         narrow are (inl within) = covering-less new (lead e) keeps ks within own
         narrow are (inr (s, (g, m, at, within))) =
-            covering-common new (lead e) g.keeps.items keeps ks s
-            (covering-more old new (lead e) g.keeps.items (behind is) (subst (λ p. AreCovering lead kept single old p g.keeps.items) (ap Some at ∙ sym l) (are g m)))
+            covering-common new (lead e) g.touched.items keeps ks s
+            (covering-more old new (lead e) g.touched.items (behind is) (subst (λ p. AreCovering lead kept single old p g.touched.items) (ap Some at ∙ sym l) (are g m)))
             own within
 
-        by : AreHeads lead kept single old heads → (g : Head) → IsIn g heads ⊎ ((g.point ≡ point) × (g.keeps.items ≡ ks)) → AreCovering lead kept single new (Some g.point) g.keeps.items
-        by are g (inl m) = covering-more old new (Some g.point) g.keeps.items (behind is) (are g m)
+        by : AreHeads lead kept single old heads → (g : Head) → IsIn g heads ⊎ ((g.point ≡ point) × (g.touched.items ≡ ks)) → AreCovering lead kept single new (Some g.point) g.touched.items
+        by are g (inl m) = covering-more old new (Some g.point) g.touched.items (behind is) (are g m)
         by are g (inr both) =
-            subst (λ p. AreCovering lead kept single new p g.keeps.items) (l ∙ ap Some (sym both.0))
+            subst (λ p. AreCovering lead kept single new p g.touched.items) (l ∙ ap Some (sym both.0))
             (subst (AreCovering lead kept single new (lead e)) (sym both.1) (narrow are for))
 
 -- ---- parameters noted

@@ -11,7 +11,7 @@ with-true : (b : Bool) → (b || true) ≡ true
 with-true true = refl
 with-true false = refl
 
-with-false : (b : Bool) → b ≡ (b || false)
+pub with-false : (b : Bool) → b ≡ (b || false)
 with-false true = refl
 with-false false = refl
 
@@ -43,7 +43,7 @@ marked_beyond marks n i beyond = by (nat_eq i n) refl
     by false e = with-false (is_marked marks i)
 
 -- what is among numbers is found there
-told-there : (i : ℕ) (is : List ℕ) → IsIn i is → any_pass (nat_eq i) is ≡ true
+pub told-there : (i : ℕ) (is : List ℕ) → IsIn i is → any_pass (nat_eq i) is ≡ true
 told-there i [] h = absurd h
 told-there i (k ∷ is) (inl e) = or-left (nat_eq i k) (any_pass (nat_eq i) is) (subst (λ n. nat_eq i n ≡ true) e (eq-eqb i i refl))
 told-there i (k ∷ is) (inr h) = or-right (nat_eq i k) (any_pass (nat_eq i) is) (told-there i is h)

@@ -9,6 +9,7 @@ pub mod Onward
 pub mod Some
 pub mod NumberTables
 pub mod Kept
+pub mod Touched
 pub mod CoveredExceptions
 pub mod Ready
 pub mod OnwardView

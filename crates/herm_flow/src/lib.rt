@@ -16,6 +16,8 @@ mod parts;
 mod points;
 mod process;
 mod starts;
+mod tables;
+mod touched;
 mod walk;
 
 pub use flow::{Change, Edge, Flow, Point, Target};

@@ -18,7 +18,7 @@ fn mark(marks: &mut Vec<bool>, number: u32)
 }
 
 /// Marks each of these numbers.
-fn mark_all(marks: &mut Vec<bool>, numbers: &[u32])
+pub fn mark_all(marks: &mut Vec<bool>, numbers: &[u32])
     ensures many { length marks.new.items ≡ length marks.old.items }
     ensures marked { (i : ℕ) → is_marked marks.new.items i ≡ (is_marked marks.old.items i || any_pass (nat_eq i) numbers.now) }
 {
@@ -38,8 +38,9 @@ fn mark_each(marks: &mut Vec<bool>, edges: &[OnwardEdge])
 }
 
 /// So many numbers that are not marked.
-fn unmarked(alloc: Global, count: usize) -> Result<Vec<bool>, AllocError>
+pub fn unmarked(alloc: Global, count: usize) -> Result<Vec<bool>, AllocError>
     ensures marks { IfOk result (λ v. v.items ≡ replicate count false) }
+    ensures many { IfOk result (λ v. length v.items ≡ count) }
 {
     Ok(vec![in alloc; false; count]?)
 }

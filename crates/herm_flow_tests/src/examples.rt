@@ -31,13 +31,23 @@ type each = callmessage (out r: integer, out s: integer) raises (e { full(r) }, 
 type each_in = inport of each;
 type each_out = outport of each_in;
 type two = record { m: integer, n: integer };
+type given = callmessage (in q: string, out r: integer, out s: integer) raises (e { full(r) }, f { full(s) }, g { full(r) });
+type given_in = inport of given;
+type given_out = outport of given_in;
+type read = callmessage (in q: two, out r: integer, out s: integer) raises (e { full(r) }, f { full(r) }, g { full(s) }, h { full(r) });
+type read_in = inport of read;
+type read_out = outport of read_in;
+type three = record { a: integer, b: integer, c: integer };
+type pairs = callmessage (out x: integer, out y: integer, out z: integer) raises (e { full(x), full(y) }, f { full(y), full(z) }, g { full(x), full(z) }, h { full(x) });
+type pairs_in = inport of pairs;
+type pairs_out = outport of pairs_in;
 }
 ";
 
 /// Stands before the statements of a row.
 pub const BEFORE: &str = "\
 process main(start: main_start) { var i: integer, j: integer, s: string, t: string, b: boolean, c: color, r: rec, k: rec, v: var_t, w: var_t, \
-x: tab, li: li, lo: lo, q: ask, ai: ask_in, ao: ask_out, p: polymorph, o: polymorph, pr: pr, pt: pt, cv: cv, vr: vr, po: pair_out, mo: many_out, lj: li, ro: each_out, u: two; ";
+x: tab, li: li, lo: lo, q: ask, ai: ask_in, ao: ask_out, p: polymorph, o: polymorph, pr: pr, pt: pt, cv: cv, vr: vr, po: pair_out, mo: many_out, lj: li, ro: each_out, u: two, go: given_out, wo: read_out, so: pairs_out, z: three; ";
 
 /// Stands behind the statements of a row.
 pub const BEHIND: &str = " }\n\

@@ -77,7 +77,7 @@ const EXCEPTIONS: [(&str, &str); 10] = [
 ];
 
 /// Without edges to ends: statements, and their flow.
-const ONWARD: [(&str, &str); 12] = [
+const ONWARD: [(&str, &str); 16] = [
     ("i := i + 1;", "1/1"),
     (
         "try { call ao(s, t, i); } on e { i := 1; } j := 1;",
@@ -106,6 +106,22 @@ const ONWARD: [(&str, &str); 12] = [
     (
         "try { call ro(u.m, u.n); } on e { } on f { } on g { } b := true;",
         "2/2 o>1 :7>1 :8>1 :9>1; 3/0",
+    ),
+    (
+        "try { call mo(u.m, u.n); } on e { } on f { } on g { } on h { } b := true;",
+        "2/2 o>1 :7>1 :9>1; 3/0",
+    ),
+    (
+        "try { call so(z.a, z.b, z.c); } on e { } on f { } on g { } on h { } b := true;",
+        "2/2 o>1 :7>1 :8>1 :9>1; 3/0",
+    ),
+    (
+        "try { call go(\"a\", i, j); } on e { } on f { } on g { } b := true;",
+        "2/1 o>1 :7>1 :8>1; 3/0",
+    ),
+    (
+        "try { call wo(u, u.m, u.n); } on e { } on f { } on g { } on h { } b := true;",
+        "2/4 o>1 :7>1 :9>1; 3/0",
     ),
     (
         "try { call mo(i, j); } on e { i := 1; } on f { } on g { j := 1; } on h { i := 2; } b := true;",
