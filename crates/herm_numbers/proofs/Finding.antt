@@ -1,5 +1,5 @@
 -- A name is found at its first place.
-use Rattle.std.proofs.Common.{◌≡◌, ◌<◌, ℕ, zero, suc, ◌+◌, Bool, true, false, cond, List, [], ◌∷◌, ◌++◌, length, Option, Some, None, is_some, refl, sym, ◌∙◌, ap, subst, arith, length-append, true≢false, ◌≤◌, not}
+use Rattle.std.proofs.Common.{◌≡◌, ◌<◌, ℕ, zero, suc, ◌+◌, Bool, true, false, cond, List, [], ◌∷◌, ◌++◌, length, Option, Some, None, is_some, refl, sym, ◌∙◌, ap, subst, arith, length-append, true≢false, ◌≤◌, not, take, slice_get}
 use Rattle.std.specs.Str.{bytes_eq}
 use Rattle.std.proofs.lemmas.Slice.Eq.{bytes_eq-Decides}
 use Rattle.std.proofs.lemmas.Bool.{eq-eqb, eqb-true}
@@ -75,3 +75,12 @@ module _ {K : Type 0} (bytes : K → List ℕ) where
 pub none-there : {X : Type 0} (o : Option X) → is_some o ≡ false → o ≡ None
 none-there None e = refl
 none-there (Some x) e = absurd (true≢false e)
+
+-- one more of the elements from the left
+next-taken : {X : Type 0} (xs : List X) (n : ℕ) (x : X) → slice_get xs n ≡ Some x → take (n + 1) xs ≡ take n xs ++ x ∷ []
+next-taken [] n x e = absurd (let k : ⊥ = cc in k)
+next-taken (y ∷ xs) zero x e = ap (λ z. z ∷ []) (let k : y ≡ x = cc in k)
+next-taken (y ∷ xs) (suc n) x e = ap (λ k. take k (y ∷ xs)) (let k : suc n + 1 ≡ suc (n + 1) = omega arith in k) ∙ ap (y ∷◌) (next-taken xs n x e)
+
+pub taken_next : {X : Type 0} (found new : List X) (v : X) (xs : List X) (n : ℕ) (x : X) → new ≡ found ++ v ∷ [] → found ≡ take n xs → v ≡ x → slice_get xs n ≡ Some x → new ≡ take (n + 1) xs
+taken_next found new v xs n x e f h k = e ∙ (ap (λ ys. ys ++ v ∷ []) f ∙ (ap (λ z. take n xs ++ z ∷ []) h ∙ sym (next-taken xs n x k)))

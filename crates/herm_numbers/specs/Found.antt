@@ -12,3 +12,7 @@ IsFoundAt (Some n) i count = (n ≡ i) × (n < count)
 -- each name is found at the place of the first that is equal
 abbrev pub Finds : {K : Type 0} → (K → List ℕ) → List (List ℕ) → List (K × ℕ) → Type 0
 Finds bytes names entries = (name : List ℕ) → IsFoundAt (lookup (λ k. bytes_eq name (bytes k)) entries) (place_of name names) (length names)
+
+-- more than a few names are found so
+abbrev pub IsIndexOf : {K : Type 0} → (K → List ℕ) → List (List ℕ) → List (K × ℕ) → Type 0
+IsIndexOf bytes names entries = 8 < length names → Finds bytes names entries

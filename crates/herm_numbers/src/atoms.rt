@@ -27,9 +27,9 @@ pub fn type_number(types: &TypeTable, name: &[u8]) -> TypeNo
 }
 
 /// A literal by number.
-pub fn literal(alloc: Global, types: &TypeTable, l: &Literal) -> Result<TypedLiteral, AllocError>
-    requires { IsSized types.now }
-    ensures { IfOk result (λ m. typed_literal_view m ≡ literal_number types.now (literal_view l.now)) }
+pub fn literal(alloc: Global, scope: &Scope, l: &Literal) -> Result<TypedLiteral, AllocError>
+    requires { IsSized scope.now.types.now }
+    ensures { IfOk result (λ m. typed_literal_view m ≡ literal_number scope.now.types.now (literal_view l.now)) }
 {
     match l {
         Literal::Int(n) => Ok(TypedLiteral::Int(*n)),
@@ -39,8 +39,8 @@ pub fn literal(alloc: Global, types: &TypeTable, l: &Literal) -> Result<TypedLit
         }
         Literal::Bool(b) => Ok(TypedLiteral::Bool(*b)),
         Literal::Tag(name, value) => {
-            let t = type_number(types, name.text.bytes());
-            let (place, _) = part(types, Some(t), value.text.bytes());
+            let t = type_number(scope.types, name.text.bytes());
+            let (place, _) = part(scope, Some(t), value.text.bytes());
             Ok(TypedLiteral::Tag(t, place))
         }
     }
@@ -55,7 +55,7 @@ pub fn atom(alloc: Global, scope: &Scope, a: &Atom) -> Result<TypedAtom, AllocEr
 {
     match a {
         Atom::Literal(l) => {
-            let l = literal(alloc, scope.types, l)?;
+            let l = literal(alloc, scope, l)?;
             Ok(TypedAtom::Literal(l))
         }
         Atom::Path(p) => {

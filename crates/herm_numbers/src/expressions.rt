@@ -25,7 +25,7 @@ fn primary(alloc: Global, scope: &Scope, e: &Primary) -> Result<TypedPrimary, Al
 {
     match e {
         Primary::Literal(l) => {
-            let l = literal(alloc, scope.types, l)?;
+            let l = literal(alloc, scope, l)?;
             Ok(TypedPrimary::Literal(l))
         }
         Primary::Path(p) => {

@@ -45,7 +45,7 @@ pub fn component_of(scope: &Scope, v: &TypedPath, name: &[u8]) -> u32
     requires of { v.now.of.0 ≡ number_of scope.now.types.now (type_seen (scope_view scope.now) (typed_path_view v.now)) }
     ensures number { result ≡ part_number scope.now.types.now (type_seen (scope_view scope.now) (typed_path_view v.now)) name.now }
 {
-    let (number, _) = part(scope.types, Some(v.of), name);
+    let (number, _) = part(scope, Some(v.of), name);
     number
 }
 

@@ -2,8 +2,9 @@
 ghost use Rattle.std.specs.Prelude.{◌≡◌, ◌<◌, ◌^◌, ◌++◌, ◌∷◌, [], ℕ, List, IfOk, OnOk, IfSome, length, Some};
 ghost use Rattle.std.specs.List.{slice_get};
 ghost use Rattle.herm_naming.specs.Numbers.{place_of};
-ghost use Rattle.herm_numbers.specs.Found.{Finds, IsFoundAt};
+ghost use Rattle.herm_numbers.specs.Found.{Finds, IsFoundAt, IsIndexOf};
 
+use crate::names::place_of;
 use herm_base::Word;
 use indexmap::IndexMap;
 use std::alloc::{AllocError, Global};
@@ -56,12 +57,37 @@ fn firsts_of(alloc: Global, words: &[Word]) -> Result<IndexMap<Vec<u8>, usize>, 
     Ok(firsts)
 }
 
+/// Of so many names each is looked at in turn, since an index of them would take longer to make.
+const FEW: usize = 8;
+
+/// The first number of each name, where there are more than a few.
+fn index_of(alloc: Global, words: &[Word]) -> Result<IndexMap<Vec<u8>, usize>, AllocError>
+    ensures { IfOk result (λ m. IsIndexOf (λ k. k.items) words.now m.entries) }
+{
+    if words.len() <= FEW {
+        return Ok(IndexMap::new(alloc));
+    }
+    let firsts = firsts_of(alloc, words)?;
+    Ok(firsts)
+}
+
+/// The place of a name by the first number of each, or the number of all words where it is not there.
+fn place_by(words: &[Word], firsts: &IndexMap<Vec<u8>, usize>, name: &[u8]) -> usize
+    requires { Finds (λ k. k.items) words.now firsts.now.entries }
+    ensures { result ≡ place_of name.now words.now }
+{
+    match firsts.get(name) {
+        Some(number) => *number,
+        None => words.len(),
+    }
+}
+
 impl Names {
     /// These names, by number.
     pub fn of(alloc: Global, words: Vec<Word>) -> Result<Names, AllocError>
         ensures { IfOk result (λ n. n ≡ words.items) }
     {
-        let firsts = firsts_of(alloc, words.as_slice())?;
+        let firsts = index_of(alloc, words.as_slice())?;
         Ok(Names { words, firsts })
     }
 
@@ -76,10 +102,11 @@ impl Names {
     pub fn place(&self, name: &[u8]) -> usize
         ensures { result ≡ place_of name.now self.now }
     {
-        match self.firsts.get(name) {
-            Some(number) => *number,
-            None => self.words.len(),
+        let words = self.words.as_slice();
+        if words.len() <= FEW {
+            return place_of(name, words);
         }
+        place_by(words, &self.firsts, name)
     }
 
     /// The same as a number of 32 bits.

@@ -9,6 +9,8 @@ ghost use Rattle.herm_numbers.specs.View.{IsSized};
 use crate::atoms::type_number;
 use crate::counts::type_counts;
 use crate::index::Names;
+use crate::names::words;
+use crate::part_names::part_names;
 use crate::scope::Scope;
 use herm_base::{TypeNo, Word};
 use herm_syntax::{Field, Module};
@@ -16,14 +18,16 @@ use herm_typed::TypedVar;
 use herm_types::TypeTable;
 use std::alloc::{AllocError, Global};
 
-/// The types; the exceptions by name; the processes by name, and the types of their ports; how many paths each type has.
+/// The types, and the names of the parts of each; the exceptions by name; the processes by name, and the types of their ports; how many paths each type has.
 #[derive(Drop)]
 pub struct Known<'a> {
     pub types: &'a TypeTable,
+    pub parts: Vec<Names>,
     pub exceptions: Names,
     pub processes: Names,
     pub ports: Vec<TypeNo>,
     pub counts: Vec<u32>,
+    ghost named: { parts.items ≡ types.now.parts },
 }
 
 /// The names of the processes, in order.
@@ -70,18 +74,6 @@ fn port_types(
     Ok(found)
 }
 
-/// Words, copied.
-fn words(alloc: Global, list: &[Word]) -> Result<Vec<Word>, AllocError>
-    ensures same { IfOk result (λ v. v.items ≡ list.now) }
-{
-    let mut found = Vec::with_capacity(alloc, list.len())?;
-    'words: for word in list {
-        let word = word.clone()?;
-        found.push(word)?;
-    }
-    Ok(found)
-}
-
 /// What is known of these modules.
 pub fn known_of<'a>(
     alloc: Global,
@@ -95,6 +87,7 @@ pub fn known_of<'a>(
     ensures ports { IfOk result (λ k. map (λ t. t.0) k.ports.items ≡ map (λ (q : ProcessText). type_number types.now q.port.1) (processes_in (map module_view modules.now))) }
     ensures counts { IfOk result (λ k. IsCounted types.now.shapes k.counts.items) }
 {
+    let parts = part_names(alloc, types)?;
     let names = words(alloc, types.exceptions())?;
     let exceptions = Names::of(alloc, names)?;
     let names = process_names(alloc, modules)?;
@@ -103,6 +96,7 @@ pub fn known_of<'a>(
     let counts = type_counts(alloc, types)?;
     Ok(Known {
         types,
+        parts,
         exceptions,
         processes,
         ports,
@@ -162,6 +156,7 @@ pub fn scope_of<'a>(
     let of = declared_types(alloc, known.types, port, vars)?;
     Ok(Scope {
         types: known.types,
+        parts: known.parts.as_slice(),
         exceptions: &known.exceptions,
         variables,
         of,

@@ -12,6 +12,7 @@ mod index;
 mod judge;
 mod known;
 mod names;
+mod part_names;
 mod paths;
 mod scope;
 
