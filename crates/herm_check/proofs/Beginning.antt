@@ -8,7 +8,7 @@ use Rattle.herm_model.specs.laws.FlowLaws.{first_of}
 use Rattle.herm_facts.specs.declared.fact_numbers.FactNumbers.{FactNumbers}
 use Rattle.herm_facts.specs.NumberSets.{has_number}
 use Rattle.herm_check.specs.declared.label.Label.{Label}
-use Rattle.herm_check.specs.Numberings.{in_set, AreNumbers}
+use Rattle.herm_check.specs.Numberings.{in_set, AreOfFacts}
 use Rattle.herm_check.specs.Labelled.{is_reached, is_pending, holds_at, AreLabels}
 use Rattle.herm_check.proofs.InSets.{none-in}
 use Rattle.herm_check.proofs.Joined.{same_or_not, set-here, set-elsewhere, set-each}
@@ -23,7 +23,7 @@ bare-holds ns ls none i f = by (slice_get ls i) refl
 
 module _ (ns : FactNumbers) (flow : Flow) (ls : List Label) (new : Label) (entry : flow.entry ≡ first_of (length flow.points)) (many : length ls ≡ length flow.points) (some : 0 < length ls)
     (unreached : (i : ℕ) → is_reached ls i ≡ false) (none : (i : ℕ) (l : Label) (n : ℕ) → slice_get ls i ≡ Some l → has_number l.held n ≡ false) (reached : new.reached ≡ true) (pending : new.pending ≡ true)
-    (facts : (f : Fact) → in_set ns new.held f ≡ held_at_start f) (known : AreNumbers ns new.held) where
+    (facts : (f : Fact) → in_set ns new.held f ≡ held_at_start f) (known : AreOfFacts ns new.held) where
   empty : (i : ℕ) (f : Fact) → holds_at ns ls i f ≡ false
   empty = bare-holds ns ls none
 
@@ -61,7 +61,7 @@ module _ (ns : FactNumbers) (flow : Flow) (ls : List Label) (new : Label) (entry
       reached = λ i h. subst (λ n. IsReached flow (node n)) (only-first i h) (subst (IsReached flow) entry-is ([], held_at_start (init (0 ∷ [])), refl));
       bare = λ i f h. bare i f h (same_or_not 0 i);
       lacking = λ i f h k. subst (Lacks flow f) (only-first i h) (start-lacks f (sym (first-holds f) ∙ subst (λ n. holds_at ns (slice_set ls 0 new) n f ≡ false) (sym (only-first i h)) k));
-      known = set-each (λ (l : Label). AreNumbers ns l.held) ls 0 new known (λ i l at n h. absurd (true≢false (sym h ∙ none i l n at)));
+      known = set-each (λ (l : Label). AreOfFacts ns l.held) ls 0 new known (λ i l at n h. absurd (true≢false (sym h ∙ none i l n at)));
       begins = λ i to within. (subst (λ n. is_reached (slice_set ls 0 new) n ≡ true) (node-same 0 i (sym entry-is ∙ to)) (ap (map_or false (λ l. l.reached)) here ∙ reached), λ f h. holding-first i f h);
     };
     settled = λ i p at h n e m. absurd (true≢false (sym (ap (map_or false (λ l. l.pending)) here ∙ pending) ∙ subst (λ k. is_pending (slice_set ls 0 new) k ≡ false) (sym (only-first i h)) n));

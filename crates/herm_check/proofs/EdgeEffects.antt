@@ -17,12 +17,13 @@ use Rattle.herm_facts.specs.FactSets.{has}
 use Rattle.herm_facts.specs.NumberSets.{has_at}
 use Rattle.herm_facts.specs.declared.sparse_set.SparseSet.{SparseSet}
 use Rattle.herm_facts.specs.SparseSets.{has_sparse}
+use Rattle.herm_facts.specs.FactNumbers.{AreFacts}
 use Rattle.herm_check.specs.declared.effects.Effect.{Effect}
 use Rattle.herm_check.specs.declared.lists.ListsOf.{ListsOf}
 use Rattle.herm_check.specs.View.{edge_in}
 use Rattle.herm_check.specs.Lists.{at_has, AreListsOf, AreListsIn}
-use Rattle.herm_check.specs.Effects.{AreNumbered, share, AreWords, IsEffectOf, IsEffectBy, AreEffectsBy, AreEffectsByIn, IsEffect, AreEffects, AreEffectsIn}
-use Rattle.herm_check.proofs.InSets.{listed-apart}
+use Rattle.herm_check.specs.Effects.{share, AreWords, IsEffectOf, IsEffectBy, AreEffectsBy, AreEffectsByIn, IsEffect, AreEffects, AreEffectsIn}
+use Rattle.herm_facts.proofs.Listed.{facts-apart}
 use Rattle.herm_check.proofs.ListedFacts.{any-same, made-all, gone-at}
 use Rattle.herm_check.proofs.Searched.{some-at}
 use Rattle.herm_check.proofs.Shares.{share-at}
@@ -52,7 +53,7 @@ module _ (l : ListsOf) (s : ℕ) (made gone : List FactSet) (in_made : AreWords 
     (is j).1 ∙ in_gone e.kills j less,
   )
 
-module _ (ns : FactNumbers) (facts : List Fact) (numbered : AreNumbered ns facts) (s : ℕ) where
+module _ (ns : FactNumbers) (facts : List Fact) (numbered : AreFacts ns facts) (s : ℕ) where
   row-known : (p : OnwardPoint) (l : ListsOf) → AreListsOf ns p l → (row : List Effect) → AreEffectsBy l s p.edges.items row → AreEffects (share facts s) (onward_point_view p).edges row
   row-known p l are row by = record {
     many = by.many ∙ sym (length-map (edge_in p) p.edges.items);
@@ -65,7 +66,7 @@ module _ (ns : FactNumbers) (facts : List Fact) (numbered : AreNumbered ns facts
           let h = share-at facts s j f seen in
           let number = (numbered f (64 * s + j)).0 h.1 in
           let says = by.each n d effect is there j h.0 in
-          let apart = listed-apart ns facts numbered in
+          let apart = facts-apart ns facts numbered in
           (says.0 ∙ made-all ns apart p l are f (64 * s + j) number d.makes.items, says.1 ∙ gone-at ns apart p l are f (64 * s + j) number d.kills))
 
   pub effects-known : (flow : OnwardFlow) (lists : List ListsOf) (effects : List (Vec Effect Global)) → AreListsIn ns flow lists → AreEffectsByIn flow lists s effects → AreEffectsIn (onward_flow_view flow) (share facts s) effects

@@ -18,7 +18,7 @@ use Rattle.herm_flow.specs.OnwardView.{facts_in}
 use Rattle.herm_check.specs.declared.numbering.Numbering.{Numbering}
 use Rattle.herm_check.specs.View.{edge_in}
 use Rattle.herm_check.specs.Numberings.{HasNumber, HaveNumbers}
-use Rattle.herm_check.specs.Labelled.{facts_of, AreNumbered}
+use Rattle.herm_check.specs.Labelled.{facts_of, IsNumberingOf}
 
 pub one-added : (before : List Fact) (old new : FactNumbers) (g : Fact) (n : ℕ) → number_of new g ≡ Some n → ((f : Fact) → same_fact f g ≡ false → number_of new f ≡ number_of old f)
     → ((f : Fact) (k : ℕ) → number_of old f ≡ Some k → number_of new f ≡ Some k) → HaveNumbers before old → HaveNumbers (before ++ g ∷ []) new
@@ -46,7 +46,7 @@ rows-more facts before xs i x within is =
     ∙ ap (λ ys. before ++ flat_map facts ys) (ap (λ y. take i xs ++ y ∷ []) is ∙ sym (take_more xs i x within))
 
 -- what an edge of the flow makes has numbers
-pub made-numbered : (flow : OnwardFlow) (n : Numbering) → AreNumbered flow n → (p : OnwardPoint) (e : OnwardEdge) → IsIn p flow.points.items → (f : Fact) → IsIn f (edge_in p e).makes → HasNumber n.facts f
+pub made-numbered : (flow : OnwardFlow) (n : Numbering) → IsNumberingOf flow n → (p : OnwardPoint) (e : OnwardEdge) → IsIn p flow.points.items → (f : Fact) → IsIn f (edge_in p e).makes → HasNumber n.facts f
 made-numbered flow n h p e in-flow f makes =
     let m = in-flat_map_from (facts_in p.made.items) f e.makes.items makes in
     h.numbers.all f (inr (in-flat_map (λ (q : OnwardPoint). flat_map facts_of q.made.items) p f flow.points.items in-flow (by m.0 m.2 (slice_get p.made.items m.0) refl)))

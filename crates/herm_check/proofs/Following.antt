@@ -46,7 +46,7 @@ some-same e = cc
 pub none-some : {X : Type 0} (x : X) → ◌≡◌ {A = Option X} None (Some x) → ⊥
 none-some x e = cc
 
-node-same : (m n : ℕ) → node m ≡ node n → m ≡ n
+pub node-same : (m n : ℕ) → node m ≡ node n → m ≡ n
 node-same m n e = cc
 
 -- one summand becomes another
@@ -59,13 +59,13 @@ pub slot-within : (t n : ℕ) (b : Bool) → 2 * t + 1 < n → slot_of t b < n
 slot-within t n true h = omega (arith, h)
 slot-within t n false h = omega (arith, h)
 
-slot-point : (t u : ℕ) (a b : Bool) → slot_of t a ≡ slot_of u b → t ≡ u
+pub slot-point : (t u : ℕ) (a b : Bool) → slot_of t a ≡ slot_of u b → t ≡ u
 slot-point t u true true e = omega (arith, e)
 slot-point t u true false e = omega (arith, e)
 slot-point t u false true e = omega (arith, e)
 slot-point t u false false e = omega (arith, e)
 
-slot-held : (t u : ℕ) (a b : Bool) → slot_of t a ≡ slot_of u b → a ≡ b
+pub slot-held : (t u : ℕ) (a b : Bool) → slot_of t a ≡ slot_of u b → a ≡ b
 slot-held t u true true e = refl
 slot-held t u true false e = absurd (omega (arith, e))
 slot-held t u false true e = absurd (omega (arith, e))
@@ -373,7 +373,7 @@ found-visited v vs _ seen _ places _ flow f j before linked deepest of (added s 
 -- ---- edges are followed
 
 -- what is held behind an edge
-held-beyond : (facts : List Fact) (e : Edge) (effect : Effect) (u : Visit) (j : ℕ) (f : Fact) → IsEffect facts e effect → slice_get facts j ≡ Some f → has u.facts j ≡ true → is_held_beyond effect u j ≡ held_after_edge e f u.held
+pub held-beyond : (facts : List Fact) (e : Edge) (effect : Effect) (u : Visit) (j : ℕ) (f : Fact) → IsEffect facts e effect → slice_get facts j ≡ Some f → has u.facts j ≡ true → is_held_beyond effect u j ≡ held_after_edge e f u.held
 held-beyond facts e effect u j f is at of =
     let h = is j f at in
     ap (λ a. a && (has effect.made j || (u.held && not (has effect.killed j)))) of
@@ -493,7 +493,7 @@ module _ (flow : Flow) (facts : List Fact) (old : List Visit) (k : ℕ) (u : Vis
 pub follows : (flow : Flow) (facts : List Fact) (vs : List Visit) (seen : List FactSet) (places : Places) (k : ℕ) (u : Visit) → slice_get vs k ≡ Some u → HasVisits flow vs seen places → ((j : ℕ) (f : Fact) → slice_get facts j ≡ Some f → IsSearch flow f j vs seen) → IsNear vs k → IsFollowing flow facts vs vs seen places u []
 follows flow facts vs seen places k u is visits each near = record { visits = visits; each = each; kept = λ j v h. h; near = λ j v h. near j u v is h; followed = λ j f there of e t member to. absurd member }
 
-below : (m n : ℕ) → m ≤ n → m ≢ n → m < n
+pub below : (m n : ℕ) → m ≤ n → m ≢ n → m < n
 below zero zero h d = absurd (d refl)
 below zero (suc n) h d = omega arith
 below (suc m) zero h d = absurd (omega arith)

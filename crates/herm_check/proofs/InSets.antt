@@ -1,5 +1,5 @@
 -- Sets of numbers, as sets of facts.
-use Rattle.std.proofs.Common.{◌≡◌, ◌↔◌, inl, inr, ℕ, ◌+◌, ◌<◌, List, [], ◌∷◌, length, take, get_or, Bool, true, false, cond, not, ◌&&◌, ◌||◌, Option, Some, None, slice_get, nat_eq, nat_lt, refl, sym, ◌∙◌, ap, subst, arith, true≢false}
+use Rattle.std.proofs.Common.{◌≡◌, inl, inr, ℕ, ◌+◌, ◌<◌, List, [], ◌∷◌, length, take, get_or, Bool, true, false, cond, not, ◌&&◌, ◌||◌, Option, Some, None, nat_eq, nat_lt, refl, sym, ◌∙◌, ap, subst, arith, true≢false}
 use Rattle.std.proofs.lemmas.Bool.{eqb-true, eqb-false, eq-eqb, lt-ltb, ltb-true}
 use Rattle.std.proofs.lemmas.List.{take_more}
 use Rattle.herm_model.specs.Lists.{IsIn, any_pass, map_or}
@@ -7,11 +7,11 @@ use Rattle.herm_model.specs.Paths.{Fact, Path, path_of, same_fact, is_at_or_belo
 use Rattle.herm_model.proofs.Equality.{same_fact-is, same_fact_self}
 use Rattle.herm_facts.specs.declared.fact_numbers.FactNumbers.{FactNumbers}
 use Rattle.herm_facts.specs.declared.number_set.NumberSet.{NumberSet}
-use Rattle.herm_facts.specs.FactNumbers.{number_of}
+use Rattle.herm_facts.specs.FactNumbers.{number_of, AreApart}
 use Rattle.herm_facts.specs.NumberSets.{has_number}
 use Rattle.herm_facts.proofs.FactSets.{one-more}
 use Rattle.herm_check.proofs.Carried.{any-append}
-use Rattle.herm_check.specs.Numberings.{in_set, AreNumbers, AreApart}
+use Rattle.herm_check.specs.Numberings.{in_set, AreOfFacts}
 
 -- a set without numbers
 pub none-in : (ns : FactNumbers) (set : NumberSet) → ((n : ℕ) → has_number set n ≡ false) → (f : Fact) → in_set ns set f ≡ false
@@ -81,7 +81,7 @@ module _ (ns : FactNumbers) (apart : AreApart ns) where
         joined None = refl
         joined (Some k) = more k
 
-    pub known-one : AreNumbers ns old → AreNumbers ns new
+    pub known-one : AreOfFacts ns old → AreOfFacts ns new
     known-one known k h = by (nat_eq k n) refl (sym (more k) ∙ h)
       where
         by : (b : Bool) → nat_eq k n ≡ b → (b || has_number old k) ≡ true → (f : Fact) × (number_of ns f ≡ Some k)
@@ -122,7 +122,7 @@ module _ (ns : FactNumbers) (apart : AreApart ns) where
         second false b e = absurd (true≢false (sym e))
 
 -- what joins a label has the numbers of facts alone
-pub known-joined : (ns : FactNumbers) (new old after : NumberSet) (r : Bool) → ((n : ℕ) → has_number new n ≡ cond r (has_number old n && has_number after n) (has_number after n)) → AreNumbers ns after → AreNumbers ns new
+pub known-joined : (ns : FactNumbers) (new old after : NumberSet) (r : Bool) → ((n : ℕ) → has_number new n ≡ cond r (has_number old n && has_number after n) (has_number after n)) → AreOfFacts ns after → AreOfFacts ns new
 known-joined ns new old after r is known n h = known n (by r (sym (is n) ∙ h))
   where
     second : (a b : Bool) → (a && b) ≡ true → b ≡ true
@@ -209,7 +209,3 @@ removed-more xs i x n old within is =
     both true false = refl
     both false true = refl
     both false false = refl
-
--- the facts of a list by their places are apart
-pub listed-apart : (ns : FactNumbers) (facts : List Fact) → ((f : Fact) (n : ℕ) → (slice_get facts n ≡ Some f) ↔ (number_of ns f ≡ Some n)) → AreApart ns
-listed-apart ns facts is f g n a b = let k : Some f ≡ Some g = sym ((is f n).1 a) ∙ (is g n).1 b in cc

@@ -10,7 +10,7 @@ use Rattle.herm_model.proofs.FactTests.{got-IsIn}
 use Rattle.herm_facts.specs.declared.fact_numbers.FactNumbers.{FactNumbers}
 use Rattle.herm_facts.specs.FactNumbers.{number_of}
 use Rattle.herm_check.specs.declared.label.Label.{Label}
-use Rattle.herm_check.specs.Numberings.{in_set, AreNumbers}
+use Rattle.herm_check.specs.Numberings.{in_set, AreOfFacts}
 use Rattle.herm_check.specs.Labelled.{is_reached, is_pending, holds_at, Goes, Carries, IsSettled, AreTrue, AreLabels, IsLeft}
 use Rattle.herm_check.proofs.Paths.{edge-reached, edge-lacks}
 use Rattle.herm_check.specs.Followed.{IsJoined, IsFollowed, ends, joins}
@@ -44,7 +44,7 @@ module _ (ns : FactNumbers) (flow : Flow) (differ : EdgesDiffer flow) (i : ℕ) 
     reached = λ j k. reached j k (same_or_not t j);
     bare = λ j f k. bare j f k (same_or_not t j);
     lacking = λ j f k m. lacking j f k m (same_or_not t j);
-    known = set-each (λ (k : Label). AreNumbers ns k.held) ls t new joined.known h.known;
+    known = set-each (λ (k : Label). AreOfFacts ns k.held) ls t new joined.known h.known;
     begins = goes-kept ns ls t l new after joined flow.entry held_at_start h.begins;
   }
     where

@@ -16,9 +16,12 @@ pub mod Begun
 pub mod Searched
 pub mod Trails
 pub mod Following
+pub mod AtVisits
+pub mod Remaining
 pub mod Deciding
 pub mod Making
 pub mod ListedFacts
 pub mod Shares
 pub mod EdgeEffects
+pub mod Standing
 pub mod FactSets

@@ -13,12 +13,12 @@ use Rattle.herm_flow.specs.OnwardView.{facts_in, paths_in}
 use Rattle.herm_facts.specs.declared.fact_numbers.FactNumbers.{FactNumbers}
 use Rattle.herm_facts.specs.declared.number_set.NumberSet.{NumberSet}
 use Rattle.herm_facts.specs.declared.sparse_set.SparseSet.{SparseSet}
-use Rattle.herm_facts.specs.FactNumbers.{number_of}
+use Rattle.herm_facts.specs.FactNumbers.{number_of, AreApart}
 use Rattle.herm_facts.specs.NumberSets.{has_number}
 use Rattle.herm_facts.specs.SparseSets.{has_sparse}
 use Rattle.herm_check.specs.declared.lists.ListsOf.{ListsOf}
 use Rattle.herm_check.specs.View.{edge_in}
-use Rattle.herm_check.specs.Numberings.{in_set, HasNumber, AreNumbers, AreApart}
+use Rattle.herm_check.specs.Numberings.{in_set, HasNumber, AreOfFacts}
 use Rattle.herm_check.specs.Lists.{at_has, AreListsOf, is_made_number, is_killed_number}
 use Rattle.herm_check.proofs.Carried.{any-append}
 use Rattle.herm_check.proofs.Searched.{some-at}
@@ -125,7 +125,7 @@ module _ (ns : FactNumbers) (apart : AreApart ns) (p : OnwardPoint) (l : ListsOf
         by (Some n) number =
             is n ∙ (ap₂ (λ k m. (has_number held n && not k) || m) (gone-at f n number e.kills) (made-all f n number e.makes.items) ∙ behind (has_number held n) killed made)
 
-    pub known-behind : AreNumbers ns held → AreNumbers ns after
+    pub known-behind : AreOfFacts ns held → AreOfFacts ns after
     known-behind known n t = by (or_cases (has_number held n && not (is_killed_number l e n)) (is_made_number l e n) (sym (is n) ∙ t))
       where
         first : (a b : Bool) → (a && b) ≡ true → a ≡ true

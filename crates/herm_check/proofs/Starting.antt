@@ -6,7 +6,7 @@ use Rattle.herm_model.specs.Targets.{Target}
 use Rattle.herm_model.specs.ControlPaths.{Flow, held_after_edge, held_at_start}
 use Rattle.herm_facts.specs.declared.fact_numbers.FactNumbers.{FactNumbers}
 use Rattle.herm_check.specs.declared.label.Label.{Label}
-use Rattle.herm_check.specs.Numberings.{in_set, AreNumbers}
+use Rattle.herm_check.specs.Numberings.{in_set, AreOfFacts}
 use Rattle.herm_check.specs.Labelled.{is_reached, holds_at, Goes, AreLabels, IsLeft}
 use Rattle.herm_check.proofs.Joined.{same_or_not, set-here, set-elsewhere, set-each}
 
@@ -38,7 +38,7 @@ module _ (ns : FactNumbers) (flow : Flow) (ls : List Label) (i : ℕ) (l new : L
       reached = λ j k. h.are_true.reached j (sym (same-reached j) ∙ k);
       bare = λ j f k. same-holds j f ∙ h.are_true.bare j f (sym (same-reached j) ∙ k);
       lacking = λ j f k m. h.are_true.lacking j f (sym (same-reached j) ∙ k) (sym (same-holds j f) ∙ m);
-      known = set-each (λ (k : Label). AreNumbers ns k.held) ls i new (subst (AreNumbers ns) (sym same) (h.are_true.known i l old)) h.are_true.known;
+      known = set-each (λ (k : Label). AreOfFacts ns k.held) ls i new (subst (AreOfFacts ns) (sym same) (h.are_true.known i l old)) h.are_true.known;
       begins = same-goes flow.entry held_at_start h.are_true.begins;
     };
     settled = λ j d p at k n e m to there inside.

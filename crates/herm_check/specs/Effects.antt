@@ -1,5 +1,5 @@
 -- What edges do with the facts of a search.
-use Rattle.std.specs.Prelude.{◌≡◌, ◌↔◌, ℕ, ◌+◌, ◌*◌, ◌<◌, List, length, Bool, Some, slice_get, take, drop}
+use Rattle.std.specs.Prelude.{◌≡◌, ℕ, ◌+◌, ◌*◌, ◌<◌, List, length, Bool, Some, slice_get, take, drop}
 use Rattle.std.specs.declared.vec.Vec.{Vec}
 use Rattle.std.specs.declared.alloc.Global.{Global}
 use Rattle.herm_model.specs.Lists.{any_pass}
@@ -9,10 +9,8 @@ use Rattle.herm_flow.specs.declared.onward.OnwardEdge.{OnwardEdge}
 use Rattle.herm_flow.specs.declared.onward.OnwardPoint.{OnwardPoint}
 use Rattle.herm_flow.specs.declared.onward.OnwardFlow.{OnwardFlow}
 use Rattle.herm_facts.specs.declared.fact_set.FactSet.{FactSet}
-use Rattle.herm_facts.specs.declared.fact_numbers.FactNumbers.{FactNumbers}
 use Rattle.herm_facts.specs.declared.sparse_set.SparseSet.{SparseSet}
 use Rattle.herm_facts.specs.FactSets.{has}
-use Rattle.herm_facts.specs.FactNumbers.{number_of}
 use Rattle.herm_facts.specs.NumberSets.{has_at}
 use Rattle.herm_check.specs.declared.effects.Effect.{Effect}
 use Rattle.herm_check.specs.declared.lists.ListsOf.{ListsOf}
@@ -25,10 +23,6 @@ is_made e f = any_pass (same_fact f) e.makes
 -- the edge takes the fact away
 abbrev pub is_taken : Edge → Fact → Bool
 is_taken e f = any_pass (λ p. is_at_or_below p (path_of f)) e.kills
-
--- these are the facts by their numbers
-abbrev pub AreNumbered : FactNumbers → List Fact → Type 0
-AreNumbered numbers facts = (f : Fact) (n : ℕ) → (slice_get facts n ≡ Some f) ↔ (number_of numbers f ≡ Some n)
 
 -- of all facts by their numbers, those that share a search: fact j of search s is number 64 * s + j
 abbrev pub share : List Fact → ℕ → List Fact

@@ -7,7 +7,7 @@ use Rattle.herm_model.specs.ControlPaths.{Edge, held_after_edge}
 use Rattle.herm_facts.specs.declared.fact_numbers.FactNumbers.{FactNumbers}
 use Rattle.herm_facts.specs.FactNumbers.{number_of}
 use Rattle.herm_check.specs.declared.label.Label.{Label}
-use Rattle.herm_check.specs.Numberings.{in_set, AreNumbers}
+use Rattle.herm_check.specs.Numberings.{in_set, AreOfFacts}
 use Rattle.herm_check.specs.Weights.{label_weight}
 
 -- The label at a place becomes another. The point is reached; its facts are those behind the edge, of which the old ones are
@@ -18,7 +18,7 @@ pub record IsJoined (ns : FactNumbers) (before : List Label) (t : ℕ) (l new : 
   pub reached : new.reached ≡ true
   pub facts : (f : Fact) → in_set ns new.held f ≡ cond l.reached (in_set ns l.held f && after f) (after f)
   pub still : new.pending ≡ false → (l.reached ≡ true) × (l.pending ≡ false) × ((f : Fact) → in_set ns new.held f ≡ in_set ns l.held f)
-  pub known : AreNumbers ns new.held
+  pub known : AreOfFacts ns new.held
   pub less : (all : List Fact) → ((f : Fact) (n : ℕ) → number_of ns f ≡ Some n → IsIn f all) → label_weight ns all new ≤ label_weight ns all l
 
 -- An edge was followed from a point at which these facts are held: to an end, or to a point whose label was joined.

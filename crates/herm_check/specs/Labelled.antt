@@ -12,9 +12,10 @@ use Rattle.herm_types.specs.View.{fact_view}
 use Rattle.herm_flow.specs.declared.onward.OnwardPoint.{OnwardPoint}
 use Rattle.herm_flow.specs.declared.onward.OnwardFlow.{OnwardFlow}
 use Rattle.herm_facts.specs.declared.fact_numbers.FactNumbers.{FactNumbers}
+use Rattle.herm_facts.specs.FactNumbers.{AreApart}
 use Rattle.herm_check.specs.declared.label.Label.{Label}
 use Rattle.herm_check.specs.declared.numbering.Numbering.{Numbering}
-use Rattle.herm_check.specs.Numberings.{in_set, AreNumbers, AreApart, HaveNumbers}
+use Rattle.herm_check.specs.Numberings.{in_set, AreOfFacts, HaveNumbers}
 use Rattle.herm_check.specs.Lists.{AreListsIn}
 
 abbrev pub is_reached : List Label → ℕ → Bool
@@ -35,7 +36,7 @@ abbrev pub all_facts : OnwardFlow → List Fact
 all_facts flow = init (0 ∷ []) ∷ flat_map (λ (p : OnwardPoint). flat_map facts_of p.made.items) flow.points.items
 
 -- The facts of the flow have numbers, no others have, and no two facts have the same; and the lists of the flow's points are sets of these numbers.
-pub record AreNumbered (flow : OnwardFlow) (n : Numbering) : Type 0 where
+pub record IsNumberingOf (flow : OnwardFlow) (n : Numbering) : Type 0 where
   pub numbers : HaveNumbers (all_facts flow) n.facts
   pub apart : AreApart n.facts
   pub lists : AreListsIn n.facts flow n.lists.items
@@ -59,7 +60,7 @@ pub record AreTrue (ns : FactNumbers) (flow : Flow) (ls : List Label) : Type 0 w
   pub reached : (i : ℕ) → is_reached ls i ≡ true → IsReached flow (node i)
   pub bare : (i : ℕ) (f : Fact) → is_reached ls i ≡ false → holds_at ns ls i f ≡ false
   pub lacking : (i : ℕ) (f : Fact) → is_reached ls i ≡ true → holds_at ns ls i f ≡ false → Lacks flow f i
-  pub known : (i : ℕ) (l : Label) → slice_get ls i ≡ Some l → AreNumbers ns l.held
+  pub known : (i : ℕ) (l : Label) → slice_get ls i ≡ Some l → AreOfFacts ns l.held
   pub begins : Goes ns ls flow.entry held_at_start
 
 pub record AreLabels (ns : FactNumbers) (flow : Flow) (ls : List Label) : Type 0 where

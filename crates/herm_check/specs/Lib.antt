@@ -9,6 +9,8 @@ pub mod Shortest
 pub mod FactSets
 pub mod Effects
 pub mod Searched
+pub mod Remaining
+pub mod Alike
 pub mod Trails
 pub mod Missing
 pub mod Faults

@@ -9,11 +9,10 @@ use Rattle.herm_model.specs.MissingFacts.{Demand, Refusal}
 use Rattle.herm_types.specs.declared.fact.Fact.{Fact as FactHere}
 use Rattle.herm_types.specs.View.{fact_view}
 use Rattle.herm_facts.specs.declared.fact_numbers.FactNumbers.{FactNumbers}
-use Rattle.herm_facts.specs.FactNumbers.{number_of}
+use Rattle.herm_facts.specs.FactNumbers.{number_of, AreFacts}
 use Rattle.herm_typestate.specs.declared.labels.Labels.{Labels}
 use Rattle.herm_typestate.specs.declared.state.State.{State}
 use Rattle.herm_typestate.specs.Facts.{has_fact}
-use Rattle.herm_check.specs.Effects.{AreNumbered}
 use Rattle.herm_check.specs.Trails.{trail}
 use Rattle.herm_check.specs.Shortest.{AreReported}
 use Rattle.herm_check.specs.declared.search.Search.{Search}
@@ -63,4 +62,4 @@ missing_of lost facts missing = record { lost = facts; searches = lost.searches;
 
 -- what is missing of more demands was appended, whatever was missing before
 abbrev pub IsAdded : Flow → Lost → List Demand → Vec MissingAt Global → Vec MissingAt Global → Type 0
-IsAdded flow lost more old new = (ds : List Demand) (facts : Vec FactHere Global) → AreNumbered lost.numbers (map fact_view facts.items) → AreMissing flow ds (missing_of lost facts old) → AreMissing flow (ds ++ more) (missing_of lost facts new)
+IsAdded flow lost more old new = (ds : List Demand) (facts : Vec FactHere Global) → AreFacts lost.numbers (map fact_view facts.items) → AreMissing flow ds (missing_of lost facts old) → AreMissing flow (ds ++ more) (missing_of lost facts new)

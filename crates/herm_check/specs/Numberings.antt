@@ -15,12 +15,8 @@ abbrev pub HasNumber : FactNumbers → Fact → Type 0
 HasNumber ns f = (n : ℕ) × (number_of ns f ≡ Some n)
 
 -- each number in the set is that of a fact
-abbrev pub AreNumbers : FactNumbers → NumberSet → Type 0
-AreNumbers ns set = (n : ℕ) → has_number set n ≡ true → (f : Fact) × (number_of ns f ≡ Some n)
-
--- no two facts have one number
-abbrev pub AreApart : FactNumbers → Type 0
-AreApart ns = (f g : Fact) (n : ℕ) → number_of ns f ≡ Some n → number_of ns g ≡ Some n → f ≡ g
+abbrev pub AreOfFacts : FactNumbers → NumberSet → Type 0
+AreOfFacts ns set = (n : ℕ) → has_number set n ≡ true → (f : Fact) × (number_of ns f ≡ Some n)
 
 -- these facts have numbers, and no others
 pub record HaveNumbers (facts : List Fact) (ns : FactNumbers) : Type 0 where

@@ -177,7 +177,7 @@ pub fn effects_in(
 }
 
 /// Whether there is a value at the port alone when a process begins.
-fn is_held_at_start(fact: &Fact) -> bool
+pub fn is_held_at_start(fact: &Fact) -> bool
     ensures { result ≡ held_at_start (fact_view fact.now) }
 {
     match fact {

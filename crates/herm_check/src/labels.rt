@@ -7,15 +7,16 @@ ghost use Rattle.herm_model.specs.ControlPaths.{IsReached, held_at_start};
 ghost use Rattle.herm_model.specs.laws.FlowLaws.{EdgesDiffer};
 ghost use Rattle.herm_model.specs.Labels.{AreExact};
 ghost use Rattle.herm_facts.specs.NumberSets.{has_number};
+ghost use Rattle.herm_facts.specs.FactNumbers.{AreApart};
 ghost use Rattle.herm_check.specs.declared.label.Label.{Label as LabelOf};
 ghost use Rattle.herm_flow.specs.declared.onward.OnwardPoint.{OnwardPoint};
 ghost use Rattle.herm_flow.specs.OnwardView.{onward_flow_view};
 ghost use Rattle.herm_facts.specs.declared.fact_numbers.FactNumbers.{FactNumbers as FactNumbersOf};
 ghost use Rattle.herm_check.specs.View.{labels_view, edge_in};
 ghost use Rattle.herm_check.specs.Lists.{AreListsOf};
-ghost use Rattle.herm_check.specs.Numberings.{in_set, HasNumber, AreNumbers, AreApart};
+ghost use Rattle.herm_check.specs.Numberings.{in_set, HasNumber, AreOfFacts};
 ghost use Rattle.herm_check.specs.Weights.{weight};
-ghost use Rattle.herm_check.specs.Labelled.{is_reached, is_pending, holds_at, all_facts, AreNumbered, AreLabels, AreDone, IsLeft, LeadThere};
+ghost use Rattle.herm_check.specs.Labelled.{is_reached, is_pending, holds_at, all_facts, IsNumberingOf, AreLabels, AreDone, IsLeft, LeadThere};
 ghost use Rattle.herm_check.specs.Followed.{IsFollowed};
 
 use crate::label::{Label, join};
@@ -55,7 +56,7 @@ fn first_label(alloc: Global, numbers: &FactNumbers) -> Result<Label, AllocError
     ensures reached { IfOk result (λ l. l.reached ≡ true) }
     ensures pending { IfOk result (λ l. l.pending ≡ true) }
     ensures facts { IfOk result (λ l. (f : FactOf) → in_set numbers.now l.held f ≡ held_at_start f) }
-    ensures known { IfOk result (λ l. AreNumbers numbers.now l.held) }
+    ensures known { IfOk result (λ l. AreOfFacts numbers.now l.held) }
 {
     let mut held = NumberSet::none(alloc);
     let start = start_fact(alloc);
@@ -69,7 +70,7 @@ fn first_label(alloc: Global, numbers: &FactNumbers) -> Result<Label, AllocError
 
 /// The labels as a process begins: there is a value at its port, and it is still to leave its first point.
 fn begin(alloc: Global, flow: &OnwardFlow, numbering: &Numbering) -> Result<Vec<Label>, AllocError>
-    requires numbered { AreNumbered flow.now numbering.now }
+    requires numbered { IsNumberingOf flow.now numbering.now }
     ensures { IfOk result (λ ls. AreLabels numbering.now.facts (onward_flow_view flow.now) ls.items) }
 {
     let count = flow.points.len();
@@ -92,7 +93,7 @@ fn follow(
 ) -> Result<(), AllocError>
     requires within { i < length labels.old.items }
     requires there { edge.now.to < length labels.old.items }
-    ensures { OnOk result ((ns : FactNumbersOf) (p : OnwardPoint) → AreApart ns → AreListsOf ns p lists.now → ((f : FactOf) → IsIn f (edge_in p edge.now).makes → HasNumber ns f) → ((j : ℕ) (l : LabelOf) → slice_get labels.old.items j ≡ Some l → AreNumbers ns l.held) → IsFollowed ns (edge_in p edge.now) (holds_at ns labels.old.items i) labels.old.items labels.new.items) }
+    ensures { OnOk result ((ns : FactNumbersOf) (p : OnwardPoint) → AreApart ns → AreListsOf ns p lists.now → ((f : FactOf) → IsIn f (edge_in p edge.now).makes → HasNumber ns f) → ((j : ℕ) (l : LabelOf) → slice_get labels.old.items j ≡ Some l → AreOfFacts ns l.held) → IsFollowed ns (edge_in p edge.now) (holds_at ns labels.old.items i) labels.old.items labels.new.items) }
 {
     let after = numbers_behind(alloc, &labels[i].held, lists, edge)?;
     let label = &mut labels[edge.to as usize];
@@ -110,7 +111,7 @@ fn follow_all(
 ) -> Result<(), AllocError>
     requires differ { EdgesDiffer (onward_flow_view flow.now) }
     requires there { LeadThere (onward_flow_view flow.now) }
-    requires numbered { AreNumbered flow.now numbering.now }
+    requires numbered { IsNumberingOf flow.now numbering.now }
     requires within { i < length flow.now.points.items }
     requires left { IsLeft numbering.now.facts (onward_flow_view flow.now) i [] labels.old.items }
     ensures labels { OnOk result (AreLabels numbering.now.facts (onward_flow_view flow.now) labels.new.items) }
@@ -135,7 +136,7 @@ fn leave(
 ) -> Result<(), AllocError>
     requires differ { EdgesDiffer (onward_flow_view flow.now) }
     requires there { LeadThere (onward_flow_view flow.now) }
-    requires numbered { AreNumbered flow.now numbering.now }
+    requires numbered { IsNumberingOf flow.now numbering.now }
     requires labels { AreLabels numbering.now.facts (onward_flow_view flow.now) labels.old.items }
     requires within { i < length labels.old.items }
     requires reached { is_reached labels.old.items i ≡ true }
@@ -211,7 +212,7 @@ pub fn settled(
 ) -> Result<Vec<Label>, AllocError>
     requires differ { EdgesDiffer (onward_flow_view flow.now) }
     requires there { LeadThere (onward_flow_view flow.now) }
-    requires numbered { AreNumbered flow.now numbering.now }
+    requires numbered { IsNumberingOf flow.now numbering.now }
     ensures { IfOk result (λ ls. AreDone numbering.now.facts (onward_flow_view flow.now) ls.items) }
 {
     let mut labels = begin(alloc, flow, numbering)?;

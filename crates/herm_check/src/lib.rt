@@ -1,6 +1,7 @@
 //! Which facts are held at each point of a flow, and which needed ones are not.
 #![tactic(auto)]
 
+mod alike;
 mod behind_edge;
 mod checking;
 mod effects;

@@ -1,7 +1,6 @@
 //! The lists of points by the numbers that facts have.
 ghost use Rattle.std.specs.Prelude.{◌≡◌, ℕ, ◌<◌, ◌+◌, ◌*◌, IfOk};
 ghost use Rattle.herm_flow.specs.OnwardView.{facts_in, paths_in};
-ghost use Rattle.herm_check.specs.Numberings.{AreApart};
 ghost use Rattle.herm_check.specs.Lists.{at_has, HasFacts, HasBelow, AreListsOf, AreListsIn};
 
 use herm_facts::{FactNumbers, SparseSet};

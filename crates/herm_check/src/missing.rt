@@ -12,11 +12,12 @@ ghost use Rattle.herm_typestate.specs.Facts.{has_fact};
 ghost use Rattle.herm_flow.specs.OnwardView.{onward_point_view, onward_flow_view};
 ghost use Rattle.herm_check.specs.View.{labels_view};
 ghost use Rattle.herm_check.specs.Labelled.{LeadThere};
-ghost use Rattle.herm_facts.specs.FactNumbers.{number_of};
-ghost use Rattle.herm_check.specs.Effects.{AreNumbered};
+ghost use Rattle.herm_facts.specs.FactNumbers.{number_of, AreFacts};
 ghost use Rattle.herm_check.specs.Searched.{AreSearched};
+ghost use Rattle.herm_check.specs.Alike.{AreSearchedBy};
 ghost use Rattle.herm_check.specs.Missing.{demand, IsAdded, IsNoted, AreNoted, AreKept, AreMissing};
 
+use crate::alike::{Standing, standing_in};
 use crate::lists::lists_in;
 use crate::search::{SHARED, Search, lost_place, search_for};
 use herm_base::StmtNo;
@@ -44,10 +45,11 @@ pub struct Missing {
     pub facts: Vec<MissingAt>,
 }
 
-/// The lost facts by their numbers, and the searches for them.
+/// The lost facts by their numbers; for each of them the number of the fact that stands for it in the searches; and the searches.
 #[derive(Drop)]
 pub struct Lost {
     pub numbers: FactNumbers,
+    pub by: Vec<usize>,
     pub searches: Vec<Search>,
 }
 
@@ -106,7 +108,7 @@ fn searches_of(
 ) -> Result<Vec<Search>, AllocError>
     requires there { LeadThere (onward_flow_view flow.now) }
     requires some { 0 < length facts.now → 0 < length flow.now.points.items }
-    requires numbers { AreNumbered lost.now (map fact_view facts.now) }
+    requires numbers { AreFacts lost.now (map fact_view facts.now) }
     ensures { IfOk result (λ searches. AreSearched (onward_flow_view flow.now) lost.now searches.items) }
 {
     let mut searches = Vec::new(alloc);
@@ -123,18 +125,21 @@ fn searches_of(
     Ok(searches)
 }
 
-/// The searches for the facts that have numbers.
-fn searches_for(
-    alloc: Global,
-    flow: &OnwardFlow,
-    lost: &FactNumbers,
-) -> Result<Vec<Search>, AllocError>
+/// The searches for the facts that have numbers, one for all facts that the edges treat alike.
+fn search_lost(alloc: Global, flow: &OnwardFlow, numbers: FactNumbers) -> Result<Lost, AllocError>
     requires there { LeadThere (onward_flow_view flow.now) }
-    requires some { (f : FactOf) (n : ℕ) → number_of lost.now f ≡ Some n → 0 < length flow.now.points.items }
-    ensures { IfOk result (λ searches. AreSearched (onward_flow_view flow.now) lost.now searches.items) }
+    requires some { (f : FactOf) (n : ℕ) → number_of numbers f ≡ Some n → 0 < length flow.now.points.items }
+    ensures numbers { IfOk result (λ lost. lost.numbers ≡ numbers) }
+    ensures searched { IfOk result (λ lost. AreSearchedBy (onward_flow_view flow.now) lost.numbers lost.by.items lost.searches.items) }
 {
-    let searches = searches_of(alloc, flow, lost, lost.facts())?;
-    Ok(searches)
+    let standing = standing_in(alloc, flow, &numbers)?;
+    let searches = searches_of(alloc, flow, &standing.numbers, standing.numbers.facts())?;
+    let Standing { numbers: _, by } = standing;
+    Ok(Lost {
+        numbers,
+        by,
+        searches,
+    })
 }
 
 /// Appends the fact with its path, where the label of its point lacks it.
@@ -152,7 +157,7 @@ fn push_lacking(
     requires within { at < length flow.now.points.items }
     requires exact { (f : FactOf) → (has_fact state.now f ≡ true) ↔ Holds (onward_flow_view flow.now) f at }
     requires noted { has_fact state.now (fact_view fact.now) ≡ false → IsNoted lost.now.numbers (fact_view fact.now) }
-    requires searched { AreSearched (onward_flow_view flow.now) lost.now.numbers lost.now.searches.items }
+    requires searched { AreSearchedBy (onward_flow_view flow.now) lost.now.numbers lost.now.by.items lost.now.searches.items }
     ensures { OnOk result (IsAdded (onward_flow_view flow.now) lost.now (demand at stmt.0 (fact_view fact.now) ∷ []) out.old out.new) }
 {
     if state.holds(fact) {
@@ -161,8 +166,9 @@ fn push_lacking(
     let Some(number) = lost.numbers.number_of(fact) else {
         unreachable!()
     };
-    let search = number / SHARED;
-    let Some(place) = lost_place(flow, &lost.searches[search], at, number % SHARED) else {
+    let by = lost.by[number];
+    let search = by / SHARED;
+    let Some(place) = lost_place(flow, &lost.searches[search], at, by % SHARED) else {
         unreachable!()
     };
     out.push(MissingAt {
@@ -188,7 +194,7 @@ fn push_point(
     requires within { at < length flow.now.points.items }
     requires exact { (f : FactOf) → (has_fact state.now f ≡ true) ↔ Holds (onward_flow_view flow.now) f at }
     requires noted { (f : FactOf) → IsIn f (onward_point_view point.now).needs → has_fact state.now f ≡ false → IsNoted lost.now.numbers f }
-    requires searched { AreSearched (onward_flow_view flow.now) lost.now.numbers lost.now.searches.items }
+    requires searched { AreSearchedBy (onward_flow_view flow.now) lost.now.numbers lost.now.by.items lost.now.searches.items }
     ensures { OnOk result (IsAdded (onward_flow_view flow.now) lost.now (demands_at (at, onward_point_view point.now)) out.old out.new) }
 {
     for fact in &point.needs {
@@ -207,13 +213,16 @@ pub fn lacking(alloc: Global, flow: &OnwardFlow, labels: &Labels) -> Result<Miss
     ensures { IfOk result (AreMissing (onward_flow_view flow.now) (demands (onward_flow_view flow.now))) }
 {
     let numbers = lost_in(alloc, flow, labels)?;
-    let searches = searches_for(alloc, flow, &numbers)?;
-    let lost = Lost { numbers, searches };
+    let lost = search_lost(alloc, flow, numbers)?;
     let mut facts = Vec::new(alloc);
     for (i, point) in flow.points.as_slice().iter().enumerate() {
         push_point(flow, i, point, &labels.at[i], &lost, &mut facts)?;
     }
-    let Lost { numbers, searches } = lost;
+    let Lost {
+        numbers,
+        by: _,
+        searches,
+    } = lost;
     Ok(Missing {
         lost: numbers.into_facts(),
         searches,

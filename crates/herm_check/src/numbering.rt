@@ -3,8 +3,9 @@ ghost use Rattle.std.specs.Prelude.{◌≡◌, [], ◌∷◌, ◌++◌, map, fla
 ghost use Rattle.herm_model.specs.Paths as model;
 ghost use Rattle.herm_model.specs.Paths.{init};
 ghost use Rattle.herm_types.specs.View.{fact_view};
-ghost use Rattle.herm_check.specs.Numberings.{HaveNumbers, AreApart};
-ghost use Rattle.herm_check.specs.Labelled.{facts_of, all_facts, AreNumbered};
+ghost use Rattle.herm_facts.specs.FactNumbers.{AreApart};
+ghost use Rattle.herm_check.specs.Numberings.{HaveNumbers};
+ghost use Rattle.herm_check.specs.Labelled.{facts_of, all_facts, IsNumberingOf};
 
 use crate::lists::{ListsOf, lists_in};
 use herm_base::VarNo;
@@ -79,7 +80,7 @@ fn numbers_in(alloc: Global, flow: &OnwardFlow) -> Result<FactNumbers, AllocErro
 
 /// The facts of the flow by numbers, and its lists by these.
 pub fn numbering_of(alloc: Global, flow: &OnwardFlow) -> Result<Numbering, AllocError>
-    ensures { IfOk result (AreNumbered flow.now) }
+    ensures { IfOk result (IsNumberingOf flow.now) }
 {
     let facts = numbers_in(alloc, flow)?;
     let lists = lists_in(alloc, flow, &facts)?;

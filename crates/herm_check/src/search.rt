@@ -1,5 +1,5 @@
 //! The search for shortest control paths on which a fact is not held.
-ghost use Rattle.std.specs.Prelude.{◌≡◌, ◌+◌, ◌*◌, ◌^◌, ◌<◌, ◌≤◌, ℕ, List, Some, None, cond, nat_lt, map, reverse, length, slice_get, take, drop, option_and_then, IfOk, OnOk, IfSome, IfNone};
+ghost use Rattle.std.specs.Prelude.{◌≡◌, ◌+◌, ◌*◌, ◌^◌, ◌<◌, ◌≤◌, ℕ, List, Some, None, true, cond, nat_lt, map, reverse, length, slice_get, take, drop, option_and_then, IfOk, OnOk, IfSome, IfNone};
 ghost use Rattle.herm_model.specs.Paths.{Fact as FactOf};
 ghost use Rattle.herm_model.specs.Targets.{node};
 ghost use Rattle.herm_model.specs.ControlPaths.{Holds};
@@ -15,6 +15,7 @@ ghost use Rattle.herm_check.specs.Effects.{AreEffectsIn};
 ghost use Rattle.herm_check.specs.Trails.{trail};
 ghost use Rattle.herm_check.specs.declared.search.Visit.{Visit as VisitOf};
 ghost use Rattle.herm_check.specs.Searched.{slot_of, is_held_beyond, IsUnvisited, IsVisited, IsFollowedFrom, AreVisits, IsSearching, IsKept, IsNearest, IsSearched};
+ghost use Rattle.herm_check.specs.Remaining.{IsSeenBeyond, HasAt, IsRestAt, AreRests, ArePristine};
 
 use crate::effects::{Effect, effects_in, held_first};
 use crate::lists::ListsOf;
@@ -27,6 +28,9 @@ use std::alloc::{AllocError, Global};
 
 /// How many facts share a search.
 pub const SHARED: usize = 64;
+
+/// The edges of a point that has fewer are followed sooner than looked at.
+const FEW: usize = 8;
 
 /// One hop of a control path: a statement's number, and one of its outcomes.
 #[derive(Clone, Copy, Debug, PartialEq, Eq)]
@@ -58,6 +62,14 @@ pub struct Search {
     pub visits: Vec<Visit>,
     pub seen: Vec<FactSet>,
     pub places: Vec<Vec<usize>>,
+}
+
+/// Of a point with facts held or not: for these facts, with which it was visited, its edges but those with these numbers lead to
+/// nothing new.
+#[derive(Drop)]
+struct Rest {
+    facts: FactSet,
+    edges: Vec<usize>,
 }
 
 /// The place of a point, with facts held or not, among all of these.
@@ -110,6 +122,7 @@ fn held_beyond(effect: Effect, visit: &Visit) -> FactSet
 }
 
 /// Follows an edge of a statement from a visit, which has this place.
+#[inline(always)]
 fn follow(
     effect: Effect,
     stmt: StmtNo,
@@ -149,7 +162,7 @@ fn follow(
 }
 
 /// Follows each edge from the visit at a place.
-fn leave(
+fn follow_all(
     flow: &OnwardFlow,
     effects: &[Vec<Effect>],
     _facts: &[Fact],
@@ -171,6 +184,148 @@ fn leave(
         follow(row[number], point.stmt, edge, k, &visit, search)?;
     }
     Ok(())
+}
+
+/// Follows the edges with these numbers from the visit at a place, where the others lead to nothing new for its facts.
+fn follow_listed(
+    flow: &OnwardFlow,
+    effects: &[Vec<Effect>],
+    _facts: &[Fact],
+    numbers: &[usize],
+    k: usize,
+    search: &mut Search,
+) -> Result<(), AllocError>
+    requires there { LeadThere (onward_flow_view flow.now) }
+    requires effects { AreEffectsIn (onward_flow_view flow.now) (map fact_view _facts.now) effects.now }
+    requires search { IsSearching (onward_flow_view flow.now) (map fact_view _facts.now) search.old k }
+    requires within { k < length search.old.visits.items }
+    requires listed { HasAt search.old.visits.items k (λ v. IsRestAt (onward_flow_view flow.now) (map fact_view _facts.now) search.old.visits.items v.point v.held v.facts numbers.now) }
+    ensures search { OnOk result (IsSearching (onward_flow_view flow.now) (map fact_view _facts.now) search.new (k + 1)) }
+    ensures kept { OnOk result (IsKept search.old.visits.items search.new.visits.items) }
+{
+    let visit = search.visits[k];
+    let point = &flow.points[visit.point];
+    let row = effects[visit.point].as_slice();
+    for i in 0..numbers.len() {
+        let number = numbers[i];
+        let edge = &point.edges[number];
+        follow(row[number], point.stmt, edge, k, &visit, search)?;
+    }
+    Ok(())
+}
+
+/// Whether the point behind an edge was seen with each fact of a visit, held or not as it is behind the edge.
+#[inline(always)]
+fn is_closed(effect: Effect, edge: &OnwardEdge, visit: &Visit, seen: &[FactSet]) -> bool
+    requires within { 2 * edge.now.to + 1 < length seen.now }
+    ensures { result ≡ true → IsSeenBeyond seen.now effect visit.now edge.now.to }
+{
+    let held = held_beyond(effect, visit);
+    let others = visit.facts.without(held);
+    let to = edge.to as usize;
+    if !held.without(seen[slot(to, true)]).is_empty() {
+        return false;
+    }
+    others.without(seen[slot(to, false)]).is_empty()
+}
+
+/// The numbers of the edges that may lead to something new, from the point of the visit at a place and for all facts with which
+/// the point was seen as in this visit.
+fn rest_of(
+    alloc: Global,
+    flow: &OnwardFlow,
+    effects: &[Vec<Effect>],
+    _facts: &[Fact],
+    k: usize,
+    search: &Search,
+) -> Result<Rest, AllocError>
+    requires there { LeadThere (onward_flow_view flow.now) }
+    requires effects { AreEffectsIn (onward_flow_view flow.now) (map fact_view _facts.now) effects.now }
+    requires search { IsSearching (onward_flow_view flow.now) (map fact_view _facts.now) search.now k }
+    requires within { k < length search.now.visits.items }
+    ensures facts { IfOk result (λ rest. HasAt search.now.visits.items k (λ v. (j : ℕ) (f : FactOf) → slice_get (map fact_view _facts.now) j ≡ Some f → has v.facts j ≡ true → has rest.facts j ≡ true)) }
+    ensures edges { IfOk result (λ rest. HasAt search.now.visits.items k (λ v. IsRestAt (onward_flow_view flow.now) (map fact_view _facts.now) search.now.visits.items v.point v.held rest.facts rest.edges.items)) }
+{
+    let visit = search.visits[k];
+    let point = &flow.points[visit.point];
+    let row = effects[visit.point].as_slice();
+    let whole = Visit {
+        point: visit.point,
+        held: visit.held,
+        facts: search.seen[slot(visit.point, visit.held)],
+        depth: visit.depth,
+        last: visit.last,
+    };
+    let mut edges = Vec::new(alloc);
+    for number in 0..point.edges.len() {
+        if !is_closed(
+            row[number],
+            &point.edges[number],
+            &whole,
+            search.seen.as_slice(),
+        ) {
+            edges.push(number)?;
+        }
+    }
+    Ok(Rest {
+        facts: whole.facts,
+        edges,
+    })
+}
+
+/// Follows from the visit at a place each edge that may lead to something new.
+fn leave(
+    alloc: Global,
+    flow: &OnwardFlow,
+    effects: &[Vec<Effect>],
+    _facts: &[Fact],
+    k: usize,
+    search: &mut Search,
+    rests: &mut Vec<Rest>,
+) -> Result<(), AllocError>
+    requires there { LeadThere (onward_flow_view flow.now) }
+    requires effects { AreEffectsIn (onward_flow_view flow.now) (map fact_view _facts.now) effects.now }
+    requires search { IsSearching (onward_flow_view flow.now) (map fact_view _facts.now) search.old k }
+    requires within { k < length search.old.visits.items }
+    requires rests { AreRests (onward_flow_view flow.now) (map fact_view _facts.now) search.old.visits.items rests.old.items }
+    ensures search { OnOk result (IsSearching (onward_flow_view flow.now) (map fact_view _facts.now) search.new (k + 1)) }
+    ensures kept { OnOk result (IsKept search.old.visits.items search.new.visits.items) }
+    ensures rests { OnOk result (AreRests (onward_flow_view flow.now) (map fact_view _facts.now) search.new.visits.items rests.new.items) }
+{
+    let visit = search.visits[k];
+    let slot = slot(visit.point, visit.held);
+    let count = flow.points[visit.point].edges.len();
+    if count < FEW || rests[slot].facts.is_empty() {
+        follow_all(flow, effects, _facts, k, search)?;
+        rests[slot].facts = visit.facts;
+        return Ok(());
+    }
+    if !visit.facts.without(rests[slot].facts).is_empty() {
+        rests[slot] = rest_of(alloc, flow, effects, _facts, k, search)?;
+    }
+    follow_listed(
+        flow,
+        effects,
+        _facts,
+        rests[slot].edges.as_slice(),
+        k,
+        search,
+    )?;
+    Ok(())
+}
+
+/// So many points, with facts held or not, from which no edge was followed.
+fn pristine(alloc: Global, count: usize) -> Result<Vec<Rest>, AllocError>
+    ensures { IfOk result (λ rests. ArePristine count rests.items) }
+{
+    let mut rests = Vec::new(alloc);
+    for _ in 0..count {
+        rests.push(Rest {
+            facts: FactSet::none(),
+            edges: Vec::new(alloc),
+        })?;
+    }
+    Ok(rests)
 }
 
 /// So many points, with facts held or not, that were not visited.
@@ -218,6 +373,7 @@ fn begin(alloc: Global, flow: &OnwardFlow, facts: &[Fact]) -> Result<Search, All
 
 /// Follows each edge from each visit, those that are added by it too.
 fn complete(
+    alloc: Global,
     flow: &OnwardFlow,
     effects: &[Vec<Effect>],
     facts: &[Fact],
@@ -228,9 +384,10 @@ fn complete(
     requires search { IsSearching (onward_flow_view flow.now) (map fact_view facts.now) search.old 0 }
     ensures { OnOk result (IsSearching (onward_flow_view flow.now) (map fact_view facts.now) search.new (length search.new.visits.items)) }
 {
+    let mut rests = pristine(alloc, search.seen.len())?;
     let mut next = 0;
     while next < search.visits.len() {
-        leave(flow, effects, facts, next, search)?;
+        leave(alloc, flow, effects, facts, next, search, &mut rests)?;
         next += 1;
     }
     Ok(())
@@ -264,7 +421,7 @@ pub fn search_for(
     let facts = shared_in(lost.facts(), number);
     let effects = effects_in(alloc, flow, lists, number)?;
     let mut search = begin(alloc, flow, facts)?;
-    complete(flow, effects.as_slice(), facts, &mut search)?;
+    complete(alloc, flow, effects.as_slice(), facts, &mut search)?;
     Ok(search)
 }
 

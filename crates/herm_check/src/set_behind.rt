@@ -5,7 +5,8 @@ ghost use Rattle.herm_model.specs.Paths as model;
 ghost use Rattle.herm_model.specs.Paths.{same_fact};
 ghost use Rattle.herm_types.specs.View.{fact_view};
 ghost use Rattle.herm_facts.specs.NumberSets.{has_number};
-ghost use Rattle.herm_check.specs.Numberings.{in_set, HasNumber, AreNumbers, AreApart};
+ghost use Rattle.herm_facts.specs.FactNumbers.{AreApart};
+ghost use Rattle.herm_check.specs.Numberings.{in_set, HasNumber, AreOfFacts};
 ghost use Rattle.herm_check.specs.Lists.{at_has, is_made_number, is_killed_number};
 
 use crate::lists::ListsOf;
@@ -19,7 +20,7 @@ pub fn hold(numbers: &FactNumbers, held: &mut NumberSet, fact: &Fact) -> Result<
     requires apart { AreApart numbers.now }
     requires number { HasNumber numbers.now (fact_view fact.now) }
     ensures facts { OnOk result ((f : model.Fact) → in_set numbers.now held.new f ≡ (same_fact f (fact_view fact.now) || in_set numbers.now held.old f)) }
-    ensures known { OnOk result (AreNumbers numbers.now held.old → AreNumbers numbers.now held.new) }
+    ensures known { OnOk result (AreOfFacts numbers.now held.old → AreOfFacts numbers.now held.new) }
 {
     let Some(number) = numbers.number_of(fact) else {
         unreachable!()
@@ -34,7 +35,7 @@ fn join_list(held: &mut NumberSet, made: &[SparseSet], list: u32) -> Result<(), 
 {
     match made.get(list as usize) {
         Some(set) => {
-            held.join(set)?;
+            held.union(set)?;
             Ok(())
         }
         None => Ok(()),
@@ -56,7 +57,7 @@ fn take_list(held: &mut NumberSet, gone: &[SparseSet], list: u32)
     ensures { (n : ℕ) → has_number held.new n ≡ (has_number held.old n && not (at_has gone.now list n)) }
 {
     match gone.get(list as usize) {
-        Some(set) => held.take(set),
+        Some(set) => held.subtract(set),
         None => {}
     }
 }

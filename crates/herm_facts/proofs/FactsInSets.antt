@@ -105,3 +105,7 @@ gains_one P k old new each is n = (λ h. there (or_cases (nat_eq n k) (old n) (s
     back : (old n ≡ true) ⊎ P n → new n ≡ true
     back (inl h) = is n ∙ or_second (nat_eq n k) (old n) h
     back (inr m) = is n ∙ or_first (nat_eq n k) (old n) (eq-eqb n k ((each n).1 m))
+
+-- a set of the same numbers
+pub same_set : (P : ℕ → Type 0) (old new : ℕ → Bool) → ((n : ℕ) → new n ≡ old n) → ((n : ℕ) → (old n ≡ true) ↔ P n) → (n : ℕ) → (new n ≡ true) ↔ P n
+same_set P old new same each n = (λ h. (each n).0 (sym (same n) ∙ h), λ m. same n ∙ (each n).1 m)

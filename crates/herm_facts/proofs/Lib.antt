@@ -5,4 +5,5 @@ pub mod Giving
 pub mod Walk
 pub mod Listed
 pub mod SparseSets
+pub mod Filled
 pub mod FactsInSets

@@ -11,7 +11,9 @@ use Rattle.herm_model.proofs.Options.{some-injective, none-not_some}
 use Rattle.herm_typestate.proofs.FactSets.{same_turned}
 use Rattle.herm_facts.specs.declared.numbered.Known.{Known}
 use Rattle.herm_facts.specs.declared.numbered.Numbered.{Numbered}
-use Rattle.herm_facts.specs.Numbers.{Numbers, component_of, number_among, number_by, here_list, all_numbers, numbers_at, with_number, given, number_in, stand_once, AreNumbers, Appends}
+use Rattle.herm_facts.specs.declared.fact_numbers.FactNumbers.{FactNumbers}
+use Rattle.herm_facts.specs.FactNumbers.{AreFacts, AreApart}
+use Rattle.herm_facts.specs.Numbers.{Numbers, component_of, number_among, number_by, here_list, all_numbers, numbers_at, with_number, given, number_in, stand_once, AreTreesOf, Appends}
 use Rattle.herm_facts.proofs.Among.{among-behind, among-other, among-in}
 use Rattle.herm_facts.proofs.Walk.{Below, TreesOnce, appends_same}
 
@@ -60,8 +62,8 @@ differ-once (n ∷ ns) h = by (any_pass (nat_eq n) ns) refl (differ-once ns h.1)
     by false e again = again
 
 -- no component is listed twice
-abbrev AreApart : Numbers → Type 0
-AreApart ns = Differ (map (λ k. k.component) ns.known)
+abbrev HasApartComponents : Numbers → Type 0
+HasApartComponents ns = Differ (map (λ k. k.component) ns.known)
 
 apart-more : (c n : ℕ) (ks : List Known) → number_among c ks ≡ None → Differ (map (λ k. k.component) ks) → Differ (map (λ k. k.component) (ks ++ record { component = c; number = n } ∷ []))
 apart-more c n [] e h = (λ m. m, tt)
@@ -83,11 +85,11 @@ apart-more c n (k ∷ ks) e h = (λ m. none (in-map_from (λ (x : Known). x.comp
     none : (x : Known) × IsIn x (ks ++ record { component = c; number = n } ∷ []) × (k.component ≡ x.component) → ⊥
     none found = by found.0 found.2 (in-append_cases found.0 ks (record { component = c; number = n } ∷ []) found.1)
 
-apart-with : (ns : Numbers) (m : Option ℕ) (n : ℕ) → number_by ns m ≡ None → AreApart ns → AreApart (with_number m n ns)
+apart-with : (ns : Numbers) (m : Option ℕ) (n : ℕ) → number_by ns m ≡ None → HasApartComponents ns → HasApartComponents (with_number m n ns)
 apart-with ns None n e h = h
 apart-with ns (Some c) n e h = apart-more c n ns.known e h
 
-apart-given : (b : Bool) (ns : Numbers) (m : Option ℕ) (n : ℕ) → (b ≡ true → number_by ns m ≡ None) → AreApart ns → AreApart (cond b (with_number m n ns) ns)
+apart-given : (b : Bool) (ns : Numbers) (m : Option ℕ) (n : ℕ) → (b ≡ true → number_by ns m ≡ None) → HasApartComponents ns → HasApartComponents (cond b (with_number m n ns) ns)
 apart-given true ns m n e h = apart-with ns m n (e refl) h
 apart-given false ns m n e h = h
 
@@ -171,7 +173,7 @@ pub number-same : (ts us : List Numbered) → GiveAlike ts us → (f : Fact) →
 number-same ts us h f = ap (λ ns. number_by ns (component_of f)) (h (path_of f))
 
 -- the list with one fact more, beside trees that give it its place
-pub one_more : (ts us : List Numbered) (fs : List Fact) (g : Fact) → AreNumbers ts fs → number_in ts g ≡ None → Gives ts us g (length fs) → AreNumbers us (fs ++ g ∷ [])
+pub one_more : (ts us : List Numbered) (fs : List Fact) (g : Fact) → AreTreesOf ts fs → number_in ts g ≡ None → Gives ts us g (length fs) → AreTreesOf us (fs ++ g ∷ [])
 one_more ts us fs g are none h = record { listed = λ f k. (there f k, back f k); differ = differ }
   where
     there : (f : Fact) (k : ℕ) → slice_get (fs ++ g ∷ []) k ≡ Some f → number_in us f ≡ Some k
@@ -189,15 +191,15 @@ one_more ts us fs g are none h = record { listed = λ f k. (there f k, back f k)
             let last : length fs ≡ k = some-injective (sym (number-own ts us g (length fs) h none) ∙ subst (λ x. number_in us x ≡ Some k) s e) in
             subst (λ j. slice_get (fs ++ g ∷ []) j ≡ Some f) last (got-last fs g ∙ ap Some (sym s))
 
-    apart : (q : Path) → AreApart (numbers_at us q)
-    apart q = subst AreApart (sym (h q)) (apart-given (same_path (path_of g) q) (numbers_at ts q) (component_of g) (length fs)
+    apart : (q : Path) → HasApartComponents (numbers_at us q)
+    apart q = subst HasApartComponents (sym (h q)) (apart-given (same_path (path_of g) q) (numbers_at ts q) (component_of g) (length fs)
         (λ e. subst (λ p. number_by (numbers_at ts p) (component_of g) ≡ None) (same_numbers-is (path_of g) q e) none) (once-differ (map (λ k. k.component) (numbers_at ts q).known) (are.differ q)))
 
     differ : (q : Path) → stand_once (map (λ k. k.component) (numbers_at us q).known) ≡ true
     differ q = differ-once (map (λ k. k.component) (numbers_at us q).known) (apart q)
 
-pub as_before : (ts us : List Numbered) (fs gs : List Fact) → AreNumbers ts fs → GiveAlike ts us → gs ≡ fs → AreNumbers us gs
-as_before ts us fs gs are h e = subst (AreNumbers us) (sym e) (record {
+pub as_before : (ts us : List Numbered) (fs gs : List Fact) → AreTreesOf ts fs → GiveAlike ts us → gs ≡ fs → AreTreesOf us gs
+as_before ts us fs gs are h e = subst (AreTreesOf us) (sym e) (record {
   listed = λ f k. (λ a. number-same ts us h f ∙ (are.listed f k).0 a, λ b. (are.listed f k).1 (sym (number-same ts us h f) ∙ b));
   differ = λ q. subst (λ (ns : Numbers). stand_once (map (λ k. k.component) ns.known) ≡ true) (sym (h q)) (are.differ q);
 })
@@ -211,8 +213,8 @@ bare_trees (case (i ∷ p) c) = refl
 pub no_number : (ts : List Numbered) → ts ≡ [] → (f : Fact) → number_in ts f ≡ None
 no_number ts e f = ap (λ us. number_in us f) e ∙ bare_trees f
 
-pub no_facts : (ts : List Numbered) (fs : List Fact) → ts ≡ [] → fs ≡ [] → AreNumbers ts fs
-no_facts ts fs a b = subst (λ us. AreNumbers us fs) (sym a) (subst (AreNumbers []) (sym b) (record {
+pub no_facts : (ts : List Numbered) (fs : List Fact) → ts ≡ [] → fs ≡ [] → AreTreesOf ts fs
+no_facts ts fs a b = subst (λ us. AreTreesOf us fs) (sym a) (subst (AreTreesOf []) (sym b) (record {
   listed = λ f k. (λ e. none-not_some e, λ e. none-not_some (sym (bare_trees f) ∙ e));
   differ = bare;
 }))
@@ -246,11 +248,11 @@ known_apart (k ∷ ks) h same = (λ m. none (in-map_from (λ (x : Known). x.numb
     none : (x : Known) × IsIn x ks × (k.number ≡ x.number) → ⊥
     none found = h.0 (subst (λ j. IsIn j (map (λ y. y.component) ks)) (sym (same k found.0 (inl refl) (inr found.1) found.2)) (in-map (λ (y : Known). y.component) found.0 ks found.1))
 
-known_differ : (ts : List Numbered) (fs : List Fact) → AreNumbers ts fs → (q : Path) → AreApart (numbers_at ts q)
+known_differ : (ts : List Numbered) (fs : List Fact) → AreTreesOf ts fs → (q : Path) → HasApartComponents (numbers_at ts q)
 known_differ ts fs are q = once-differ (map (λ k. k.component) (numbers_at ts q).known) (are.differ q)
 
 -- each number is that of a fact at its path
-with_number_at : (ts : List Numbered) (fs : List Fact) → AreNumbers ts fs → (q : Path) (n : ℕ) → IsIn n (all_numbers (numbers_at ts q)) → (f : Fact) × (number_in ts f ≡ Some n) × (path_of f ≡ q)
+with_number_at : (ts : List Numbered) (fs : List Fact) → AreTreesOf ts fs → (q : Path) (n : ℕ) → IsIn n (all_numbers (numbers_at ts q)) → (f : Fact) × (number_in ts f ≡ Some n) × (path_of f ≡ q)
 with_number_at ts fs are q n m = by (in-append_cases n (here_list (numbers_at ts q).here) (known_numbers (numbers_at ts q).known) m)
   where
     of_known : (k : Known) × IsIn k (numbers_at ts q).known × (n ≡ k.number) → (f : Fact) × (number_in ts f ≡ Some n) × (path_of f ≡ q)
@@ -260,10 +262,10 @@ with_number_at ts fs are q n m = by (in-append_cases n (here_list (numbers_at ts
     by (inl a) = (init q, here_in (numbers_at ts q).here n a, refl)
     by (inr b) = of_known (in-map_from (λ (k : Known). k.number) n (numbers_at ts q).known b)
 
-one_fact : (ts : List Numbered) (fs : List Fact) → AreNumbers ts fs → (f g : Fact) (n : ℕ) → number_in ts f ≡ Some n → number_in ts g ≡ Some n → f ≡ g
+one_fact : (ts : List Numbered) (fs : List Fact) → AreTreesOf ts fs → (f g : Fact) (n : ℕ) → number_in ts f ≡ Some n → number_in ts g ≡ Some n → f ≡ g
 one_fact ts fs are f g n a b = some-injective (sym ((are.listed f n).1 a) ∙ (are.listed g n).1 b)
 
-numbers_once : (ts : List Numbered) (fs : List Fact) → AreNumbers ts fs → TreesOnce ts
+numbers_once : (ts : List Numbered) (fs : List Fact) → AreTreesOf ts fs → TreesOnce ts
 numbers_once ts fs are = record { apart = λ q r n a b. apart n q r (with_number_at ts fs are q n a) (with_number_at ts fs are r n b); once = once }
   where
     apart : (n : ℕ) (q r : Path) → (f : Fact) × (number_in ts f ≡ Some n) × (path_of f ≡ q) → (f : Fact) × (number_in ts f ≡ Some n) × (path_of f ≡ r) → q ≡ r
@@ -283,7 +285,7 @@ numbers_once ts fs are = record { apart = λ q r n a b. apart n q r (with_number
         (λ n a b. no_both q n a (in-map_from (λ (k : Known). k.number) n (numbers_at ts q).known b))
 
 -- The numbers at a path and below are those of the facts there.
-pub facts_below : (ts : List Numbered) (fs : List Fact) (p : Path) (xs ys : List ℕ) → AreNumbers ts fs → Appends (TreesOnce ts) (Below ts p) xs ys
+pub facts_below : (ts : List Numbered) (fs : List Fact) (p : Path) (xs ys : List ℕ) → AreTreesOf ts fs → Appends (TreesOnce ts) (Below ts p) xs ys
     → Appends ⊤ (λ n. (f : Fact) × (number_in ts f ≡ Some n) × (is_at_or_below p (path_of f) ≡ true)) xs ys
 facts_below ts fs p xs ys are h = appends_same (TreesOnce ts) ⊤ (Below ts p) _ xs ys (λ u. numbers_once ts fs are) (λ n m. there n m.0 m.1 (with_number_at ts fs are m.0 n m.2)) (λ n m. back n m.0 m.1 m.2) h
   where
@@ -293,3 +295,7 @@ facts_below ts fs p xs ys are h = appends_same (TreesOnce ts) ⊤ (Below ts p) _
     back : (n : ℕ) (f : Fact) → number_in ts f ≡ Some n → is_at_or_below p (path_of f) ≡ true → Below ts p n
     back n (init q) e low = (q, low, in-append_left n (here_list (numbers_at ts q).here) (known_numbers (numbers_at ts q).known) (in_here (numbers_at ts q).here n e))
     back n (case q c) e low = (q, low, in-append_right n (here_list (numbers_at ts q).here) (known_numbers (numbers_at ts q).known) (among-in c n (numbers_at ts q).known e))
+
+-- no two facts that stand at their numbers have the same one
+pub facts-apart : (s : FactNumbers) (fs : List Fact) → AreFacts s fs → AreApart s
+facts-apart s fs are f g n a b = let same : Some f ≡ Some g = sym ((are f n).1 a) ∙ (are g n).1 b in some-injective same

@@ -8,10 +8,6 @@ use Rattle.herm_facts.specs.declared.fact_set.FactSet.{FactSet}
 use Rattle.herm_facts.specs.FactSets.{has}
 use Rattle.herm_facts.specs.NumberSets.{has_at}
 
-pub not-true : (b : Bool) → (b ≡ true → ⊥) → b ≡ false
-not-true true h = absurd (h refl)
-not-true false h = refl
-
 -- ---- words at places
 
 pub past : (ws : List FactSet) (i j : ℕ) → length ws ≤ i → has_at ws i j ≡ false
@@ -64,9 +60,6 @@ bit-of i j h = omega (arith, h, div-add-mod' (64 * i + j) 64, in-word (64 * i + 
 pub at-number : (ws : List FactSet) (i j : ℕ) → j < 64 → has_at ws ((64 * i + j) / 64) ((64 * i + j) % 64) ≡ has_at ws i j
 at-number ws i j h = ap₂ (λ a b. has_at ws a b) (place-of i j h) (bit-of i j h)
 
-pub past-number : (ws : List FactSet) (n : ℕ) → 64 * length ws ≤ n → has_at ws (n / 64) (n % 64) ≡ false
-past-number ws n h = past ws (n / 64) (n % 64) (omega (arith, h, div-add-mod' n 64, in-word n))
-
 -- ---- a word is set anew
 
 -- a number is that of its place and bit
@@ -105,9 +98,6 @@ nothing-there f ws k bit quiet empty h i j = by (nat_eq i k) refl
     by : (b : Bool) → nat_eq i k ≡ b → has_at ws i j ≡ f (has_at ws i j) (nat_eq i k && bit)
     by true e = let gone = past ws i j (subst (λ m. length ws ≤ m) (sym (eqb-true i k e)) h) in gone ∙ sym (ap (λ b. f b (nat_eq i k && bit)) gone ∙ empty (nat_eq i k && bit))
     by false e = sym (ap (λ b. f (has_at ws i j) (b && bit)) e ∙ quiet (has_at ws i j))
-
-pub nothing-changed : (f : Bool → Bool → Bool) (ws : List FactSet) (k : ℕ) → ((b : Bool) → f b false ≡ b) → ((b : Bool) → f false b ≡ false) → length ws ≤ k / 64 → (n : ℕ) → has_at ws (n / 64) (n % 64) ≡ f (has_at ws (n / 64) (n % 64)) (nat_eq n k)
-nothing-changed f ws k quiet empty h n = nothing-there f ws (k / 64) (nat_eq (n % 64) (k % 64)) quiet empty h (n / 64) (n % 64) ∙ ap (f (has_at ws (n / 64) (n % 64))) (same-number n k)
 
 -- ---- words that meet others
 

@@ -1,16 +1,14 @@
 -- Sets of numbers by words at places.
-use Rattle.std.proofs.Common.{◌≡◌, ℕ, zero, suc, ◌+◌, ◌*◌, ◌/◌, ◌%◌, ◌<◌, List, [], ◌∷◌, ◌++◌, length, take, Bool, true, false, cond, not, ◌&&◌, ◌||◌, nat_eq, Some, slice_get, slice_set, get_or, refl, sym, ◌∙◌, ap, ap₂, subst, arith}
+use Rattle.std.proofs.Common.{◌≡◌, ℕ, zero, suc, ◌+◌, ◌/◌, ◌%◌, ◌<◌, List, [], ◌∷◌, ◌++◌, length, take, Bool, true, false, not, ◌&&◌, ◌||◌, nat_eq, Some, slice_get, get_or, refl, sym, ◌∙◌, ap, ap₂, subst, arith}
 use Rattle.std.proofs.lemmas.Bool.{eq-eqb, eqb-true, false≢true}
 use Rattle.std.proofs.lemmas.List.{take_more}
 use Rattle.herm_model.specs.Lists.{any_pass}
 use Rattle.herm_model.proofs.Options.{some-injective}
 use Rattle.herm_typestate.proofs.FactSets.{eq_turned}
-use Rattle.herm_facts.specs.declared.fact_set.FactSet.{FactSet}
 use Rattle.herm_facts.specs.declared.sparse_set.WordAt.{WordAt}
 use Rattle.herm_facts.specs.FactSets.{has}
 use Rattle.herm_facts.specs.Numbers.{stand_once}
 use Rattle.herm_facts.specs.SparseSets.{word_has, places_of}
-use Rattle.herm_facts.proofs.NumberSets.{place-of, bit-of, same-number}
 
 -- ---- tests
 
@@ -22,17 +20,6 @@ pub or_assoc : (a b c : Bool) → (a || (b || c)) ≡ ((a || b) || c)
 or_assoc true b c = refl
 or_assoc false b c = refl
 
-or_swapped : (a b c : Bool) → (a || (b || c)) ≡ (b || (a || c))
-or_swapped true true c = refl
-or_swapped true false c = refl
-or_swapped false b c = refl
-
-pub or_turned : (a b : Bool) → (a || b) ≡ (b || a)
-or_turned true true = refl
-or_turned true false = refl
-or_turned false true = refl
-or_turned false false = refl
-
 -- one more between the two
 pub or_between : (a m b : Bool) → (m || (a || b)) ≡ ((a || m) || b)
 or_between true true b = refl
@@ -40,18 +27,10 @@ or_between true false b = refl
 or_between false true b = refl
 or_between false false b = refl
 
-and_false : (b : Bool) → (b && false) ≡ false
-and_false true = refl
-and_false false = refl
-
 pub and_taken : (a b c : Bool) → ((a && not b) && not c) ≡ (a && not (b || c))
 and_taken true true c = refl
 and_taken true false c = refl
 and_taken false b c = refl
-
-and_split : (a b c : Bool) → (a && (b || c)) ≡ ((a && b) || (a && c))
-and_split true b c = refl
-and_split false b c = refl
 
 -- neither where one of the two is not
 or_left : (a b : Bool) → (a || b) ≡ false → a ≡ false
@@ -87,13 +66,6 @@ pub joined-only : {X : Type 0} (old : Bool) (test : X → Bool) (xs ys : List X)
 joined-only true test xs ys i same e = refl
 joined-only false test xs ys i same e = subst (λ zs. any_pass test zs ≡ true) same (any-before test xs i e)
 
-pub any-item : {X : Type 0} (test : X → Bool) (xs : List X) (i : ℕ) (x : X) → i < length xs → x ≡ get_or xs i x → test x ≡ true → any_pass test xs ≡ true
-any-item test xs i x within e passes = any-before test xs (i + 1) (any-next test xs i x within e ∙ (ap (λ b. any_pass test (take i xs) || b) passes ∙ or_true (any_pass test (take i xs))))
-  where
-    or_true : (b : Bool) → (b || true) ≡ true
-    or_true true = refl
-    or_true false = refl
-
 pub own-item : {X : Type 0} (xs : List X) (i : ℕ) (d : X) → i < length xs → get_or xs i d ≡ get_or xs i (get_or xs i d)
 own-item [] i d within = absurd (omega (arith, within))
 own-item (x ∷ xs) zero d within = refl
@@ -115,39 +87,6 @@ insert-next numbers i d n new before old within e f =
     ∙ (or_between (any_pass (nat_eq n) (take i numbers)) (nat_eq n (get_or numbers i d)) old
     ∙ ap (λ b. b || old) (sym (any-next (nat_eq n) numbers i (get_or numbers i d) within (own-item numbers i d within)))))
 
--- an element is replaced by one that passes where it did, or where b is true
-pub any-set : {X : Type 0} (test : X → Bool) (xs : List X) (i : ℕ) (x y : X) (b : Bool) → i < length xs → x ≡ get_or xs i x → test y ≡ (b || test x) → any_pass test (slice_set xs i y) ≡ (b || any_pass test xs)
-any-set test [] i x y b within e f = absurd (omega (arith, within))
-any-set test (z ∷ xs) zero x y b within e f = ap (λ c. c || any_pass test xs) (f ∙ ap (λ u. b || test u) e) ∙ sym (or_assoc b (test z) (any_pass test xs))
-any-set test (z ∷ xs) (suc i) x y b within e f = ap (λ c. test z || c) (any-set test xs i x y b (omega (arith, within)) e f) ∙ or_swapped (test z) b (any_pass test xs)
-
--- ---- numbers and words
-
--- a word with one number more
-pub word-more : (n k : ℕ) (v : FactSet) (w : WordAt) → w.at ≡ k / 64 → ((j : ℕ) → has w.set j ≡ (nat_eq j (k % 64) || has v j)) → word_has n w ≡ (nat_eq n k || (nat_eq (n / 64) (k / 64) && has v (n % 64)))
-word-more n k v w at more =
-    ap₂ (λ i b. nat_eq (n / 64) i && b) at (more (n % 64))
-    ∙ (and_split (nat_eq (n / 64) (k / 64)) (nat_eq (n % 64) (k % 64)) (has v (n % 64)) ∙ ap (λ b. b || (nat_eq (n / 64) (k / 64) && has v (n % 64))) (same-number n k))
-
--- a word of one number alone
-pub word-one : (n k : ℕ) (v : FactSet) (w : WordAt) → w.at ≡ k / 64 → ((j : ℕ) → has w.set j ≡ (nat_eq j (k % 64) || has v j)) → ((j : ℕ) → has v j ≡ false) → word_has n w ≡ nat_eq n k
-word-one n k v w at more none =
-    word-more n k v w at more ∙ (ap (λ b. nat_eq n k || (nat_eq (n / 64) (k / 64) && b)) (none (n % 64)) ∙ (ap (λ b. nat_eq n k || b) (and_false (nat_eq (n / 64) (k / 64))) ∙ or_false (nat_eq n k)))
-
--- a number that the word has
-word-bit : (w : WordAt) (j : ℕ) → j < 64 → has w.set j ≡ true → word_has (64 * w.at + j) w ≡ true
-word-bit w j within e = ap₂ ◌&&◌ (eq-eqb ((64 * w.at + j) / 64) w.at (place-of w.at j within)) (ap (has w.set) (bit-of w.at j within) ∙ e)
-
-pub some-read : (ws : List WordAt) (i : ℕ) (d : WordAt) → i < length ws → (j : ℕ) × (j < 64) × (has (get_or ws i d).set j ≡ true) → (n : ℕ) × (any_pass (word_has n) ws ≡ true)
-some-read ws i d within bit =
-    let w = get_or ws i d in
-    (64 * w.at + bit.0, any-item (word_has (64 * w.at + bit.0)) ws i w within (own-item ws i d within) (word-bit w bit.0 bit.1 bit.2))
-
-pub none-read : (n : ℕ) (ws : List WordAt) (i : ℕ) (d : WordAt) → i < length ws → any_pass (word_has n) (take i ws) ≡ false → ((j : ℕ) → has (get_or ws i d).set j ≡ false) → any_pass (word_has n) (take (i + 1) ws) ≡ false
-none-read n ws i d within before none =
-    let w = get_or ws i d in
-    any-next (word_has n) ws i w within (own-item ws i d within) ∙ ap₂ ◌||◌ before (ap (λ b. nat_eq (n / 64) w.at && b) (none (n % 64)) ∙ and_false (nat_eq (n / 64) w.at))
-
 -- ---- places
 
 pub at-place : (ws : List WordAt) (i : ℕ) (w : WordAt) → i < length ws → w ≡ get_or ws i w → slice_get (places_of ws) i ≡ Some w.at
@@ -163,11 +102,6 @@ pub place-at : (ws : List WordAt) (i k : ℕ) (w : WordAt) → i < length ws →
 place-at [] i k w within e f = absurd (omega (arith, within))
 place-at (v ∷ ws) zero k w within e f = ap (λ (u : WordAt). u.at) e ∙ some-injective f
 place-at (v ∷ ws) (suc i) k w within e f = place-at ws i k w (omega (arith, within)) e f
-
-pub places-set : (ws : List WordAt) (i : ℕ) (v w : WordAt) → v ≡ get_or ws i v → w.at ≡ v.at → places_of (slice_set ws i w) ≡ places_of ws
-places-set [] i v w e f = refl
-places-set (u ∷ ws) zero v w e f = ap (λ k. k ∷ places_of ws) (f ∙ ap (λ (u : WordAt). u.at) e)
-places-set (u ∷ ws) (suc i) v w e f = ap (λ ks. u.at ∷ ks) (places-set ws i v w e f)
 
 pub places-append : (ws : List WordAt) (w : WordAt) → places_of (ws ++ w ∷ []) ≡ places_of ws ++ w.at ∷ []
 places-append [] w = refl
@@ -208,10 +142,9 @@ once-more (m ∷ ns) n once none =
     (any-append (nat_eq m) ns n ∙ ap₂ ◌||◌ (once-first m ns once) (eq_turned m n ∙ or_left (nat_eq n m) (any_pass (nat_eq n) ns) none))
     (once-more ns n (once-rest m ns once) (or_right (nat_eq n m) (any_pass (nat_eq n) ns) none))
 
--- where a word is appended or not, the places stand once
-pub pushed-once : (b : Bool) (ws vs : List WordAt) (w : WordAt) → vs ≡ cond b (ws ++ w ∷ []) ws → stand_once (places_of ws) ≡ true → any_pass (nat_eq w.at) (places_of ws) ≡ false → stand_once (places_of vs) ≡ true
-pushed-once true ws vs w e once none = ap (λ us. stand_once (places_of us)) e ∙ (ap stand_once (places-append ws w) ∙ once-more (places_of ws) w.at once none)
-pushed-once false ws vs w e once none = ap (λ us. stand_once (places_of us)) e ∙ once
+-- where a word of another place is appended, the places stand once
+pub pushed-once : (ws vs : List WordAt) (w : WordAt) → vs ≡ ws ++ w ∷ [] → stand_once (places_of ws) ≡ true → any_pass (nat_eq w.at) (places_of ws) ≡ false → stand_once (places_of vs) ≡ true
+pushed-once ws vs w e once none = ap (λ us. stand_once (places_of us)) e ∙ (ap stand_once (places-append ws w) ∙ once-more (places_of ws) w.at once none)
 
 -- no word stands at the place of the number
 pub no-word : (n : ℕ) (ws : List WordAt) → any_pass (nat_eq (n / 64)) (places_of ws) ≡ false → any_pass (word_has n) ws ≡ false

@@ -70,7 +70,7 @@ stand_once [] = true
 stand_once (n ∷ ns) = not (any_pass (nat_eq n) ns) && stand_once ns
 
 -- The trees give the facts of the list their places, and no fact else a number. No component stands twice at a path.
-pub record AreNumbers (ts : List Numbered) (fs : List Fact) : Type 0 where
+pub record AreTreesOf (ts : List Numbered) (fs : List Fact) : Type 0 where
   pub listed : (f : Fact) (n : ℕ) → (slice_get fs n ≡ Some f) ↔ (number_in ts f ≡ Some n)
   pub differ : (q : Path) → stand_once (map (λ k. k.component) (numbers_at ts q).known) ≡ true
 

@@ -1,7 +1,7 @@
 //! Facts by numbers.
 ghost use Rattle.std.specs.Prelude.{map};
 ghost use Rattle.herm_types.specs.View.{fact_view};
-ghost use Rattle.herm_facts.specs.Numbers.{AreNumbers};
+ghost use Rattle.herm_facts.specs.Numbers.{AreTreesOf};
 
 use crate::numbered::Numbered;
 use herm_types::Fact;
@@ -11,5 +11,5 @@ use herm_types::Fact;
 pub struct FactNumbers {
     pub(crate) trees: Vec<Numbered>,
     pub(crate) facts: Vec<Fact>,
-    ghost numbers: { AreNumbers trees.items (map fact_view facts.items) },
+    ghost numbers: { AreTreesOf trees.items (map fact_view facts.items) },
 }

@@ -77,15 +77,6 @@ impl FactSet {
         }
     }
 
-    /// The numbers but one.
-    #[inline(always)]
-    pub fn less(self, number: usize) -> FactSet
-        requires { number < 64 }
-        ensures { (j : ℕ) → has result j ≡ (not (nat_eq j number) && has self j) }
-    {
-        self.without(FactSet::none().with(number))
-    }
-
     #[inline(always)]
     pub fn is_empty(self) -> bool
         ensures none { result ≡ true → (j : ℕ) → has self j ≡ false }

@@ -1,11 +1,13 @@
 //! Sets of numbers.
-ghost use Rattle.std.specs.Prelude.{◌≡◌, ℕ, ◌<◌, ◌≤◌, ◌+◌, ◌*◌, ◌&&◌, ◌||◌, not, true, false, nat_eq, length, OnOk, OnErr, IfOk};
+ghost use Rattle.std.specs.Prelude.{◌≡◌, ℕ, ◌<◌, ◌≤◌, ◌&&◌, ◌||◌, not, true, false, nat_eq, length, OnOk, OnErr, IfOk};
+ghost use Rattle.herm_model.specs.Lists.{any_pass};
 ghost use Rattle.herm_facts.specs.FactSets.{has};
 ghost use Rattle.herm_facts.specs.NumberSets.{has_at, has_number};
 ghost use Rattle.herm_facts.specs.SparseSets.{word_has, has_sparse};
 
 use super::FactSet;
 use crate::sparse_set::{SparseSet, WordAt};
+use crate::sparse_words::filled_words;
 use std::alloc::{AllocError, Global};
 
 /// A set of numbers, a bit for each.
@@ -39,7 +41,7 @@ impl NumberSet {
         word_at(self.words.as_slice(), number / 64).holds(number % 64)
     }
 
-    /// Adds the number.
+    /// Adds the number. The set takes memory of a bit for each number up to the greatest: n / 8 bytes, where n is the greatest that was added, and what is left free behind them.
     pub fn insert(&mut self, number: usize) -> Result<(), AllocError>
         ensures ok { OnOk result ((n : ℕ) → has_number self.new n ≡ (nat_eq n number || has_number self.old n)) }
         ensures err { OnErr result ((n : ℕ) → has_number self.new n ≡ has_number self.old n) }
@@ -50,19 +52,27 @@ impl NumberSet {
         Ok(())
     }
 
-    /// Takes the number out.
-    pub fn remove(&mut self, number: usize)
-        ensures { (n : ℕ) → has_number self.new n ≡ (not (nat_eq n number) && has_number self.old n) }
+    /// Adds the numbers. Where memory is wanting, some of them may be in it and some not.
+    pub(crate) fn insert_all(&mut self, numbers: &[usize]) -> Result<(), AllocError>
+        ensures { OnOk result ((n : ℕ) → has_number self.new n ≡ (any_pass (nat_eq n) numbers.now || has_number self.old n)) }
     {
-        let at = number / 64;
-        if at < self.words.len() {
-            self.words[at] = self.words[at].less(number % 64);
+        for number in numbers {
+            self.insert(*number)?;
         }
+        Ok(())
+    }
+
+    /// The same numbers as a sparse set.
+    pub(crate) fn sparse(&self, alloc: Global) -> Result<SparseSet, AllocError>
+        ensures { IfOk result (λ set. (n : ℕ) → has_sparse set n ≡ has_number self.now n) }
+    {
+        let words = filled_words(alloc, self.words.as_slice())?;
+        Ok(SparseSet { words })
     }
 
     /// Keeps the numbers that the other set has too.
     #[inline(always)]
-    pub fn meet(&mut self, other: &NumberSet)
+    pub fn intersect(&mut self, other: &NumberSet)
         ensures { (n : ℕ) → has_number self.new n ≡ (has_number self.old n && has_number other.now n) }
     {
         self.words.truncate(other.words.len());
@@ -70,23 +80,23 @@ impl NumberSet {
     }
 
     /// Adds the numbers. Where memory is wanting, some of them may be in it and some not.
-    pub fn join(&mut self, more: &SparseSet) -> Result<(), AllocError>
+    pub fn union(&mut self, more: &SparseSet) -> Result<(), AllocError>
         ensures ok { OnOk result ((n : ℕ) → has_number self.new n ≡ (has_number self.old n || has_sparse more.now n)) }
         ensures kept { OnErr result ((n : ℕ) → has_number self.old n ≡ true → has_number self.new n ≡ true) }
         ensures only { OnErr result ((n : ℕ) → has_number self.new n ≡ true → (has_number self.old n || has_sparse more.now n) ≡ true) }
     {
         for word in more.words.as_slice() {
-            self.join_word(word)?;
+            self.union_word(word)?;
         }
         Ok(())
     }
 
     /// Takes the numbers out.
-    pub fn take(&mut self, less: &SparseSet)
+    pub fn subtract(&mut self, less: &SparseSet)
         ensures { (n : ℕ) → has_number self.new n ≡ (has_number self.old n && not (has_sparse less.now n)) }
     {
         for word in less.words.as_slice() {
-            self.take_word(word);
+            self.subtract_word(word);
         }
     }
 
@@ -99,32 +109,9 @@ impl NumberSet {
         excess(self.words.as_slice(), other.words.as_slice()).is_empty()
     }
 
-    pub fn is_empty(&self) -> bool
-        ensures none { result ≡ true → (n : ℕ) → has_number self.now n ≡ false }
-        ensures some { result ≡ false → (n : ℕ) × (has_number self.now n ≡ true) }
-    {
-        excess(self.words.as_slice(), &[]).is_empty()
-    }
-
-    /// How many words there are: no number is 64 times that or more.
-    #[inline(always)]
-    pub fn words(&self) -> usize
-        ensures { (n : ℕ) → 64 * result ≤ n → has_number self.now n ≡ false }
-    {
-        self.words.len()
-    }
-
-    /// The 64 numbers from 64 times the place on.
-    #[inline(always)]
-    pub fn word(&self, at: usize) -> FactSet
-        ensures { (j : ℕ) → j < 64 → has result j ≡ has_number self.now (64 * at + j) }
-    {
-        word_at(self.words.as_slice(), at)
-    }
-
     /// Adds the numbers of the word.
     #[inline(always)]
-    fn join_word(&mut self, word: &WordAt) -> Result<(), AllocError>
+    fn union_word(&mut self, word: &WordAt) -> Result<(), AllocError>
         ensures ok { OnOk result ((n : ℕ) → has_number self.new n ≡ (has_number self.old n || word_has n word.now)) }
         ensures err { OnErr result ((n : ℕ) → has_number self.new n ≡ has_number self.old n) }
     {
@@ -136,7 +123,7 @@ impl NumberSet {
 
     /// Takes the numbers of the word out.
     #[inline(always)]
-    fn take_word(&mut self, word: &WordAt)
+    fn subtract_word(&mut self, word: &WordAt)
         ensures { (n : ℕ) → has_number self.new n ≡ (has_number self.old n && not (word_has n word.now)) }
     {
         let at = word.at;

@@ -1,11 +1,11 @@
 //! Giving facts numbers, and finding them.
-ghost use Rattle.std.specs.Prelude.{◌≡◌, ◌↔◌, ◌⊎◌, ◌++◌, ◌∷◌, [], ℕ, true, false, Some, None, ⊤, slice_get, map, length, IfOk, OnOk, OnErr};
+ghost use Rattle.std.specs.Prelude.{◌≡◌, ◌↔◌, ◌⊎◌, ◌++◌, ◌∷◌, [], ℕ, true, false, Some, None, ⊤, map, length, IfOk, OnOk, OnErr};
 ghost use Rattle.herm_model.specs.Lists.{IsIn};
 ghost use Rattle.herm_model.specs.Paths.{path_of, same_fact, is_at_or_below};
 ghost use Rattle.herm_model.specs.Paths as model;
 ghost use Rattle.herm_types.specs.View.{path_view, fact_view};
 ghost use Rattle.herm_facts.specs.Numbers.{component_of, numbers_at, given, Appends};
-ghost use Rattle.herm_facts.specs.FactNumbers.{number_of};
+ghost use Rattle.herm_facts.specs.FactNumbers.{number_of, AreFacts};
 
 use crate::fact_numbers::FactNumbers;
 use crate::numbered;
@@ -126,11 +126,13 @@ impl FactNumbers {
         found
     }
 
-    /// Gives the fact the next number, where it has none. At an error each fact has the number that it had.
+    /// Gives the fact the next number, where it has none. It takes memory for a copy of the fact, and for a tree of about 64 bytes at each place up to the number of the variable and, from step to step
+    /// of the path, up to the number of the part: a fact of variable n makes room for n + 1 trees. At an error each fact has the number, or none, that it had.
     pub fn add(&mut self, alloc: Global, fact: &Fact) -> Result<usize, AllocError>
         ensures number { IfOk result (λ n. number_of self.new (fact_view fact.now) ≡ Some n) }
         ensures others { OnOk result ((f : model.Fact) → same_fact f (fact_view fact.now) ≡ false → number_of self.new f ≡ number_of self.old f) }
         ensures kept { (f : model.Fact) (n : ℕ) → number_of self.old f ≡ Some n → number_of self.new f ≡ Some n }
+        ensures err { OnErr result ((f : model.Fact) → number_of self.new f ≡ number_of self.old f) }
     {
         if let Some(number) = self.number_of(fact) {
             return Ok(number);
@@ -148,20 +150,20 @@ impl FactNumbers {
 
     /// The facts in the order of their numbers.
     pub fn facts(&self) -> &[Fact]
-        ensures { (f : model.Fact) (n : ℕ) → (slice_get (map fact_view result.now) n ≡ Some f) ↔ (number_of self.now f ≡ Some n) }
+        ensures { AreFacts self.now (map fact_view result.now) }
     {
         self.facts.as_slice()
     }
 
     /// The facts in the order of their numbers.
     pub fn into_facts(self) -> Vec<Fact>
-        ensures { (f : model.Fact) (n : ℕ) → (slice_get (map fact_view result.items) n ≡ Some f) ↔ (number_of self f ≡ Some n) }
+        ensures { AreFacts self (map fact_view result.items) }
     {
         self.facts
     }
 
     /// Appends the numbers of the facts at the path and below, each once.
-    pub fn below(&self, path: &Path, out: &mut Vec<usize>) -> Result<(), AllocError>
+    pub(crate) fn below(&self, path: &Path, out: &mut Vec<usize>) -> Result<(), AllocError>
         ensures kept { OnOk result ((n : ℕ) → IsIn n out.old.items → IsIn n out.new.items) }
         ensures below { OnOk result ((n : ℕ) → IsIn n out.new.items ↔ (IsIn n out.old.items ⊎ ((f : model.Fact) × (number_of self.now f ≡ Some n) × (is_at_or_below (path_view path.now) (path_of f) ≡ true)))) }
         ensures once { OnOk result (Appends ⊤ (λ n. (f : model.Fact) × (number_of self.now f ≡ Some n) × (is_at_or_below (path_view path.now) (path_of f) ≡ true)) out.old.items out.new.items) }

@@ -1,5 +1,5 @@
 //! Rows by hand. A set is its numbers with a space between two.
-use super::NumberSet;
+use super::{NumberSet, SparseSet};
 use std::alloc::{AllocError, Global};
 use std::test::Fail;
 
@@ -18,6 +18,12 @@ fn set_of(alloc: Global, text: &str) -> Result<NumberSet, AllocError> {
         set.insert(number_of(word))?;
     }
     Ok(set)
+}
+
+fn sparse_of(alloc: Global, text: &str) -> Result<SparseSet, AllocError> {
+    let set = set_of(alloc, text)?;
+    let sparse = set.sparse(alloc)?;
+    Ok(sparse)
 }
 
 /// The numbers below 300 that the set holds.
@@ -47,15 +53,14 @@ const PAIRS: [(&str, &str, &str, bool); 8] = [
 ];
 
 #[test]
-fn pairs_meet(rt: HostRuntime) -> Result<(), Fail> {
+fn pairs_intersect(rt: HostRuntime) -> Result<(), Fail> {
     let alloc = rt.alloc();
     for (one, other, both, _) in PAIRS {
         let others = set_of(alloc, other)?;
-        let mut met = set_of(alloc, one)?;
-        met.meet(&others);
-        let said = text_of(alloc, &met)?;
+        let mut common = set_of(alloc, one)?;
+        common.intersect(&others);
+        let said = text_of(alloc, &common)?;
         assert_eq!(rt; said.as_str(), both, "{one} and {other}");
-        assert_eq!(rt; met.is_empty(), both.is_empty(), "{one} with {other}");
     }
     Ok(())
 }
@@ -82,33 +87,47 @@ fn copies_are_the_same(rt: HostRuntime) -> Result<(), Fail> {
     Ok(())
 }
 
-/// A set, a number that is taken out, and what is left.
-const REMOVED: [(&str, usize, &str); 5] = [
-    ("", 5, ""),
-    ("5", 5, ""),
-    ("5 69", 5, "69"),
-    ("5 69", 69, "5"),
-    ("5 69", 299, "5 69"),
+/// Two sets, the numbers of one of them, and those of the first alone.
+const SPARSE: [(&str, &str, &str, &str); 5] = [
+    ("", "", "", ""),
+    ("", "7 200", "7 200", ""),
+    ("7 200", "", "7 200", "7 200"),
+    ("0 63 64", "64 1 128 65", "0 1 63 64 65 128", "0 63"),
+    ("5 69 133", "133 5 69", "5 69 133", ""),
 ];
 
 #[test]
-fn numbers_are_taken_out(rt: HostRuntime) -> Result<(), Fail> {
+fn sparse_sets_are_added(rt: HostRuntime) -> Result<(), Fail> {
     let alloc = rt.alloc();
-    for (text, number, want) in REMOVED {
-        let mut set = set_of(alloc, text)?;
-        set.remove(number);
+    for (one, other, either, _) in SPARSE {
+        let more = sparse_of(alloc, other)?;
+        let mut set = set_of(alloc, one)?;
+        set.union(&more)?;
         let said = text_of(alloc, &set)?;
-        assert_eq!(rt; said.as_str(), want, "{text}");
+        assert_eq!(rt; said.as_str(), either, "{one} and {other}");
+    }
+    Ok(())
+}
+
+#[test]
+fn sparse_sets_are_taken_out(rt: HostRuntime) -> Result<(), Fail> {
+    let alloc = rt.alloc();
+    for (one, other, _, rest) in SPARSE {
+        let less = sparse_of(alloc, other)?;
+        let mut set = set_of(alloc, one)?;
+        set.subtract(&less);
+        let said = text_of(alloc, &set)?;
+        assert_eq!(rt; said.as_str(), rest, "{one} less {other}");
     }
     Ok(())
 }
 
 #[test]
 fn words_have_64_numbers(rt: HostRuntime) -> Result<(), Fail> {
-    let set = set_of(rt.alloc(), "2 66 131")?;
-    assert_eq!(rt; set.words(), 3);
+    let set = sparse_of(rt.alloc(), "130 2 131")?;
     assert!(rt; set.word(0).holds(2));
-    assert!(rt; set.word(1).less(2).is_empty());
+    assert!(rt; set.word(1).is_empty());
+    assert!(rt; set.word(2).holds(2));
     assert!(rt; set.word(2).holds(3));
     assert!(rt; set.word(3).is_empty());
     Ok(())

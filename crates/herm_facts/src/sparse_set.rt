@@ -11,7 +11,7 @@ pub struct WordAt {
     pub set: FactSet,
 }
 
-/// A set of numbers of which few words are not empty. Each place has one word at most, and the places stand in any order.
+/// A set of numbers of which few words are not empty. Each place has one word at most.
 #[derive(Drop)]
 pub struct SparseSet {
     pub(crate) words: Vec<WordAt>,

@@ -5,7 +5,8 @@ use Rattle.herm_model.specs.Paths.{same_fact}
 use Rattle.herm_types.specs.View.{fact_view}
 use Rattle.herm_typestate.specs.Facts.{has_fact}
 use Rattle.herm_facts.specs.NumberSets.{has_number}
-use Rattle.herm_check.proofs.InSets.{below-bound, all-bound, listed-apart}
+use Rattle.herm_facts.proofs.Listed.{facts-apart}
+use Rattle.herm_check.proofs.InSets.{below-bound, all-bound}
 use Rattle.herm_check.proofs.Making.{at-seen}
 use Rattle.herm_check.proofs.label_states.state_of.Goals as goal
 
@@ -17,7 +18,7 @@ loop-number-preserved c f =
     let n = c.loop-number.number in
     let g = c.index-facts-number.result in
     let at = (c.facts-facts.ensures (fact_view g) n).0 (at-seen fact_view facts n g c.loop-number-test.true c.index-facts-number.is) in
-    below-bound ns (listed-apart ns (map fact_view facts) c.facts-facts.ensures) set f (fact_view g) n at (has_fact c.make_held.new.state f)
+    below-bound ns (facts-apart ns (map fact_view facts) c.facts-facts.ensures) set f (fact_view g) n at (has_fact c.make_held.new.state f)
     (c.in_ok-make_held.ensures f ∙ ap (λ b. (has_number set n && same_fact f (fact_view g)) || b) (c.loop-number.invariant f))
 
 pub returns : goal.returns

@@ -8,24 +8,16 @@ use Rattle.herm_model.proofs.Lists.{length-map}
 use Rattle.herm_typestate.specs.declared.state.State.{State}
 use Rattle.herm_typestate.specs.Facts.{has_fact}
 use Rattle.herm_flow.specs.OnwardView.{onward_point_view, onward_flow_view}
-use Rattle.std.specs.declared.vec.Vec.{Vec}
-use Rattle.std.specs.declared.alloc.Global.{Global}
-use Rattle.herm_facts.specs.declared.fact_numbers.FactNumbers.{FactNumbers}
-use Rattle.herm_check.specs.declared.search.Search.{Search}
-use Rattle.herm_check.specs.declared.missing.Lost.{Lost}
-use Rattle.herm_check.specs.Missing.{AreMissing, missing_of}
+use Rattle.herm_check.specs.Missing.{AreNoted, AreMissing, missing_of}
 use Rattle.herm_check.proofs.Places.{point-at}
 use Rattle.herm_check.proofs.Reported.{demands-more, none-missing}
 use Rattle.herm_check.proofs.missing.lacking.Goals as goal
 
-abbrev lost_of : FactNumbers → Vec Search Global → Lost
-lost_of numbers searches = record { numbers = numbers; searches = searches }
-
 pub loop-i-init : goal.loop-i-init
 loop-i-init c = record {
-  noted = c.in_ok-numbers.ensures.noted;
-  searched = c.in_ok-searches.ensures;
-  missing = λ facts are. none-missing (onward_flow_view c.args.flow.now) (missing_of (lost_of c.in_ok-numbers.numbers c.in_ok-searches.searches) facts c.new-facts.result) c.new-facts.ensures.items;
+  noted = subst (λ ns. AreNoted (onward_flow_view c.args.flow.now) c.args.labels.now ns) (sym c.in_ok-lost.ensures.numbers) c.in_ok-numbers.ensures.noted;
+  searched = c.in_ok-lost.ensures.searched;
+  missing = λ facts are. none-missing (onward_flow_view c.args.flow.now) (missing_of c.in_ok-lost.lost facts c.new-facts.result) c.new-facts.ensures.items;
 }
 
 -- the facts that the label of the point at a place lacks have numbers
@@ -69,7 +61,7 @@ loop-i-preserved c =
       noted = c.loop-i.invariant.noted;
       searched = c.loop-i.invariant.searched;
       missing = λ facts are.
-          subst (λ ds. AreMissing (onward_flow_view c.args.flow.now) ds (missing_of (lost_of c.in_ok-numbers.numbers c.in_ok-searches.searches) facts c.push_point.new.out))
+          subst (λ ds. AreMissing (onward_flow_view c.args.flow.now) ds (missing_of c.in_ok-lost.lost facts c.push_point.new.out))
           (ap (λ n. flat_map demands_at (numbered 0 so_far) ++ demands_at (n, onward_point_view point)) place ∙ (sym (demands-more 0 so_far (onward_point_view point)) ∙ ap (λ ps. flat_map demands_at (numbered 0 ps)) (sym next)))
           (c.in_ok-push_point.ensures (flat_map demands_at (numbered 0 so_far)) facts are (c.loop-i.invariant.missing facts are));
     }
@@ -79,4 +71,4 @@ returns c =
     let points = c.args.flow.now.points.items in
     let many : length c.as_slice-point-items.result.now ≡ length points = ap length c.as_slice-point-items.ensures.value in
     let facts = c.into_facts.result in
-    subst (λ ps. AreMissing (onward_flow_view c.args.flow.now) (flat_map demands_at (numbered 0 (map onward_point_view ps))) (missing_of (lost_of c.in_ok-numbers.numbers c.in_ok-searches.searches) facts c.loop-i.facts)) (take_all c.loop-i.i points (omega (arith, c.loop-i-test.false, many))) (c.loop-i.invariant.missing facts (λ f n. c.into_facts.ensures f n))
+    subst (λ ps. AreMissing (onward_flow_view c.args.flow.now) (flat_map demands_at (numbered 0 (map onward_point_view ps))) (missing_of c.in_ok-lost.lost facts c.loop-i.facts)) (take_all c.loop-i.i points (omega (arith, c.loop-i-test.false, many))) (c.loop-i.invariant.missing facts (λ f n. c.into_facts.ensures f n))

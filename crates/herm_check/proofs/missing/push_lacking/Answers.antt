@@ -10,7 +10,8 @@ use Rattle.herm_check.specs.declared.search.Search.{Search}
 use Rattle.herm_check.specs.declared.missing.MissingAt.{MissingAt}
 use Rattle.herm_check.specs.Trails.{trail}
 use Rattle.herm_check.specs.Shortest.{IsShortest}
-use Rattle.herm_check.specs.Searched.{IsSearched, AreSearched, IsNearest}
+use Rattle.herm_check.specs.Searched.{IsSearched, IsNearest}
+use Rattle.herm_check.specs.Alike.{AreSearchedBy}
 use Rattle.herm_check.specs.Missing.{missing_of, demand}
 use Rattle.herm_check.proofs.Places.{first-node}
 use Rattle.herm_check.proofs.Searched.{one-at}
@@ -31,33 +32,47 @@ unreachable-requires c =
     let noted = c.requires.noted (sym c.holds.ensures ∙ c.if-holds.false) in
     none-some noted.0 (sym c.in_default.is ∙ (c.number_of.ensures ∙ noted.1))
 
+-- the number of the one that stands for the fact is looked up
+by-at : (by : List ℕ) (n k l : ℕ) → slice_get by n ≡ Some k → l ≡ get_or by n l → l ≡ k
+by-at by n k l at is = one-at (slice_get by n) l k (slice_get_read by (length by) n l refl (slice_get_within by n k at) is) at
+
+pub index-by-requires : goal.index-by-requires
+index-by-requires c =
+    let f = fact_view c.args.fact.now in
+    let n = c.in-Some.number in
+    let h = c.requires.searched f n (sym c.number_of.ensures ∙ c.in-Some.is) in
+    let within = slice_get_within c.args.lost.now.by.items n h.0 h.1 in
+    omega (arith, within, c.args.lost.now.by.ok)
+
 pub index-requires : goal.index-requires
 index-requires c =
     let f = fact_view c.args.fact.now in
     let n = c.in-Some.number in
-    let s = c.requires.searched f n (sym c.number_of.ensures ∙ c.in-Some.is) in
-    let within = slice_get_within c.args.lost.now.searches.items (n / 64) s.0 s.1 in
-    omega (arith, within, c.args.lost.now.searches.ok)
+    let h = c.requires.searched f n (sym c.number_of.ensures ∙ c.in-Some.is) in
+    let same = by-at c.args.lost.now.by.items n h.0 c.index-by.result.now h.1 c.index-by.ensures in
+    let within = slice_get_within c.args.lost.now.searches.items (h.0 / 64) h.2 h.3 in
+    omega (arith, within, same, c.args.lost.now.searches.ok)
 
 -- the search that is looked up is that of the fact
-searched-at : (flow : Flow) (numbers : FactNumbers) (ss : List Search) (f : Fact) (n : ℕ) (s : Search) → AreSearched flow numbers ss → number_of numbers f ≡ Some n → s ≡ get_or ss (n / 64) s → (slice_get ss (n / 64) ≡ Some s) × IsSearched flow f (n % 64) s
-searched-at flow numbers ss f n s are number is =
+searched-at : (flow : Flow) (numbers : FactNumbers) (by : List ℕ) (ss : List Search) (f : Fact) (n k : ℕ) (s : Search) → AreSearchedBy flow numbers by ss → number_of numbers f ≡ Some n → k ≡ get_or by n k → s ≡ get_or ss (k / 64) s → (slice_get ss (k / 64) ≡ Some s) × IsSearched flow f (k % 64) s
+searched-at flow numbers by ss f n k s are number found is =
     let h = are f n number in
-    let read = slice_get_read ss (length ss) (n / 64) s refl (slice_get_within ss (n / 64) h.0 h.1) is in
-    let same : h.0 ≡ s = one-at (slice_get ss (n / 64)) h.0 s h.1 read in
-    (read, subst (λ x. IsSearched flow f (n % 64) x) same h.2)
+    let same : h.0 ≡ k = sym (by-at by n h.0 k h.1 found) in
+    let at : slice_get ss (k / 64) ≡ Some h.2 = subst (λ m. slice_get ss (m / 64) ≡ Some h.2) same h.3 in
+    let read = slice_get_read ss (length ss) (k / 64) s refl (slice_get_within ss (k / 64) h.2 at) is in
+    (read, subst (λ x. IsSearched flow f (k % 64) x) (one-at (slice_get ss (k / 64)) h.2 s at read) (subst (λ m. IsSearched flow f (m % 64) h.2) same h.4))
 
 pub lost_place-requires-clause-visits : goal.lost_place-requires-clause-visits
 lost_place-requires-clause-visits c =
-    (searched-at (onward_flow_view c.args.flow.now) c.args.lost.now.numbers c.args.lost.now.searches.items (fact_view c.args.fact.now) c.in-Some.number c.index.result.now c.requires.searched (sym c.number_of.ensures ∙ c.in-Some.is) c.index.ensures).1.visits
+    (searched-at (onward_flow_view c.args.flow.now) c.args.lost.now.numbers c.args.lost.now.by.items c.args.lost.now.searches.items (fact_view c.args.fact.now) c.in-Some.number c.index-by.result.now c.index.result.now c.requires.searched (sym c.number_of.ensures ∙ c.in-Some.is) c.index-by.ensures c.index.ensures).1.visits
 
 pub unreachable-requires-in_default-lost_place : goal.unreachable-requires-in_default-lost_place
 unreachable-requires-in_default-lost_place c =
     let flow = onward_flow_view c.args.flow.now in
     let f = fact_view c.args.fact.now in
-    let n = c.in-Some.number in
-    let at = searched-at flow c.args.lost.now.numbers c.args.lost.now.searches.items f n c.index.result.now c.requires.searched (sym c.number_of.ensures ∙ c.in-Some.is) c.index.ensures in
-    let holds : Holds flow f c.args.at = subst (λ o. IfNone o ((g : Fact) → IsSearched flow g (n % 64) c.index.result.now → Holds flow g c.args.at)) c.in_default-lost_place.is c.lost_place.ensures.none f at.1 in
+    let k = c.index-by.result.now in
+    let at = searched-at flow c.args.lost.now.numbers c.args.lost.now.by.items c.args.lost.now.searches.items f c.in-Some.number k c.index.result.now c.requires.searched (sym c.number_of.ensures ∙ c.in-Some.is) c.index-by.ensures c.index.ensures in
+    let holds : Holds flow f c.args.at = subst (λ o. IfNone o ((g : Fact) → IsSearched flow g (k % 64) c.index.result.now → Holds flow g c.args.at)) c.in_default-lost_place.is c.lost_place.ensures.none f at.1 in
     true≢false (sym ((c.requires.exact f).1 holds) ∙ (sym c.holds.ensures ∙ c.if-holds.false))
 
 pub returns : goal.returns
@@ -67,12 +82,13 @@ returns c ds facts are h =
     let lost = c.args.lost.now in
     let i = c.args.at in
     let n = c.in-Some.number in
+    let l = c.index-by.result.now in
     let s = c.index.result.now in
     let k = c.in-Some-lost_place.place in
     let number : number_of lost.numbers f ≡ Some n = sym c.number_of.ensures ∙ c.in-Some.is in
-    let at = searched-at flow lost.numbers lost.searches.items f n s c.requires.searched number c.index.ensures in
-    let near : IsNearest flow f (n % 64) i s.visits.items k = subst (λ o. IfSome o (λ place. (g : Fact) → IsSearched flow g (n % 64) s → IsNearest flow g (n % 64) i s.visits.items place)) c.in-Some-lost_place.is c.lost_place.ensures.some f at.1 in
+    let at = searched-at flow lost.numbers lost.by.items lost.searches.items f n l s c.requires.searched number c.index-by.ensures c.index.ensures in
+    let near : IsNearest flow f (l % 64) i s.visits.items k = subst (λ o. IfSome o (λ place. (g : Fact) → IsSearched flow g (l % 64) s → IsNearest flow g (l % 64) i s.visits.items place)) c.in-Some-lost_place.is c.lost_place.ensures.some f at.1 in
     let entry = first-node (length c.args.flow.now.points.items) (omega (arith, c.requires.within)) in
-    let short : IsShortest flow f i (trail s.visits.items k) = nearest-trail flow c.requires.differ entry f (n % 64) s at.1 i k near in
-    let m : MissingAt = record { stmt = c.args.stmt; fact = n; search = n / 64; place = k } in
+    let short : IsShortest flow f i (trail s.visits.items k) = nearest-trail flow c.requires.differ entry f (l % 64) s at.1 i k near in
+    let m : MissingAt = record { stmt = c.args.stmt; fact = n; search = l / 64; place = k } in
     missing-more flow (demand i c.args.stmt.0 f) ds (missing_of lost facts c.args.out.now) h (missing_of lost facts c.push.new.self) m s refl refl c.in_ok-push.ensures.items ((are f n).1 number) at.0 refl short

@@ -6,7 +6,7 @@ use Rattle.herm_flow.specs.declared.onward.OnwardPoint.{OnwardPoint}
 use Rattle.herm_check.specs.Numberings.{HaveNumbers}
 use Rattle.herm_check.specs.Labelled.{facts_of}
 use Rattle.herm_check.proofs.FactsNumbered.{rows-more}
-use Rattle.herm_check.proofs.InSets.{listed-apart}
+use Rattle.herm_facts.proofs.Listed.{facts-apart}
 use Rattle.herm_check.proofs.numbering.numbers_in.Goals as goal
 
 pub loop-point-preserved : goal.loop-point-preserved
@@ -23,4 +23,4 @@ pub returns-clause-numbers : goal.returns-clause-numbers
 returns-clause-numbers c = subst (λ points. HaveNumbers (init (0 ∷ []) ∷ flat_map (λ (p : OnwardPoint). flat_map facts_of p.made.items) points) c.loop-point.numbers) (take_all c.loop-point.point-index c.deref-point-items.result.now c.loop-point-test.false ∙ c.deref-point-items.ensures.value) c.loop-point.invariant
 
 pub returns-clause-apart : goal.returns-clause-apart
-returns-clause-apart c = listed-apart c.loop-point.numbers (map fact_view c.facts-facts.result.now) c.facts-facts.ensures
+returns-clause-apart c = facts-apart c.loop-point.numbers (map fact_view c.facts-facts.result.now) c.facts-facts.ensures

@@ -1,8 +1,9 @@
-use Rattle.std.proofs.Common.{◌≡◌, map, length, sym, ◌∙◌, subst, arith}
+use Rattle.std.proofs.Common.{◌≡◌, map, length, sym, ◌∙◌, refl, subst, arith}
 use Rattle.herm_model.proofs.Lists.{length-map}
+use Rattle.herm_typestate.proofs.Marks.{on_err}
 use Rattle.herm_types.specs.View.{fact_view}
 use Rattle.herm_facts.specs.FactNumbers.{number_of}
-use Rattle.herm_facts.specs.Numbers.{AreNumbers}
+use Rattle.herm_facts.specs.Numbers.{AreTreesOf}
 use Rattle.herm_facts.proofs.Listed.{Gives, one_more, number-own, number-other, number-kept, number-same}
 use Rattle.herm_facts.proofs.fact_numbers.FactNumbers.add.Goals as goal
 
@@ -11,7 +12,7 @@ unfolding number_of
 invariant_of-self-in-Ok c =
     let many : c.len-number.result ≡ length (map fact_view c.args.self.now.facts.items) = omega (arith, c.len-number.ensures, c.args.self.now.facts.ok, length-map fact_view c.args.self.now.facts.items) in
     record {
-      numbers = subst (AreNumbers c.give.new.trees.items) (sym c.in_ok-push_copy.ensures.ok)
+      numbers = subst (AreTreesOf c.give.new.trees.items) (sym c.in_ok-push_copy.ensures.ok)
           (one_more c.args.self.now.trees.items c.give.new.trees.items (map fact_view c.args.self.now.facts.items) (fact_view c.args.fact.now) c.args.self.now.numbers (sym c.number_of.ensures ∙ c.in_default.is)
           (subst (Gives c.args.self.now.trees.items c.give.new.trees.items (fact_view c.args.fact.now)) many c.in-Ok.ensures.ok));
     }
@@ -35,3 +36,11 @@ returns-in-Ok-clause-kept c f n e = number-kept c.args.self.now.trees.items c.gi
 pub returns-in-Err-clause-kept : goal.returns-in-Err-clause-kept
 unfolding number_of
 returns-in-Err-clause-kept c f n e = number-same c.args.self.now.trees.items c.give.new.trees.items c.in-Err.ensures.err f ∙ e
+
+pub returns-in_err-push_copy-clause-err : goal.returns-in_err-push_copy-clause-err
+unfolding number_of
+returns-in_err-push_copy-clause-err c = on_err c.from_residual.result (λ f. refl)
+
+pub returns-in-Err-clause-err : goal.returns-in-Err-clause-err
+unfolding number_of
+returns-in-Err-clause-err c f = number-same c.args.self.now.trees.items c.give.new.trees.items c.in-Err.ensures.err f

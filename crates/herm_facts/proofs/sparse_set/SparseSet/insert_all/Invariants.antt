@@ -1,7 +1,0 @@
-use Rattle.std.proofs.Common.{◌≡◌, ◌||◌, ℕ, nat_eq, take}
-use Rattle.herm_model.specs.Lists.{any_pass}
-use Rattle.herm_facts.specs.SparseSets.{has_sparse}
-use Rattle.herm_facts.proofs.sparse_set.SparseSet.insert_all.Given as goal
-
-abbrev pub invariant-loop-number : goal.invariant-loop-number
-invariant-loop-number l = (n : ℕ) → has_sparse l.self n ≡ (any_pass (nat_eq n) (take l.number-index l.numbers) || has_sparse l.initial.self n)
